@@ -1,0 +1,4 @@
+pub mod Steps
+pub mod Duals
+pub mod Depth
+pub mod SameRun

@@ -1,0 +1,4 @@
+pub mod Run
+pub mod Operators
+pub mod Truth
+pub mod Parts

@@ -1,0 +1,94 @@
+// Little-endian numbers in byte slices: unsigned of 16 and 32 bits and signed of 32 bits, read and written.
+ghost use mathlib.Core.Path.{_≡_};
+ghost use Prim.Native.Nat.{_+_, _≤_, _<_};
+ghost use mathlib.Core.List.{_++_};
+ghost use lib.ListN.{length, drop};
+ghost use Rattle.fields.specs.LittleEndian.{numberAt, bytesOf};
+ghost use Rattle.fields.specs.TwosComplement.{signedOf, signedAt, patternOf};
+
+// A byte as a wider number.
+pub fn wide(x: u8) -> u32
+    ensures { λ r. ⌜ (r ≡ x) × (r < 256) ⌝ }
+{
+    x as u32
+}
+
+pub fn wide_index(x: u8) -> usize
+    ensures { λ r. ⌜ (r ≡ x) × (r < 256) ⌝ }
+{
+    x as usize
+}
+
+// The unsigned number of two bytes from `at` on.
+pub fn u16_at(s: &[u8], at: usize) -> usize
+    requires { ⌜ at + 2 ≤ length (now s) ⌝ }
+    ensures { λ r. ⌜ (r ≡ numberAt 2 (now (s .entry)) at) × (r < 65536) ⌝ }
+{
+    wide_index(s[at]) + 256 * wide_index(s[at + 1])
+}
+
+// The unsigned number of four bytes from `at` on.
+pub fn u32_at(s: &[u8], at: usize) -> u32
+    requires { ⌜ at + 4 ≤ length (now s) ⌝ }
+    ensures { λ r. ⌜ r ≡ numberAt 4 (now (s .entry)) at ⌝ }
+{
+    wide(s[at]) + 256 * wide(s[at + 1]) + 65536 * wide(s[at + 2]) + 16777216 * wide(s[at + 3])
+}
+
+// The number that a pattern of 32 bits stands for in two's complement.
+pub fn signed(pattern: u32) -> i32
+    ensures { λ r. ⌜ r ≡ signedOf 4 pattern ⌝ }
+{
+    if pattern < 2147483648 {
+        pattern as i32
+    } else {
+        -1 - ((4294967295 - pattern) as i32)
+    }
+}
+
+// The pattern of 32 bits of a number.
+pub fn pattern(x: i32) -> u32
+    ensures { λ r. ⌜ r ≡ patternOf 4 x ⌝ }
+{
+    if x < 0 {
+        4294967295 - ((-1 - x) as u32)
+    } else {
+        x as u32
+    }
+}
+
+// The signed number of four bytes from `at` on.
+pub fn i32_at(s: &[u8], at: usize) -> i32
+    requires { ⌜ at + 4 ≤ length (now s) ⌝ }
+    ensures { λ r. ⌜ r ≡ signedAt 4 (now (s .entry)) at ⌝ }
+{
+    signed(u32_at(s, at))
+}
+
+// Writes a number of 16 bits over the two bytes at the front of a lent part.
+pub fn put_u16(t: &mut [u8], x: usize)
+    requires { ⌜ (2 ≤ length (now t)) × (x < 65536) ⌝ }
+    ensures { λ _. ⌜ now (t .exit) ≡ bytesOf 2 x ++ drop 2 (now (t .entry)) ⌝ }
+{
+    t[0] = (x % 256) as u8;
+    t[1] = (x / 256 % 256) as u8;
+}
+
+// Writes a number of 32 bits over the four bytes at the front of a lent part.
+pub fn put_u32(t: &mut [u8], x: u32)
+    requires { ⌜ 4 ≤ length (now t) ⌝ }
+    ensures { λ _. ⌜ now (t .exit) ≡ bytesOf 4 x ++ drop 4 (now (t .entry)) ⌝ }
+{
+    t[0] = (x % 256) as u8;
+    t[1] = (x / 256 % 256) as u8;
+    t[2] = (x / 256 / 256 % 256) as u8;
+    t[3] = (x / 256 / 256 / 256 % 256) as u8;
+}
+
+// Writes a signed number over the four bytes at the front of a lent part.
+pub fn put_i32(t: &mut [u8], x: i32)
+    requires { ⌜ 4 ≤ length (now t) ⌝ }
+    ensures { λ _. ⌜ now (t .exit) ≡ bytesOf 4 (patternOf 4 x) ++ drop 4 (now (t .entry)) ⌝ }
+{
+    put_u32(t, pattern(x));
+}

@@ -1,0 +1,11 @@
+pub mod SizesRead
+pub mod Shifts
+pub mod TermsRead
+pub mod OperandsRead
+pub mod Overwriting
+pub mod TermsWritten
+pub mod OperandsWritten
+pub mod Fits
+pub mod Taking
+pub mod Putting
+pub mod WholeSheet

@@ -1,0 +1,51 @@
+-- A shift and its code. Assumes nothing.
+use Prim.Native.Nat.{ℕ, suc, _+_, _-_, _≤_, _<_}
+use native.Mathlib.Nat.{add-comm}
+use native.Mathlib.Omega.{arith}
+use mathlib.Core.Path.{_≡_, refl, sym, ap, _∙_}
+use mathlib.Core.Bool.{Bool, true, false, cond, not, _&&_}
+use lib.Dec.{ltb}
+use lib.IntN.{ℤ, pos, negsuc, subℕ, _+ℤ_}
+use lib.Signed.{mag, ltZ, leZ}
+use borrow.Author.Tests.{ltb-false, leb-true, le-ltb, lt-ltb, le-leb}
+use Rattle.rule.specs.Terms.{shiftOf, codeOf, shiftFits}
+
+-- a difference of naturals below a bound is in the range that the bound gives
+by-test : (t : Bool) (a b bound : ℕ) → a < bound → b ≤ bound → mag (cond t (negsuc (b - suc a)) (pos (a - b))) < bound
+by-test true a b bound h k = omega arith
+by-test false a b bound h k = omega arith
+
+pub mag-sub : (a b bound : ℕ) → a < bound → b ≤ bound → mag (subℕ a b) < bound
+mag-sub a b bound h k = by-test (ltb a b) a b bound h k
+
+-- what is known of a shift that fits
+pub record Coded (d : ℤ) : Type 0 where
+  pub sum : d +ℤ pos 4 ≡ pos (codeOf d)
+  pub small : codeOf d ≤ 8
+  pub back : shiftOf (codeOf d) ≡ d
+
+kept : (b : Bool) → not b && true ≡ true → b ≡ false
+kept true h = sym h
+kept false h = refl
+
+pub coded : (d : ℤ) → shiftFits d ≡ true → Coded d
+unfolding shiftFits codeOf shiftOf
+coded (pos n) h =
+    let k : n ≤ 4 = leb-true n 4 h in
+    record { sum = ap pos (add-comm n 4); small = omega arith; back = simp (le-ltb (4 + n) 4 (omega arith)) (ap pos (omega arith)) }
+coded (negsuc n) h =
+    let k : n ≤ 3 = ltb-false 3 n (kept (ltb 3 n) h) in
+    record {
+      sum = simp (le-ltb 4 (suc n) (omega arith)) (ap pos (omega arith));
+      small = omega arith;
+      back = simp (lt-ltb (3 - n) 4 (omega arith)) (ap negsuc (omega arith));
+    }
+
+-- a code of at most 8 is a shift that fits, and is that shift's code
+pub code-fits : (c : ℕ) → c ≤ 8 → shiftFits (shiftOf c) ≡ true
+unfolding shiftFits shiftOf
+code-fits c h = go (ltb c 4) refl
+  where
+    go : (b : Bool) → ltb c 4 ≡ b → not (ltZ (cond b (negsuc (4 - suc c)) (pos (c - 4))) (negsuc 3)) && leZ (cond b (negsuc (4 - suc c)) (pos (c - 4))) (pos 4) ≡ true
+    go true e = simp (le-ltb 3 (4 - suc c) (omega arith))
+    go false e = simp (le-leb (c - 4) 4 (omega arith))

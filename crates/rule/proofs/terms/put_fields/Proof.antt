@@ -1,0 +1,61 @@
+use native.Mathlib.Omega.{arith}
+use mathlib.Core.Path.{_∙_}
+use Prim.Native.Nat.{_-_}
+use denote.Ref.{now}
+use lib.ListN.{length, set, length-set, length-take, length-drop}
+use borrow.Rule.Slice.PartMut.{same-len-mid}
+use Rattle.fields.specs.LittleEndian.{bytesOf}
+use Rattle.fields.proofs.Widths.{length-bytes}
+use Rattle.rule.proofs.Overwriting.{lent-front}
+use Rattle.rule.proofs.TermsWritten as law
+use borrow.Author.Needs.{needs}
+use Rattle.rule.proofs.terms.put_fields.Statement.{statement}
+use Rattle.rule.proofs.terms.put_fields.Tie as tie
+use Rattle.rule.proofs.terms.put_fields.Reads as reads
+use Rattle.rule.proofs.terms.put_fields.Lts as lts
+use Rattle.fields.proofs.put_u32.Reads as put-u32-reads
+
+-- src/terms.rt:76:5
+slice-write-t : tie.Need-slice-write-t
+slice-write-t c = search needs
+
+-- src/terms.rt:77:5
+slice-write-t-2 : tie.Need-slice-write-t-2
+slice-write-t-2 c = simp length-set (omega arith)
+
+-- src/terms.rt:78:21
+sub-put-u32 : tie.Need-sub-put-u32
+sub-put-u32 c = simp length-set (omega arith)
+
+-- src/terms.rt:78:21
+part-put-u32-start : tie.Need-part-put-u32-start
+part-put-u32-start c = simp length-set (omega arith)
+
+-- src/terms.rt:78:21
+part-put-u32-end : tie.Need-part-put-u32-end
+part-put-u32-end c = search needs
+
+-- src/terms.rt:78:5
+put-u32-requires : tie.Need-put-u32-requires
+put-u32-requires c κs = simp (length-take, length-drop, length-set) (omega arith)
+
+-- src/terms.rt:72:1
+same-length : tie.Need-same-length
+same-length c = same-len-mid 2 (length (set (set (now (c .before .before .before .before .before .args .t)) 0 (c .before .before .before .before .before .args .form)) 1 (c .before .before .before .before .before .args .code)) - 2) (set (set (now (c .before .before .before .before .before .args .t)) 0 (c .before .before .before .before .before .args .form)) 1 (c .before .before .before .before .before .args .code)) (c .before .before .put-u32 .last .0) (c .before .before .put-u32 .kept .0) ∙ simp length-set
+
+-- src/terms.rt:72:1
+returns : tie.Need-returns
+returns c = lent-front (set (set (now (c .before .before .before .before .before .args .t)) 0 (c .before .before .before .before .before .args .form)) 1 (c .before .before .before .before .before .args .code)) (c .before .before .put-u32 .last .0) (bytesOf 4 (c .before .before .before .before .before .args .number)) 2 (length (set (set (now (c .before .before .before .before .before .args .t)) 0 (c .before .before .before .before .before .args .form)) 1 (c .before .before .before .before .before .args .code))) 4 (length-bytes 4 (c .before .before .before .before .before .args .number)) (simp length-set (omega arith)) (omega arith) (simp length-set (omega arith)) (c .before .before .put-u32 .ensures) ∙ law.fields (now (c .before .before .before .before .before .args .t)) _ _ _ (c .before .before .before .before .before .pre)
+
+pub put-fields-spec : {M : Type 1} → statement M
+put-fields-spec =
+    tie.close
+    (tie.spec
+    slice-write-t
+    slice-write-t-2
+    sub-put-u32
+    part-put-u32-start
+    part-put-u32-end
+    put-u32-requires
+    same-length
+    returns)
