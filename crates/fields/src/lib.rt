@@ -3,6 +3,7 @@ ghost use mathlib.Core.Path.{_≡_};
 ghost use Prim.Native.Nat.{_+_, _≤_, _<_};
 ghost use mathlib.Core.List.{_++_};
 ghost use lib.ListN.{length, drop};
+ghost use lib.IntN.{subℕ};
 ghost use Rattle.fields.specs.LittleEndian.{numberAt, bytesOf};
 ghost use Rattle.fields.specs.TwosComplement.{signedOf, signedAt, patternOf};
 
@@ -55,6 +56,13 @@ pub fn pattern(x: i32) -> u32
     } else {
         x as u32
     }
+}
+
+// The number that a pattern of 32 bits stands for in two's complement, kept without a sign as that number + 2147483648.
+pub fn biased(pattern: u32) -> u64
+    ensures { λ r. ⌜ (subℕ r 2147483648 ≡ signedOf 4 pattern) × (r < 4294967296) ⌝ }
+{
+    ((pattern as u64) + 2147483648) % 4294967296
 }
 
 // The signed number of four bytes from `at` on.

@@ -1,0 +1,62 @@
+-- A row that has a drift other than 0, looked for channel by channel. Assumes nothing.
+use Prim.Native.Nat.{ℕ, zero, suc, _+_, _-_, _<_}
+use native.Mathlib.Decide.{decLt}
+use native.Mathlib.Numerals.{add-one}
+use native.Mathlib.Omega.{arith}
+use mathlib.Core.Path.{_≡_, sym, ap, ap₂, _∙_, subst}
+use mathlib.Core.Bool.{Bool, true, false, _||_, not, or-true}
+use mathlib.Core.List.{List}
+use mathlib.Core.Logic.{by-cases}
+use lib.IntN.{ℤ}
+use borrow.Author.Tests.{eq-eqb, ne-eqb}
+use Rattle.fields.proofs.Differences.{sub-pos, sub-neg}
+use Rattle.plan.specs.Layout.{driftOf}
+use Rattle.plan.specs.Sizes.{Fitting}
+use Rattle.plan.specs.Lifted.{unbiased}
+use Rattle.plan.specs.Refusals.{isZero, anyBelow, driftsAt, drifting}
+
+-- A search for one that is true, going up.
+module _ (f : ℕ → Bool) where
+  pub none-more : (k : ℕ) → anyBelow f k ≡ false → f k ≡ false → anyBelow f (k + 1) ≡ false
+  unfolding anyBelow
+  none-more k e g = rw add-one (ap₂ _||_ e g)
+
+  pub one-here : (k n : ℕ) → k < n → f k ≡ true → anyBelow f n ≡ true
+  unfolding anyBelow
+  one-here k zero h e = absurd (omega arith)
+  one-here k (suc n) h e =
+      let lower = one-here k n in
+      by-cases (decLt k n)
+      (λ l. ap (λ (b : Bool). b || f n) (lower l e))
+      (λ l. let same : k ≡ n = omega arith in ap (λ (b : Bool). anyBelow f n || b) (subst (λ (i : ℕ). f i ≡ true) same e) ∙ or-true (anyBelow f n))
+
+-- A field is 0 where it is kept as 2 ^ 31.
+zero-field : (n : ℕ) {z : ℤ} → unbiased n ≡ z → n ≡ 2147483648 → isZero z ≡ true
+unfolding isZero
+zero-field n e h = ap isZero (sym e ∙ sub-pos n 2147483648 (omega arith)) ∙ eq-eqb (n - 2147483648) 0 (omega arith)
+
+other-field : (n : ℕ) {z : ℤ} → unbiased n ≡ z → (n ≡ 2147483648 → ⊥) → isZero z ≡ false
+unfolding isZero
+other-field n e h =
+    by-cases (decLt n 2147483648)
+    (λ l. ap isZero (sym e ∙ sub-neg n 2147483648 l))
+    (λ l. ap isZero (sym e ∙ sub-pos n 2147483648 (omega arith)) ∙ ne-eqb (n - 2147483648) 0 (λ g. h (omega arith)))
+
+module _ (plan : List ℕ) (row channel : ℕ) {n : ℕ} (e : unbiased n ≡ driftOf plan row channel) where
+  pub no-drift : n ≡ 2147483648 → driftsAt plan row channel ≡ false
+  unfolding driftsAt
+  no-drift h = ap not (zero-field n e h)
+
+  pub a-drift : (n ≡ 2147483648 → ⊥) → driftsAt plan row channel ≡ true
+  unfolding driftsAt
+  a-drift h = ap not (other-field n e h)
+
+-- What is found of a row.
+module _ {plan : List ℕ} {v p c : ℕ} (fits : Fitting plan v p c) (row : ℕ) where
+  pub row-drifts : (channel : ℕ) → channel < v → driftsAt plan row channel ≡ true → drifting plan row ≡ true
+  unfolding drifting
+  row-drifts channel h e = rw (fits .v-is) (one-here (driftsAt plan row) channel v h e)
+
+  pub row-still : anyBelow (driftsAt plan row) v ≡ false → drifting plan row ≡ false
+  unfolding drifting
+  row-still e = rw (fits .v-is) e

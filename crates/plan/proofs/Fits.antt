@@ -1,0 +1,111 @@
+-- Plans whose sizes fit. Assumes nothing.
+use Prim.Native.Nat.{ℕ, _+_, _*_, _≤_, _<_}
+use native.Mathlib.Omega.{arith}
+use mathlib.Core.Path.{_≡_, refl}
+use mathlib.Core.Bool.{Bool, true, false, cond, _&&_, and-false}
+use mathlib.Core.List.{List}
+use lib.ListN.{length}
+use lib.Dec.{leb, eqb}
+use borrow.Author.Tests.{le-leb, lt-leb, eq-eqb, ne-eqb, leb-true, eqb-true}
+use Rattle.plan.specs.Layout.{channels, startRows, cycleRows, rows, headLength, arrayLength, sizesFit}
+use Rattle.plan.specs.Sizes.{sizesOf, Fitting}
+use Rattle.plan.specs.declared.sizes.Sizes.the-variants.{Counts, Wrong}
+
+both : (a b : Bool) → a && b ≡ true → (a ≡ true) × (b ≡ true)
+both true b e = (refl, e)
+both false b e = let z : _≡_ {A = ℕ} 0 1 = cc in absurd (omega arith)
+
+all-of : (a b c d e f : Bool) → a && ((b && c) && (d && (e && f))) ≡ true → (b ≡ true) × (c ≡ true) × (d ≡ true) × (e ≡ true) × (f ≡ true)
+all-of a b c d e f h =
+    let sizes = both a ((b && c) && (d && (e && f))) h .1 in
+    let range = both b c (both (b && c) (d && (e && f)) sizes .0) in
+    let cycle = both d (e && f) (both (b && c) (d && (e && f)) sizes .1) in
+    let whole = both e f (cycle .1) in
+    (range .0, range .1, cycle .0, whole .0, whole .1)
+
+-- What the test says of the sizes.
+pub fitting : (plan : List ℕ) → sizesFit plan ≡ true → Fitting plan (channels plan) (startRows plan) (cycleRows plan)
+unfolding sizesFit rows
+fitting plan h =
+    let long = headLength + 2 * arrayLength (channels plan) (startRows plan + cycleRows plan) in
+    let all = all-of (leb headLength (length plan)) (leb 1 (channels plan)) (leb (channels plan) 8) (leb 1 (cycleRows plan)) (leb (startRows plan + cycleRows plan) 256) (eqb (length plan) long) h in
+    record {
+      v-is = refl;
+      p-is = refl;
+      c-is = refl;
+      a-channel = leb-true 1 (channels plan) (all .0);
+      few-channels = leb-true (channels plan) 8 (all .1);
+      a-cycle = leb-true 1 (cycleRows plan) (all .2);
+      few-rows = leb-true (startRows plan + cycleRows plan) 256 (all .3);
+      whole = eqb-true (length plan) long (all .4);
+    }
+
+pub fits-true : {plan : List ℕ} {v p c : ℕ} → Fitting plan v p c → sizesFit plan ≡ true
+unfolding sizesFit rows
+fits-true {plan} {v} {p} {c} f =
+    let long : 6 ≤ length plan = omega (arith, f .whole) in
+    simp (
+      f .v-is,
+      f .p-is,
+      f .c-is,
+      le-leb _ _ long,
+      le-leb _ _ (f .a-channel),
+      le-leb _ _ (f .few-channels),
+      le-leb _ _ (f .a-cycle),
+      le-leb _ _ (f .few-rows),
+      eq-eqb _ _ (f .whole),
+    )
+
+-- What is read of a plan whose sizes fit, and of another.
+pub counts : {plan : List ℕ} {v p c : ℕ} → Fitting plan v p c → Counts v p c ≡ sizesOf plan
+unfolding sizesOf
+counts f = simp (fits-true f, f .v-is, f .p-is, f .c-is)
+
+pub counted : (plan : List ℕ) {v p c : ℕ} → sizesOf plan ≡ Counts v p c → Fitting plan v p c
+unfolding sizesOf
+counted plan {v} {p} {c} e = go (sizesFit plan) refl e
+  where
+    go : (b : Bool) → sizesFit plan ≡ b → cond b (Counts (channels plan) (startRows plan) (cycleRows plan)) Wrong ≡ Counts v p c → Fitting plan v p c
+    go true h k =
+        let same-v : channels plan ≡ v = cc in
+        let same-p : startRows plan ≡ p = cc in
+        let same-c : cycleRows plan ≡ c = cc in
+        rw (same-v, same-p, same-c) at (fitting plan h)
+    go false h k = let z : _≡_ {A = ℕ} 0 1 = cc in absurd (omega arith)
+
+pub unfit : (plan : List ℕ) → sizesOf plan ≡ Wrong → sizesFit plan ≡ false
+unfolding sizesOf
+unfit plan e = go (sizesFit plan) refl e
+  where
+    go : (b : Bool) → sizesFit plan ≡ b → cond b (Counts (channels plan) (startRows plan) (cycleRows plan)) Wrong ≡ Wrong → sizesFit plan ≡ false
+    go true h k = let z : _≡_ {A = ℕ} 0 1 = cc in absurd (omega arith)
+    go false h k = h
+
+-- Each way in which sizes do not fit.
+module _ (plan : List ℕ) where
+  pub too-short : length plan < headLength → Wrong ≡ sizesOf plan
+  unfolding sizesOf sizesFit
+  too-short h = simp (lt-leb _ _ h)
+
+  module _ {v : ℕ} (e : v ≡ channels plan) where
+    pub no-channel : v < 1 → Wrong ≡ sizesOf plan
+    unfolding sizesOf sizesFit
+    no-channel h = simp (← e, lt-leb _ _ h, and-false)
+
+    pub many-channels : 8 < v → Wrong ≡ sizesOf plan
+    unfolding sizesOf sizesFit
+    many-channels h = simp (← e, lt-leb _ _ h, and-false)
+
+  module _ {c : ℕ} (e : c ≡ cycleRows plan) where
+    pub no-cycle : c < 1 → Wrong ≡ sizesOf plan
+    unfolding sizesOf sizesFit
+    no-cycle h = simp (← e, lt-leb _ _ h, and-false)
+
+    module _ {p : ℕ} (f : p ≡ startRows plan) where
+      pub many-rows : 256 < p + c → Wrong ≡ sizesOf plan
+      unfolding sizesOf sizesFit rows
+      many-rows h = simp (← e, ← f, lt-leb _ _ h, and-false)
+
+      pub other-length : {v : ℕ} → v ≡ channels plan → (length plan ≡ headLength + 2 * arrayLength v (p + c) → ⊥) → Wrong ≡ sizesOf plan
+      unfolding sizesOf sizesFit rows
+      other-length g h = simp (← e, ← f, ← g, ne-eqb _ _ h, and-false)

@@ -1,0 +1,32 @@
+-- On a cycle row a reading is a straight line in the pass. Assumes nothing.
+use Prim.Native.Nat.{ℕ, _+_, _*_, _≤_, _<_}
+use mathlib.Core.Path.{_≡_, sym, ap, ap₂, _∙_}
+use mathlib.Core.List.{List}
+use lib.IntN.{ℤ, pos, _+ℤ_, _*ℤ_}
+use Rattle.cltlb.specs.Run.{number}
+use Rattle.fields.proofs.Differences.{mul-plus, add-assoc}
+use Rattle.plan.specs.Layout.{startRows, cycleRows, readingOf, driftOf}
+use Rattle.plan.specs.Positions.{rowOf, passOf}
+use Rattle.plan.specs.Run.{readingOn, readingAt, runOf}
+use Rattle.plan.proofs.Rows.{row-later, pass-later}
+
+-- k passes more are k drifts more
+pub readingOn-later : (plan : List ℕ) (channel row pass k : ℕ) → readingOn plan channel row (pass + k) ≡ readingOn plan channel row pass +ℤ pos k *ℤ driftOf plan row channel
+unfolding readingOn
+readingOn-later plan channel row pass k =
+    ap (λ (z : ℤ). readingOf plan row channel +ℤ z) (mul-plus pass k (driftOf plan row channel))
+    ∙ sym (add-assoc (readingOf plan row channel) (pos pass *ℤ driftOf plan row channel) (pos k *ℤ driftOf plan row channel))
+
+module _ (plan : List ℕ) (some-cycle : 0 < cycleRows plan) (channel t k : ℕ) (in-cycle : startRows plan ≤ t) where
+  -- k cycles later the reading has drifted k times
+  pub readingAt-later : readingAt plan channel (t + k * cycleRows plan) ≡ readingAt plan channel t +ℤ pos k *ℤ driftOf plan (rowOf (startRows plan) (cycleRows plan) t) channel
+  unfolding readingAt
+  readingAt-later =
+      ap₂ (readingOn plan channel)
+      (row-later (startRows plan) (cycleRows plan) some-cycle t k in-cycle)
+      (pass-later (startRows plan) (cycleRows plan) some-cycle t k in-cycle)
+      ∙ readingOn-later plan channel (rowOf (startRows plan) (cycleRows plan) t) (passOf (startRows plan) (cycleRows plan) t) k
+
+  pub run-later : runOf plan channel (pos (t + k * cycleRows plan)) ≡ number (readingAt plan channel t +ℤ pos k *ℤ driftOf plan (rowOf (startRows plan) (cycleRows plan) t) channel)
+  unfolding runOf
+  run-later = ap number readingAt-later

@@ -1,0 +1,61 @@
+-- `plan::lookup::drift_at` meets its contract. Assumes nothing.
+use Prim.Native.Nat.{_+_}
+use native.Mathlib.Omega.{arith}
+use mathlib.Core.Path.{_∙_}
+use Rattle.plan.proofs.Arrays as arrays
+use borrow.Author.Needs.{needs}
+use Rattle.plan.proofs.lookup.drift_at.Statement.{statement}
+use Rattle.plan.proofs.lookup.drift_at.Tie as tie
+
+add-drifts-start : tie.Need-add-drifts-start
+add-drifts-start c = search needs
+
+drifts-start-requires : tie.Need-drifts-start-requires
+drifts-start-requires c κs = search needs
+
+add-array-length : tie.Need-add-array-length
+add-array-length c = search needs
+
+array-length-requires : tie.Need-array-length-requires
+array-length-requires c κs = search needs
+
+add-e : tie.Need-add-e
+add-e c = search needs
+
+sub-entry-at : tie.Need-sub-entry-at
+sub-entry-at c = search needs
+
+part-entry-at-start : tie.Need-part-entry-at-start
+part-entry-at-start c = search needs
+
+part-entry-at-end : tie.Need-part-entry-at-end
+part-entry-at-end c = search needs
+
+cell-of-requires : tie.Need-cell-of-requires
+cell-of-requires c κs = search needs
+
+entry-at-requires : tie.Need-entry-at-requires
+entry-at-requires c κs =
+    let start = c .before .before .before .before .before in
+    arrays.in-part (start .pre .0) (start .args .row) (start .args .channel) (c .before .before .before .drifts-start .result) (c .before .before .before .drifts-start .result + c .before .before .array-length .result) _ (c .cell-of .ensures) (omega arith) (omega arith) (start .pre .2) (start .pre .1)
+
+returns : tie.Need-returns
+returns c =
+    let start = c .before .before .before .before .before .before in
+    (c .entry-at .ensures .0 ∙ arrays.drift-entry (start .pre .0) (start .args .row) (start .args .channel) (arrays.drifts-part (start .pre .0) _ _ (c .before .before .before .before .drifts-start .ensures .0) (omega arith)) (c .before .cell-of .ensures), c .entry-at .ensures .1)
+
+pub drift-at-spec : {M : Type 1} → statement M
+drift-at-spec =
+    tie.close
+    (tie.spec
+    add-drifts-start
+    drifts-start-requires
+    add-array-length
+    array-length-requires
+    add-e
+    sub-entry-at
+    part-entry-at-start
+    part-entry-at-end
+    cell-of-requires
+    entry-at-requires
+    returns)

@@ -1,0 +1,6 @@
+pub mod Layout
+pub mod Sizes
+pub mod Positions
+pub mod Run
+pub mod Lifted
+pub mod Refusals

@@ -1,0 +1,6 @@
+// The plan: its sizes, its readings and drifts, what is seen of a channel at a position, and refusals 4 to 6.
+pub mod check;
+pub mod layout;
+pub mod lookup;
+pub mod positions;
+pub mod sizes;
