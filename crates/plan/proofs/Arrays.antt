@@ -38,6 +38,10 @@ module _ {plan : List ℕ} {v p c : ℕ} (fits : Fitting plan v p c) where
         → 4 * i + 4 ≤ length (take (e - a) (drop a plan))
     in-part a e i f g l h k = simp (length-take, length-drop) (omega (arith, cell-lt v (p + c) row channel h k))
 
+    pub reading-entry : {R : List ℕ} {i : ℕ} → R ≡ readings plan → i ≡ cell v row channel → entry R i ≡ readingOf plan row channel
+    unfolding readingOf
+    reading-entry r e = rw (r, e, fits .v-is) refl
+
     module _ {D : List ℕ} {i : ℕ} (d : D ≡ drifts plan) (e : i ≡ cell v row channel) where
       pub drift-entry : entry D i ≡ driftOf plan row channel
       unfolding driftOf

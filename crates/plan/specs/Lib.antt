@@ -4,3 +4,4 @@ pub mod Positions
 pub mod Run
 pub mod Lifted
 pub mod Refusals
+pub mod View

@@ -4,3 +4,4 @@ pub mod layout;
 pub mod lookup;
 pub mod positions;
 pub mod sizes;
+pub mod view;

@@ -4,7 +4,7 @@ ghost use mathlib.Core.Path.{_≡_};
 ghost use Prim.Native.Nat.{_+_, _*_, _≤_, _<_};
 ghost use lib.ListN.{length};
 ghost use lib.IntN.{pos, subℕ, _+ℤ_, _*ℤ_};
-ghost use Rattle.plan.specs.Layout.{entry, driftOf};
+ghost use Rattle.plan.specs.Layout.{entry, readingOf, driftOf};
 ghost use Rattle.plan.specs.Sizes.{Fitting};
 ghost use Rattle.plan.specs.Run.{readingOn, runOf};
 ghost use Rattle.plan.specs.Lifted.{unbiased, lowered, seenOf, Small};
@@ -57,6 +57,16 @@ pub fn number_at(
     let b = drifts_start(v, p + c);
     let e = b + array_length(v, p + c);
     number_on(&plan[a..b], &plan[b..e], cell_of(v, row, channel), pass)
+}
+
+// The reading of a channel on a row.
+pub fn reading_at(plan: &[u8], v: usize, p: usize, c: usize, channel: usize, row: usize) -> u64
+    requires { ⌜ (Fitting (now plan) v p c) × (channel < v) × (row < p + c) ⌝ }
+    ensures { λ r. ⌜ (unbiased r ≡ readingOf (now (plan .entry)) row channel) × (r < 4294967296) ⌝ }
+{
+    let a = head_length();
+    let b = drifts_start(v, p + c);
+    entry_at(&plan[a..b], cell_of(v, row, channel))
 }
 
 // The drift of a channel on a row.

@@ -1,17 +1,19 @@
--- When tests made in order refuse nothing. Assumes nothing.
-use mathlib.Core.Path.{_≡_, refl}
+-- When tests made in order refuse nothing, and how loops make them. Assumes nothing.
+use mathlib.Core.Path.{_≡_, refl, ap, subst}
 use mathlib.Core.Bool.{Bool, true, false}
 use mathlib.Core.Option.{Option, none, some}
-use mathlib.Core.Logic.{_↔_, Iff·trans}
-use Prim.Native.Nat.{ℕ, _<_}
+use mathlib.Core.Logic.{_↔_, Iff·trans, by-cases}
+use Prim.Native.Nat.{ℕ, zero, suc, _+_, _-_, _≤_, _<_}
+use native.Mathlib.Decide.{decLt}
+use native.Mathlib.Numerals.{add-one}
 use native.Mathlib.Omega.{arith}
 use lib.Dec.{T}
-use Rattle.refusal.specs.Lowest.{lowest}
-use Rattle.refusal.specs.First.{_orElse_, unless, refusedAt, atLowest}
+use Rattle.refusal.specs.Lowest.{lowestFrom, lowest}
+use Rattle.refusal.specs.First.{_orElse_, unless, refusedAt, atLowest, inTurnFrom, inTurn}
 use Rattle.refusal.specs.declared.Refusal.{Refusal}
 use Rattle.refusal.specs.declared.Outcome.{Outcome}
 use Rattle.refusal.specs.declared.Outcome.the-variants.{Clear, Refused}
-use Rattle.refusal.proofs.Lowest.{lowest-none}
+use Rattle.refusal.proofs.Lowest.{lowest-none, passes, found, ended}
 
 clear-refused : {r : Refusal} → Refused r ≡ Clear → ⊥
 clear-refused e = let z : _≡_ {A = ℕ} 0 1 = cc in omega arith
@@ -33,12 +35,65 @@ unfolding unless
 unless-clear-T true r = (λ _. tt, λ _. refl)
 unless-clear-T false r = (clear-refused, absurd)
 
-refusedAt-clear : (r : ℕ → Refusal) (o : Option ℕ) → (refusedAt r o ≡ Clear) ↔ (o ≡ none)
+-- A search refuses nothing where it finds nothing.
+pub refusedAt-clear : (r : ℕ → Refusal) (o : Option ℕ) → (refusedAt r o ≡ Clear) ↔ (o ≡ none)
 unfolding refusedAt
 refusedAt-clear r none = (λ _. refl, λ _. refl)
 refusedAt-clear r (some k) = (λ e. absurd (clear-refused e), λ e. let z : _≡_ {A = ℕ} 0 1 = cc in absurd (omega arith))
 
--- A search refuses nothing where the test is false of every number searched.
+-- A search for the lowest number refuses nothing where the test is false of every number.
 pub atLowest-clear : (f : ℕ → Bool) (n : ℕ) (r : ℕ → Refusal) → (atLowest f n r ≡ Clear) ↔ ((j : ℕ) → j < n → f j ≡ false)
 unfolding atLowest
 atLowest-clear f n r = Iff·trans (refusedAt-clear r (lowest f n)) (lowest-none f n)
+
+module _ (f : ℕ → Outcome) where
+  first-and-rest : (k m : ℕ) → f k ≡ Clear → ((i : ℕ) → suc k ≤ i → i < m → f i ≡ Clear) → (i : ℕ) → k ≤ i → i < m → f i ≡ Clear
+  first-and-rest k m e rest i h l = by-cases (decLt k i) (λ s. rest i s l) (λ s. subst (λ (x : ℕ). f x ≡ Clear) (omega arith) e)
+
+  -- Items gone through in order refuse nothing where none of them does.
+  pub inTurnFrom-clear : (k n : ℕ) → (inTurnFrom f k n ≡ Clear) ↔ ((i : ℕ) → k ≤ i → i < k + n → f i ≡ Clear)
+  unfolding inTurnFrom
+  inTurnFrom-clear k zero = (λ _ i h l. absurd (omega arith), λ _. refl)
+  inTurnFrom-clear k (suc n) = Iff·trans (orElse-clear (f k) (inTurnFrom f (suc k) n)) (
+    λ p. first-and-rest k (k + suc n) (p .0) (λ i h l. inTurnFrom-clear (suc k) n .0 (p .1) i h (omega arith)),
+    λ h. (h k (omega arith) (omega arith), inTurnFrom-clear (suc k) n .1 (λ i a b. h i (omega arith) (omega arith))),
+  )
+
+  pub inTurn-clear : (n : ℕ) → (inTurn f n ≡ Clear) ↔ ((i : ℕ) → i < n → f i ≡ Clear)
+  unfolding inTurn
+  inTurn-clear n = Iff·trans (inTurnFrom-clear 0 n) (λ h i l. h i (omega arith) (omega arith), λ h i z l. h i (omega arith))
+
+  -- A loop over the items below n begins with item 0.
+  pub turn-first : (n : ℕ) → inTurn f n ≡ inTurnFrom f 0 (n - 0)
+  unfolding inTurn
+  turn-first n = let whole : n - 0 ≡ n = omega arith in rw whole refl
+
+  -- When it is at k it has the items from k on to go through: it takes up item k,
+  pub turn-next : (k n : ℕ) → k < n → inTurnFrom f k (n - k) ≡ (f k orElse inTurnFrom f (k + 1) (n - (k + 1)))
+  unfolding inTurnFrom
+  turn-next k n h = let left : n - k ≡ suc (n - (k + 1)) = omega arith in rw (left, add-one) refl
+
+  -- or it comes to the end.
+  pub turn-end : (k n : ℕ) → n ≤ k → inTurnFrom f k (n - k) ≡ Clear
+  turn-end k n h = inTurnFrom-clear k (n - k) .1 (λ i a b. absurd (omega arith))
+
+module _ (f : ℕ → Bool) (r : ℕ → Refusal) (rest : Outcome) where
+  -- A loop over the numbers below n, with `rest` after it, begins with 0.
+  pub search-first : (n : ℕ) → (atLowest f n r orElse rest) ≡ (refusedAt r (lowestFrom f 0 (n - 0)) orElse rest)
+  unfolding atLowest lowest
+  search-first n = let whole : n - 0 ≡ n = omega arith in rw whole refl
+
+  -- When it is at k it goes past k,
+  pub search-next : (k n : ℕ) → k < n → f k ≡ false
+      → (refusedAt r (lowestFrom f k (n - k)) orElse rest) ≡ (refusedAt r (lowestFrom f (k + 1) (n - (k + 1))) orElse rest)
+  search-next k n h e = ap (λ o. refusedAt r o orElse rest) (passes f k n h e)
+
+  -- or it ends with a refusal,
+  pub search-found : (k n : ℕ) → k < n → f k ≡ true → (refusedAt r (lowestFrom f k (n - k)) orElse rest) ≡ Refused (r k)
+  unfolding refusedAt _orElse_
+  search-found k n h e = simp (found f k n h e)
+
+  -- or it comes to the end.
+  pub search-end : (k n : ℕ) → n ≤ k → (refusedAt r (lowestFrom f k (n - k)) orElse rest) ≡ rest
+  unfolding refusedAt _orElse_
+  search-end k n h = simp (ended f k n h)

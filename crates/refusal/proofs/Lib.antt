@@ -1,3 +1,4 @@
 pub mod Lowest
 pub mod First
 pub mod Search
+pub mod Named

@@ -9,3 +9,15 @@ pub mod Fits
 pub mod Taking
 pub mod Putting
 pub mod WholeSheet
+pub mod KindTables
+pub mod Overwritten
+pub mod TermsLaid
+pub mod OperandsLaid
+pub mod SizesKnown
+pub mod TakenIsLaid
+pub mod Written
+pub mod RoundTrips
+pub mod PartsFit
+pub mod Cleared
+pub mod Examples
+pub mod SheetNames

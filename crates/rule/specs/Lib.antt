@@ -6,3 +6,4 @@ pub mod Kinds
 pub mod Take
 pub mod Put
 pub mod Sheet
+pub mod Laid

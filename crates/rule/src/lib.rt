@@ -87,7 +87,7 @@ fn check_kinds(sheet: &[u8], parts: usize) -> Outcome
 }
 
 // The refusal of an answer that has no part.
-fn refusal_of(taken: Taken) -> Refusal
+pub fn refusal_of(taken: Taken) -> Refusal
     ensures { λ r. ⌜ r ≡ refusalTaken taken ⌝ }
 {
     match taken {

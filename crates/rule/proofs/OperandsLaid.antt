@@ -1,0 +1,160 @@
+-- An operand's twelve bytes: read back they are the operand, and an operand that was read has the bytes that it was read
+-- from. Assumes nothing.
+use Prim.Native.Nat.{ℕ, zero, suc, _+_, _-_, _^_, _≤_, _<_}
+use native.Mathlib.Omega.{arith}
+use mathlib.Core.Path.{_≡_, refl, sym, ap, ap₂, _∙_, subst}
+use mathlib.Core.List.{List, [], _∷_, _++_, append-assoc}
+use mathlib.Core.Bool.{Bool, true, false, _&&_, cond}
+use lib.Dec.{eqb}
+use lib.ListN.{length, getD, take, drop, replicate, length-append, length-take, length-drop, length-replicate}
+use lib.Seq.{take-add, drop-drop}
+use borrow.Author.Tests.{eqb-true}
+use Rattle.fields.specs.LittleEndian.{numberAt, bytesOf, Bytes}
+use Rattle.fields.proofs.Widths.{length-bytes, read-written, written-read}
+use Rattle.cltlb.specs.declared.Term.{Term}
+use Rattle.rule.specs.declared.terms.TermRead.{TermRead}
+use Rattle.rule.specs.declared.terms.TermRead.the-variants as R
+use Rattle.rule.specs.declared.operands.Operand.{Operand}
+use Rattle.rule.specs.declared.operands.Operand.the-variants.{Terms, One, Two}
+use Rattle.rule.specs.declared.operands.OperandRead.{OperandRead}
+use Rattle.rule.specs.declared.operands.OperandRead.the-variants as O
+use Rattle.rule.specs.declared.operands.Shape.{Shape}
+use Rattle.rule.specs.declared.operands.Shape.the-variants as S
+use Rattle.rule.specs.Terms.{termBytes, termFits, termAt}
+use Rattle.rule.specs.Operands.{operandBytes, operandFits, allZero, bothTerms, operandAt}
+use Rattle.rule.specs.Laid.{shapeIn, WordTerm, WordOperand}
+use Rattle.rule.proofs.Fits.{both-true, terms-fit, one-fits, two-fit}
+use Rattle.rule.proofs.Overwritten.{between}
+use Rattle.rule.proofs.TermsWritten.{term-length}
+use Rattle.rule.proofs.TermsLaid.{term-read, term-laid}
+use Rattle.rule.proofs.OperandsRead.{both-read, one-read, two-read}
+
+-- padding is zeros
+zeros-read : (n : ℕ) → allZero (replicate n 0) ≡ true
+unfolding allZero
+zeros-read zero = refl
+zeros-read (suc n) = zeros-read n
+
+zeros-laid : (l : List ℕ) → allZero l ≡ true → l ≡ replicate (length l) 0
+unfolding allZero
+zeros-laid [] h = refl
+zeros-laid (b ∷ bs) h =
+    let p = both-true (eqb b 0) (allZero bs) h in ap₂ (λ (x : ℕ) (l : List ℕ). x ∷ l) (eqb-true b 0 (p .0)) (zeros-laid bs (p .1))
+
+-- two fields behind p, the second by itself
+second : (p a b r : List ℕ) → p ++ ((a ++ b) ++ r) ≡ (p ++ a) ++ (b ++ r)
+second p a b r = ap (λ (t : List ℕ). p ++ t) (append-assoc a b r) ∙ sym (append-assoc p a (b ++ r))
+
+first : (p a b r : List ℕ) → p ++ ((a ++ b) ++ r) ≡ p ++ (a ++ (b ++ r))
+first p a b r = ap (λ (t : List ℕ). p ++ t) (append-assoc a b r)
+
+behind : (p a : List ℕ) (n m : ℕ) → length p ≡ n → length a ≡ m → length (p ++ a) ≡ n + m
+behind p a n m e f = length-append p a ∙ omega arith
+
+module _ (l r : List ℕ) (at : ℕ) (e : length l ≡ at) where
+  terms-read : (v : ℕ) (x y : Term) → v ≤ 8 → termFits v x ≡ true → termFits v y ≡ true → WordTerm x → WordTerm y
+      → operandAt S.Comparison (l ++ ((termBytes x ++ termBytes y) ++ r)) at ≡ O.Operand (Terms x y)
+  terms-read v x y h f g a b =
+      sym (both-read (l ++ ((termBytes x ++ termBytes y) ++ r)) at
+      (ap (λ (s : List ℕ). termAt s at) (first l (termBytes x) (termBytes y) r) ∙ term-read v x l (termBytes y ++ r) at e h f a)
+      (ap (λ (s : List ℕ). termAt s (at + 6)) (second l (termBytes x) (termBytes y) r)
+      ∙ term-read v y (l ++ termBytes x) r (at + 6) (behind l (termBytes x) at 6 e (term-length x)) h g b))
+
+  one-back : (a : ℕ) → a < 65536 → operandAt S.NamesOne (l ++ ((bytesOf 2 a ++ replicate 10 0) ++ r)) at ≡ O.Operand (One a)
+  one-back a h =
+      sym (one-read (l ++ ((bytesOf 2 a ++ replicate 10 0) ++ r)) at
+      (ap (λ (s : List ℕ). allZero (take 10 (drop (at + 2) s))) (second l (bytesOf 2 a) (replicate 10 0) r)
+      ∙ ap allZero (between (l ++ bytesOf 2 a) (replicate 10 0) r (at + 2) 10 (behind l (bytesOf 2 a) at 2 e (length-bytes 2 a)) refl)
+      ∙ zeros-read 10)
+      (sym (ap (λ (s : List ℕ). numberAt 2 s at) (first l (bytesOf 2 a) (replicate 10 0) r)
+      ∙ read-written 2 a l (replicate 10 0 ++ r) at e (omega arith))))
+
+  two-back : (a b : ℕ) → a < 65536 → b < 65536
+      → operandAt S.NamesTwo (l ++ ((bytesOf 2 a ++ (bytesOf 2 b ++ replicate 8 0)) ++ r)) at ≡ O.Operand (Two a b)
+  two-back a b h k =
+      let two : length (l ++ bytesOf 2 a) ≡ at + 2 = behind l (bytesOf 2 a) at 2 e (length-bytes 2 a) in
+      let four : length ((l ++ bytesOf 2 a) ++ bytesOf 2 b) ≡ at + 4 = behind (l ++ bytesOf 2 a) (bytesOf 2 b) (at + 2) 2 two (length-bytes 2 b) ∙ omega arith in
+      let later : l ++ ((bytesOf 2 a ++ (bytesOf 2 b ++ replicate 8 0)) ++ r) ≡ (l ++ bytesOf 2 a) ++ ((bytesOf 2 b ++ replicate 8 0) ++ r) =
+      second l (bytesOf 2 a) (bytesOf 2 b ++ replicate 8 0) r in
+      sym (two-read (l ++ ((bytesOf 2 a ++ (bytesOf 2 b ++ replicate 8 0)) ++ r)) at
+      (ap (λ (s : List ℕ). allZero (take 8 (drop (at + 4) s))) (later ∙ second (l ++ bytesOf 2 a) (bytesOf 2 b) (replicate 8 0) r)
+      ∙ ap allZero (between ((l ++ bytesOf 2 a) ++ bytesOf 2 b) (replicate 8 0) r (at + 4) 8 four refl)
+      ∙ zeros-read 8)
+      (sym (ap (λ (s : List ℕ). numberAt 2 s at) (first l (bytesOf 2 a) (bytesOf 2 b ++ replicate 8 0) r)
+      ∙ read-written 2 a l ((bytesOf 2 b ++ replicate 8 0) ++ r) at e (omega arith)))
+      (sym (ap (λ (s : List ℕ). numberAt 2 s (at + 2)) (later ∙ first (l ++ bytesOf 2 a) (bytesOf 2 b) (replicate 8 0) r)
+      ∙ read-written 2 b (l ++ bytesOf 2 a) (replicate 8 0 ++ r) (at + 2) two (omega arith))))
+
+  -- An operand that fits is read back off its bytes.
+  pub operand-read : (v n : ℕ) (o : Operand) → v ≤ 8 → n ≤ 64 → operandFits v n o ≡ true → WordOperand o
+      → operandAt (shapeIn o) (l ++ (operandBytes o ++ r)) at ≡ O.Operand o
+  unfolding operandBytes WordOperand
+  operand-read v n (Terms x y) h k f w = let p = terms-fit v n x y f in terms-read v x y h (p .0) (p .1) (w .0) (w .1)
+  operand-read v n (One a) h k f w = let low : a < n = one-fits v n f in one-back a (omega arith)
+  operand-read v n (Two a b) h k f w =
+      let p = two-fit v n f in let lowA : a < n = p .0 in let lowB : b < n = p .1 in two-back a b (omega arith) (omega arith)
+
+-- what an operand that was read says of the twelve bytes from `at` on
+module _ (s : List ℕ) (at : ℕ) (bytes : Bytes s) (long : at + 12 ≤ length s) where
+  abbrev Says : Shape → OperandRead → Type 0
+  Says k t = (o : Operand) → t ≡ O.Operand o → (shapeIn o ≡ k) × (take 12 (drop at s) ≡ operandBytes o) × WordOperand o
+
+  -- the bytes from a on, in two fields
+  parted : (a n m : ℕ) → take (n + m) (drop a s) ≡ take n (drop a s) ++ take m (drop (a + n) s)
+  parted a n m = take-add n m (drop a s) ∙ ap (λ (t : List ℕ). take n (drop a s) ++ take m t) (drop-drop n a s)
+
+  name : (a : ℕ) → a + 2 ≤ length s → take 2 (drop a s) ≡ bytesOf 2 (numberAt 2 s a)
+  name a h = sym (written-read 2 s a bytes h)
+
+  padding : (a n : ℕ) → a + n ≤ length s → allZero (take n (drop a s)) ≡ true → take n (drop a s) ≡ replicate n 0
+  padding a n h z =
+      let size : length (take n (drop a s)) ≡ n = simp (length-take, length-drop) (omega arith) in
+      zeros-laid (take n (drop a s)) z ∙ ap (λ (i : ℕ). replicate i 0) size
+
+  of-broken : (k : Shape) → Says k O.Broken
+  of-broken k o e = absurd (let z : _≡_ {A = ℕ} 0 1 = cc in omega arith)
+
+  of-terms : (x y : Term) → (take 6 (drop at s) ≡ termBytes x) × WordTerm x → (take 6 (drop (at + 6) s) ≡ termBytes y) × WordTerm y
+      → Says S.Comparison (O.Operand (Terms x y))
+  unfolding operandBytes WordOperand
+  of-terms x y p q o e =
+      let same : Terms x y ≡ o = cc in
+      subst (λ (o : Operand). (shapeIn o ≡ S.Comparison) × (take 12 (drop at s) ≡ operandBytes o) × WordOperand o) same
+      (refl, parted at 6 6 ∙ ap₂ (λ (a b : List ℕ). a ++ b) (p .0) (q .0), (p .1, q .1))
+
+  of-one : (b : Bool) → allZero (take 10 (drop (at + 2) s)) ≡ b → Says S.NamesOne (cond b (O.Operand (One (numberAt 2 s at))) O.Broken)
+  unfolding operandBytes WordOperand
+  of-one true z o e =
+      let same : One (numberAt 2 s at) ≡ o = cc in
+      subst (λ (o : Operand). (shapeIn o ≡ S.NamesOne) × (take 12 (drop at s) ≡ operandBytes o) × WordOperand o) same
+      (refl, parted at 2 10 ∙ ap₂ (λ (a b : List ℕ). a ++ b) (name at (omega arith)) (padding (at + 2) 10 (omega arith) z), tt)
+  of-one false z o e = of-broken S.NamesOne o e
+
+  of-two : (b : Bool) → allZero (take 8 (drop (at + 4) s)) ≡ b
+      → Says S.NamesTwo (cond b (O.Operand (Two (numberAt 2 s at) (numberAt 2 s (at + 2)))) O.Broken)
+  unfolding operandBytes WordOperand
+  of-two true z o e =
+      let same : Two (numberAt 2 s at) (numberAt 2 s (at + 2)) ≡ o = cc in
+      let four : at + 2 + 2 ≡ at + 4 = omega arith in
+      let end : take 8 (drop (at + 2 + 2) s) ≡ replicate 8 0 = ap (λ (i : ℕ). take 8 (drop i s)) four ∙ padding (at + 4) 8 (omega arith) z in
+      let rest : take 10 (drop (at + 2) s) ≡ bytesOf 2 (numberAt 2 s (at + 2)) ++ replicate 8 0 =
+      parted (at + 2) 2 8 ∙ ap₂ (λ (a b : List ℕ). a ++ b) (name (at + 2) (omega arith)) end in
+      subst (λ (o : Operand). (shapeIn o ≡ S.NamesTwo) × (take 12 (drop at s) ≡ operandBytes o) × WordOperand o) same
+      (refl, parted at 2 10 ∙ ap₂ (λ (a b : List ℕ). a ++ b) (name at (omega arith)) rest, tt)
+  of-two false z o e = of-broken S.NamesTwo o e
+
+  by-terms : (t u : TermRead) → termAt s at ≡ t → termAt s (at + 6) ≡ u → Says S.Comparison (bothTerms t u)
+  unfolding bothTerms
+  by-terms R.Broken u p q = of-broken S.Comparison
+  by-terms (R.Term x) R.Broken p q = of-broken S.Comparison
+  by-terms (R.Term x) (R.Term y) p q =
+      of-terms x y (term-laid s at bytes (omega arith) x p) (term-laid s (at + 6) bytes (omega arith) y q)
+
+  -- An operand that was read lies in the bytes.
+  pub operand-laid : (k : Shape) (o : Operand) → operandAt k s at ≡ O.Operand o
+      → (shapeIn o ≡ k) × (take 12 (drop at s) ≡ operandBytes o) × WordOperand o
+  unfolding operandAt
+  operand-laid S.Comparison = by-terms (termAt s at) (termAt s (at + 6)) refl refl
+  operand-laid S.NamesOne = of-one (allZero (take 10 (drop (at + 2) s))) refl
+  operand-laid S.NamesTwo = of-two (allZero (take 8 (drop (at + 4) s))) refl
+  operand-laid S.Unknown = of-broken S.Unknown
