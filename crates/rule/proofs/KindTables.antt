@@ -11,8 +11,7 @@ use Rattle.cltlb.specs.declared.Part.{Part}
 use Rattle.cltlb.specs.declared.Part.the-variants.{Less, Equal, Not, And, Or, Next, Until, Release, Yesterday, WeakYesterday, Since, Trigger}
 use Rattle.rule.specs.declared.operands.Operand.{Operand}
 use Rattle.rule.specs.declared.operands.Operand.the-variants.{Terms, One, Two}
-use Rattle.rule.specs.declared.operands.Shape.{Shape}
-use Rattle.rule.specs.declared.operands.Shape.the-variants.{Comparison, NamesOne, NamesTwo, Unknown}
+use Rattle.rule.specs.declared.operands.Shape.the-variants.{Comparison, NamesOne, NamesTwo}
 use Rattle.rule.specs.Kinds.{kindOf, operandOf, shapeOf, isUnknown, partOf}
 use Rattle.rule.specs.Laid.{shapeIn}
 

@@ -1,8 +1,8 @@
 -- A part that fits a sheet: its channels and shifts are in their ranges, and it names lower parts. Assumes nothing.
-use Prim.Native.Nat.{ℕ, _≤_, _<_}
+use Prim.Native.Nat.{ℕ, _≤_}
 use native.Mathlib.Omega.{arith}
 use mathlib.Core.Path.{_≡_, refl}
-use mathlib.Core.Bool.{Bool, true, false, not, _&&_}
+use mathlib.Core.Bool.{true, not}
 use lib.Dec.{ltb}
 use lib.IntN.{ℤ, pos, negsuc}
 use borrow.Author.Tests.{leb-true, ltb-false, not-true}
@@ -12,7 +12,7 @@ use Rattle.cltlb.specs.declared.Term.{Term}
 use Rattle.cltlb.specs.declared.Term.the-variants as T
 use Rattle.cltlb.specs.declared.Part.{Part}
 use Rattle.cltlb.specs.declared.Part.the-variants.{Less, Equal, Not, And, Or, Next, Until, Release, Yesterday, WeakYesterday, Since, Trigger}
-use Rattle.rule.specs.declared.operands.Operand.the-variants.{Terms, One, Two}
+use Rattle.rule.specs.declared.operands.Operand.the-variants.{Terms}
 use Rattle.rule.specs.Terms.{shiftFits, termFits}
 use Rattle.rule.specs.Operands.{operandFits}
 use Rattle.rule.specs.Kinds.{operandOf}

@@ -1,14 +1,13 @@
 -- Put and take undo each other, and put leaves every other byte. Assumes nothing.
 use Prim.Native.Nat.{ℕ, _+_, _≤_, _<_}
-use mathlib.Core.Path.{_≡_, refl, sym, ap, _∙_, subst}
+use mathlib.Core.Path.{_≡_, sym, ap, _∙_, subst}
 use mathlib.Core.List.{List}
-use mathlib.Core.Bool.{Bool, true}
+use mathlib.Core.Bool.{true}
 use mathlib.Core.Logic.{_↔_, _⊎_}
 use lib.Dec.{ltb}
 use lib.ListN.{length, getD, set}
 use lib.Seq.{set-getD}
 use borrow.Author.Tests.{ltb-true, lt-ltb}
-use Rattle.refusal.specs.declared.Outcome.{Outcome}
 use Rattle.refusal.specs.declared.Outcome.the-variants.{Clear}
 use Rattle.refusal.specs.declared.Refusal.the-variants.{RuleSizes, Operand, Absent}
 use Rattle.refusal.specs.First.{_orElse_, unless}
@@ -18,7 +17,7 @@ use Rattle.cltlb.specs.declared.Part.{Part}
 use Rattle.rule.specs.declared.Taken.the-variants as K
 use Rattle.rule.specs.Layout.{partCount, channelCount, kindByte, kindPlace, operandPlace, sizesFit}
 use Rattle.rule.specs.Operands.{operandBytes, operandFits}
-use Rattle.rule.specs.Kinds.{kindOf, operandOf}
+use Rattle.rule.specs.Kinds.{operandOf}
 use Rattle.rule.specs.Take.{takeOf}
 use Rattle.rule.specs.Put.{putOutcome, overwritten, written, afterPut, putBytes}
 use Rattle.rule.specs.Laid.{Words, Laid}

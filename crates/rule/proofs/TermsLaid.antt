@@ -9,7 +9,7 @@ use mathlib.Core.Bool.{Bool, true, false, cond}
 use lib.Dec.{ltb, eqb}
 use lib.ListN.{length, getD, take, drop, length-append}
 use lib.Seq.{drop-cons, getD-at}
-use lib.IntN.{ℤ, pos, negsuc, subℕ}
+use lib.IntN.{pos, negsuc}
 use borrow.Author.Tests.{ltb-true, ltb-false, eqb-true}
 use Rattle.fields.specs.LittleEndian.{numberAt, bytesOf, Bytes}
 use Rattle.fields.specs.TwosComplement.{signedOf, signedAt, patternOf, SignedFits}
@@ -19,7 +19,7 @@ use Rattle.cltlb.specs.declared.Term.{Term}
 use Rattle.cltlb.specs.declared.Term.the-variants as T
 use Rattle.rule.specs.declared.terms.TermRead.{TermRead}
 use Rattle.rule.specs.declared.terms.TermRead.the-variants as R
-use Rattle.rule.specs.Terms.{shiftOf, codeOf, shiftFits, termBytes, termFits, termAt}
+use Rattle.rule.specs.Terms.{shiftOf, codeOf, termBytes, termFits, termAt}
 use Rattle.rule.specs.Laid.{WordTerm}
 use Rattle.rule.proofs.Shifts.{coded}
 use Rattle.rule.proofs.Fits.{reading-fits}

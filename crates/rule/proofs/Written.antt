@@ -1,11 +1,10 @@
 -- A sheet after a part was written into it: its sizes, the part's bytes, and all others. Assumes nothing.
 use Prim.Native.Nat.{ℕ, _+_, _*_, _≤_, _<_}
 use native.Mathlib.Omega.{arith}
-use mathlib.Core.Path.{_≡_, refl, sym, ap, ap₂, _∙_}
+use mathlib.Core.Path.{_≡_, sym, ap₂, _∙_}
 use mathlib.Core.List.{List}
-use mathlib.Core.Bool.{Bool, true, _&&_}
+use mathlib.Core.Bool.{true}
 use mathlib.Core.Logic.{_⊎_, inl, inr}
-use lib.Dec.{leb, eqb}
 use lib.ListN.{length, getD, take, drop, set, length-set}
 use lib.Seq.{getD-set-same, getD-set-other}
 use Rattle.fields.specs.LittleEndian.{numberAt}
@@ -14,7 +13,7 @@ use Rattle.cltlb.specs.declared.Part.{Part}
 use Rattle.rule.specs.Layout.{partCount, channelCount, kindByte, kindPlace, operandPlace, sizesFit}
 use Rattle.rule.specs.Operands.{operandBytes}
 use Rattle.rule.specs.Kinds.{kindOf, operandOf}
-use Rattle.rule.specs.Put.{overwritten, written}
+use Rattle.rule.specs.Put.{written}
 use Rattle.rule.proofs.Overwriting.{overwritten-length}
 use Rattle.rule.proofs.Overwritten.{inside, before, behind}
 use Rattle.rule.proofs.OperandsWritten.{operand-length}

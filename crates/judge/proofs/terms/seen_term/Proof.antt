@@ -1,0 +1,55 @@
+-- `judge::terms::seen_term` meets its contract. Assumes nothing.
+use mathlib.Core.Path.{_∙_, subst⁻¹}
+use native.Mathlib.Omega.{arith}
+use mir.Syntax.{w32}
+use mir.ValLaws.{toZ-ofZ}
+use Rattle.cltlb.specs.Fits.{ShiftFits}
+use Rattle.judge.proofs.Values.{reading-fits, sees-constant, sees-reading}
+use borrow.Author.Needs.{needs}
+use Rattle.judge.proofs.terms.seen_term.Statement.{statement}
+use Rattle.judge.proofs.terms.seen_term.Tie as tie
+
+enum-known-term : tie.Need-enum-known-term
+enum-known-term c = search needs
+
+constant-requires : tie.Need-constant-requires
+constant-requires c κs = search needs
+
+enum-known-term-2 : tie.Need-enum-known-term-2
+enum-known-term-2 c = search needs
+
+code-of-requires : tie.Need-code-of-requires
+code-of-requires c κs =
+    let start = c .before .before .before .before in
+    subst⁻¹ ShiftFits (toZ-ofZ w32 _ (record { sfits = c .known-told2 .given .1 .0 .1 })) (reading-fits _ _ _ (c .before .term2 .given .1) _ (start .pre .1) .1)
+
+add-seen-at : tie.Need-add-seen-at
+add-seen-at c = search needs
+
+seen-at-requires : tie.Need-seen-at-requires
+seen-at-requires c κs =
+    let start = c .before .before .before .before .before in
+    (start .pre .0, reading-fits _ _ _ (c .before .before .term2 .given .1) _ (start .pre .1) .0, omega (arith, start .pre .0 .a-cycle, c .code-of .ensures .1))
+
+returns : tie.Need-returns
+returns c =
+    let start = c .before .before .before .before .before in
+    sees-constant _ _ (start .args .t) _ _ (c .before .before .term .given .1) (c .constant .ensures ∙ toZ-ofZ w32 _ (record { sfits = c .before .known-told .given .0 .1 }))
+
+returns-2 : tie.Need-returns-2
+returns-2 c =
+    let term2 = c .before .before .before .term2 in
+    sees-reading _ _ _ _ _ _ _ (term2 .given .1) (c .before .code-of .ensures .0 ∙ toZ-ofZ w32 _ (record { sfits = c .before .before .known-told2 .given .1 .0 .1 })) (c .seen-at .ensures .0)
+
+pub seen-term-spec : {M : Type 1} → statement M
+seen-term-spec =
+    tie.close
+    (tie.spec
+    enum-known-term
+    constant-requires
+    enum-known-term-2
+    code-of-requires
+    add-seen-at
+    seen-at-requires
+    returns
+    returns-2)

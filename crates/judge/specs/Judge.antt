@@ -1,0 +1,45 @@
+-- "Judge" answers for one comparison and one row: its refusals in the order of checking, its answer, and what it promises on
+-- all inputs. Assumes nothing.
+use Prim.Native.Nat.{ℕ}
+use mathlib.Core.Path.{_≡_}
+use mathlib.Core.List.{List}
+use mathlib.Core.Bool.{_&&_}
+use lib.Dec.{ltb}
+use Rattle.cltlb.specs.Truth.{Holds}
+use Rattle.cltlb.specs.Parts.{isComparison, formulaOf}
+use Rattle.refusal.specs.declared.Outcome.{Outcome}
+use Rattle.refusal.specs.declared.Outcome.the-variants.{Clear, Refused}
+use Rattle.refusal.specs.declared.Refusal.the-variants.{Absent}
+use Rattle.refusal.specs.First.{_orElse_, unless}
+use Rattle.rule.specs.Layout.{partCount, channelCount}
+use Rattle.rule.specs.Take.{partsOf}
+use Rattle.rule.specs.Sheet.{sheetOutcome}
+use Rattle.plan.specs.Layout.{startRows, cycleRows, rows}
+use Rattle.plan.specs.Refusals.{planOutcome}
+use Rattle.plan.specs.Run.{runOf}
+use Rattle.judge.specs.Meaning.{VerdictMeans}
+use Rattle.judge.specs.Rows.{verdictOf}
+use Rattle.judge.specs.declared.Verdict.{Verdict}
+use Rattle.judge.specs.declared.Judged.{Judged}
+use Rattle.judge.specs.declared.Judged.the-variants as J
+
+module _ (rule plan : List ℕ) (part row : ℕ) where
+  -- Judge: 1 to 6, then 12: the part or row named by the caller is absent, or the part to be judged is no comparison.
+  unfoldable pub judgeOutcome : Outcome
+  judgeOutcome =
+      sheetOutcome rule
+      orElse planOutcome (channelCount rule) plan
+      orElse unless (ltb part (partCount rule) && (ltb row (rows plan) && isComparison (partsOf rule part))) Absent
+
+  unfoldable pub judgedAs : Outcome → Judged
+  judgedAs Clear = J.Verdict (verdictOf plan (partsOf rule part) row)
+  judgedAs (Refused r) = J.Refused r
+
+  unfoldable pub judgeOf : Judged
+  judgeOf = judgedAs judgeOutcome
+
+  pub record JudgePromise (answer : Judged) : Type 0 where
+    pub isJudge : answer ≡ judgeOf
+    -- where it is no refusal: what the verdict says of the part's published truth on every pass of the row
+    pub meaning : (v : Verdict) → answer ≡ J.Verdict v
+        → VerdictMeans (startRows plan) (cycleRows plan) row (Holds (runOf plan) (formulaOf (partsOf rule) part)) v

@@ -1,0 +1,148 @@
+-- Demand 3: a mark table is accepted exactly where every part has on each cycle row the same published truth on all passes,
+-- every mark is the truth at its row's first position, and every witness is in order. Assumes nothing.
+use mathlib.Core.Path.{_≡_, sym, ap, subst, subst⁻¹}
+use mathlib.Core.Bool.{Bool}
+use mathlib.Core.List.{List}
+use mathlib.Core.Logic.{_↔_, Iff·rfl, Iff·symm, Iff·trans, by-cases}
+use Prim.Native.Nat.{ℕ, zero, suc, _+_, _*_, _-_, _≤_, _<_}
+use native.Mathlib.Nat.{not-suc-le-zero}
+use native.Mathlib.Decide.{decLt}
+use native.Mathlib.Omega.{arith}
+use lib.Dec.{T}
+use Rattle.cltlb.specs.Truth.{Formula, Holds}
+use Rattle.cltlb.specs.Parts.{formulaOf, NamesLower}
+use Rattle.cltlb.specs.declared.Part.{Part}
+use Rattle.cltlb.proofs.Depth.{formula-made}
+use Rattle.refusal.specs.First.{inTurn}
+use Rattle.refusal.specs.declared.Outcome.the-variants.{Clear}
+use Rattle.refusal.proofs.First.{inTurn-clear}
+use Rattle.plan.specs.Layout.{startRows, cycleRows, rows}
+use Rattle.plan.specs.Positions.{passOf}
+use Rattle.plan.specs.Run.{runOf}
+use Rattle.cltlb.specs.Fits.{ComparisonFits}
+use Rattle.marks.specs.Parts.{witnessInOrder, partOutcome}
+use Rattle.marks.specs.Meaning.{Truth, Settled, MarksTrue, WitnessesInOrder}
+use Rattle.marks.proofs.Tests.{T-path, T-ext}
+use Rattle.marks.proofs.Rows.{rowAt, first-position, start-row, from-start, is-row, row-0, again, row-and-pass}
+use Rattle.marks.proofs.Endless.{Agrees, markAt}
+use Rattle.marks.proofs.Comparisons.{judged-part}
+use Rattle.marks.proofs.Witnessed.{witness-exists}
+use Rattle.marks.proofs.Parts.{part-accepted}
+
+module _ (plan : List ℕ) (parts : ℕ → Part) (n : ℕ) (mark : ℕ → ℕ → Bool) where
+  -- The marks of part i are its published truth at every position.
+  abbrev pub TrueAt : ℕ → Type 0
+  TrueAt i = Agrees (markAt plan mark i) (Truth parts plan i)
+
+  abbrev pub TrueEverywhere : Type 0
+  TrueEverywhere = (i : ℕ) → i < n → TrueAt i
+
+  -- Refusals 9 to 11 turn nothing away.
+  abbrev pub Accepted : (ℕ → ℕ) → Type 0
+  Accepted witness = inTurn (λ i. partOutcome plan mark (parts i) i (witness i)) n ≡ Clear
+
+module _ (plan : List ℕ) (hC : 1 ≤ cycleRows plan) (parts : ℕ → Part) (n : ℕ) (mark : ℕ → ℕ → Bool) where
+  everywhere-settled : TrueEverywhere plan parts n mark → Settled parts n plan
+  unfolding Settled
+  everywhere-settled h i l row low high k =
+      Iff·trans (Iff·symm (h i l row)) (Iff·trans (T-path (ap (mark i) (sym (again plan hC row k low)))) (h i l (row + k * cycleRows plan)))
+
+  everywhere-marks : TrueEverywhere plan parts n mark → MarksTrue parts n plan mark
+  unfolding MarksTrue
+  everywhere-marks h i l row high = Iff·trans (T-path (ap (mark i) (sym (first-position plan row high)))) (h i l row)
+
+  settled-everywhere : Settled parts n plan → MarksTrue parts n plan mark → TrueEverywhere plan parts n mark
+  unfolding Settled MarksTrue
+  settled-everywhere settled marks i l t =
+      Iff·trans (marks i l row (is-row plan hC t)) (by-cases (decLt t (startRows plan)) start (λ q. cycle (omega arith)))
+    where
+      row : ℕ
+      row = rowAt plan t
+
+      start : t < startRows plan → Truth parts plan i row ↔ Truth parts plan i t
+      start q = subst⁻¹ (λ (x : ℕ). Truth parts plan i x ↔ Truth parts plan i t) (start-row plan t q) Iff·rfl
+
+      cycle : startRows plan ≤ t → Truth parts plan i row ↔ Truth parts plan i t
+      cycle q =
+          subst⁻¹ (λ (x : ℕ). Truth parts plan i row ↔ Truth parts plan i x) (row-and-pass plan hC t q)
+          (settled i l row (from-start plan t q) (is-row plan hC t) (passOf (startRows plan) (cycleRows plan) t))
+
+  -- The marks are the truth at every position exactly where the parts are settled and the marks are true on the rows.
+  pub everywhere-iff : TrueEverywhere plan parts n mark ↔ (Settled parts n plan × MarksTrue parts n plan mark)
+  everywhere-iff = (λ h. (everywhere-settled h, everywhere-marks h), λ p. settled-everywhere (p .0) (p .1))
+
+-- What refusals 1 to 3 clear of the parts: they name lower ones, and the terms of comparisons fit, with v channels.
+module _ (plan : List ℕ) (hC : 1 ≤ cycleRows plan) (parts : ℕ → Part) (n : ℕ) (low : (i : ℕ) → i < n → NamesLower i (parts i))
+    (v : ℕ) (fits : (i : ℕ) → i < n → ComparisonFits v (parts i)) where
+  module _ (mark : ℕ → ℕ → Bool) (witness : ℕ → ℕ) where
+    -- One part, where the marks of the lower ones are the truth.
+    one : (i : ℕ) → i < n → ((a : ℕ) → a < i → TrueAt plan parts n mark a)
+        → (partOutcome plan mark (parts i) i (witness i) ≡ Clear) ↔ (TrueAt plan parts n mark i × T (witnessInOrder (startRows plan) (cycleRows plan) mark (parts i) i (witness i)))
+    unfolding Truth
+    one i l named =
+        rw (formula-made parts n low i l)
+        (part-accepted plan mark (formulaOf parts) hC i (witness i) named (parts i) (low i l) (λ c. judged-part plan hC v (parts i) (fits i l) c (formulaOf parts)))
+
+    below : ((i : ℕ) → i < n → partOutcome plan mark (parts i) i (witness i) ≡ Clear) → (k i : ℕ) → i < k → i < n → TrueAt plan parts n mark i
+    below clear zero i h l = absurd (not-suc-le-zero h)
+    below clear (suc k) i h l = one i l (λ a q. below clear k a (omega arith) (omega arith)) .0 (clear i l) .0
+
+    -- A table is accepted exactly where its marks are the truth at every position and its witnesses are in order.
+    pub accepted-everywhere : Accepted plan parts n mark witness ↔ (TrueEverywhere plan parts n mark × WitnessesInOrder parts n plan mark witness)
+    unfolding WitnessesInOrder
+    accepted-everywhere = Iff·trans (inTurn-clear (λ i. partOutcome plan mark (parts i) i (witness i)) n) (
+      λ clear.
+          let all : TrueEverywhere plan parts n mark = λ i l. below clear (suc i) i (omega arith) l in
+          (all, λ i l. one i l (λ a q. all a (omega arith)) .0 (clear i l) .1),
+      λ p i l. one i l (λ a q. p .0 a (omega arith)) .1 (p .0 i l, p .1 i l),
+    )
+
+    -- An accepted table: the parts are settled, its marks are true, its witnesses are in order.
+    pub accepted-means : Accepted plan parts n mark witness
+        → Settled parts n plan × MarksTrue parts n plan mark × WitnessesInOrder parts n plan mark witness
+    accepted-means h =
+        let p = accepted-everywhere .0 h in
+        let q = everywhere-iff plan hC parts n mark .0 (p .0) in
+        (q .0, q .1, p .1)
+
+    -- A table of which this is so is accepted.
+    pub true-accepted : Settled parts n plan × MarksTrue parts n plan mark × WitnessesInOrder parts n plan mark witness
+        → Accepted plan parts n mark witness
+    true-accepted p = accepted-everywhere .1 (everywhere-iff plan hC parts n mark .1 (p .0, p .1), p .2)
+
+    -- The mark of the last part on row 0 is the whole rule's truth at position 0.
+    pub accepted-verdict : 1 ≤ n → Accepted plan parts n mark witness → T (mark (n - 1) 0) ↔ Truth parts plan (n - 1) 0
+    unfolding MarksTrue
+    accepted-verdict some h = accepted-means h .1 (n - 1) (omega arith) 0 (row-0 plan hC)
+
+  -- Every table of true marks is accepted with some witnesses.
+  pub true-marks-accepted : (mark : ℕ → ℕ → Bool) → Settled parts n plan → MarksTrue parts n plan mark
+      → (witness : ℕ → ℕ) × Accepted plan parts n mark witness
+  unfolding Truth WitnessesInOrder
+  true-marks-accepted mark settled marks = (
+    λ i. pick i (decLt i n),
+    true-accepted mark (λ i. pick i (decLt i n)) (settled, marks, λ i l. picked i l (decLt i n)),
+  )
+    where
+      right : TrueEverywhere plan parts n mark
+      right = everywhere-iff plan hC parts n mark .1 (settled, marks)
+
+      some : (i : ℕ) → i < n → (w : ℕ) × T (witnessInOrder (startRows plan) (cycleRows plan) mark (parts i) i w)
+      some i l =
+          witness-exists plan hC mark i (formulaOf parts) (λ a q. right a (omega arith)) (parts i) (low i l)
+          (subst (λ (g : Formula). Agrees (markAt plan mark i) (Holds (runOf plan) g)) (formula-made parts n low i l) (right i l))
+
+      pick : (i : ℕ) → Dec (i < n) → ℕ
+      pick i (yes l) = some i l .0
+      pick i (no l) = 0
+
+      picked : (i : ℕ) → i < n → (d : Dec (i < n)) → T (witnessInOrder (startRows plan) (cycleRows plan) mark (parts i) i (pick i d))
+      picked i l (yes k) = some i k .1
+      picked i l (no k) = absurd (k l)
+
+  -- The accepted table is unique but for witnesses.
+  pub accepted-unique : (mark other : ℕ → ℕ → Bool) (witness others : ℕ → ℕ) → Accepted plan parts n mark witness → Accepted plan parts n other others
+      → (i row : ℕ) → i < n → row < rows plan → mark i row ≡ other i row
+  unfolding MarksTrue
+  accepted-unique mark other witness others h k i row l q =
+      T-ext (mark i row) (other i row) (Iff·trans (accepted-means mark witness h .1 i l row q) (Iff·symm (accepted-means other others k .1 i l row q)))

@@ -1,0 +1,16 @@
+pub mod Tests
+pub mod AllBelow
+pub mod Places
+pub mod Refused
+pub mod Beside
+pub mod ByKind
+pub mod Outcomes
+pub mod Rows
+pub mod Endless
+pub mod Operators
+pub mod Comparisons
+pub mod Unrolled
+pub mod Witnesses
+pub mod Witnessed
+pub mod Parts
+pub mod Accepted

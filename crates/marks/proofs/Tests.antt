@@ -1,0 +1,77 @@
+-- Tests against the statements that they decide. Assumes nothing.
+use mathlib.Core.Path.{_≡_, refl, subst, subst⁻¹}
+use mathlib.Core.Bool.{Bool, true, false, not, _&&_, _||_, Bool·beq}
+use mathlib.Core.Logic.{_↔_, _⊎_, inl, inr, ⊎-elim}
+use lib.Dec.{T, T-not, not-T}
+use Rattle.marks.specs.Tables.{flipped}
+
+pub T-dec : (x : Bool) → T x ⊎ T (not x)
+T-dec true = inl tt
+T-dec false = inr tt
+
+pub T-path : {x y : Bool} → x ≡ y → T x ↔ T y
+T-path e = (subst T e, subst⁻¹ T e)
+
+pub T-ext : (x y : Bool) → T x ↔ T y → x ≡ y
+T-ext true true h = refl
+T-ext true false h = absurd (h .0 tt)
+T-ext false true h = absurd (h .1 tt)
+T-ext false false h = refl
+
+pub T-true : (x : Bool) → T x ↔ (x ≡ true)
+T-true true = (λ _. refl, λ _. tt)
+T-true false = (absurd, λ e. subst⁻¹ T e tt)
+
+-- Two tests are the same, by the test of it that a refusal makes.
+pub beq-false : (x y : Bool) → (not (Bool·beq x y) ≡ false) ↔ (x ≡ y)
+beq-false true true = (λ _. refl, λ _. refl)
+beq-false true false = (λ e. e, λ e. e)
+beq-false false true = (λ e. subst (λ b. b ≡ true) e refl, λ e. subst (λ b. b ≡ false) e refl)
+beq-false false false = (λ _. refl, λ _. refl)
+
+pub beq-T : (x y : Bool) → T (Bool·beq x y) ↔ (x ≡ y)
+beq-T true true = (λ _. refl, λ _. tt)
+beq-T true false = (absurd, λ e. subst T e tt)
+beq-T false true = (absurd, λ e. subst⁻¹ T e tt)
+beq-T false false = (λ _. refl, λ _. tt)
+
+-- Boolean operations against the statements that they stand for.
+pub not-iff : {X : Type 0} (x : Bool) → T x ↔ X → T (not x) ↔ (¬ X)
+not-iff x f = (λ n h. T-not x n (f .1 h), λ g. not-T x (λ h. g (f .0 h)))
+
+pub and-iff : {X Y : Type 0} (x y : Bool) → T x ↔ X → T y ↔ Y → T (x && y) ↔ (X × Y)
+and-iff true y f g = (λ h. (f .0 tt, g .0 h), λ p. g .1 (p .1))
+and-iff false y f g = (absurd, λ p. f .1 (p .0))
+
+pub or-iff : {X Y : Type 0} (x y : Bool) → T x ↔ X → T y ↔ Y → T (x || y) ↔ (X ⊎ Y)
+or-iff true y f g = (λ _. inl (f .0 tt), λ _. tt)
+or-iff false y f g = (λ h. inr (g .0 h), ⊎-elim (λ h. absurd (f .1 h)) (g .1))
+
+-- A test that decides a statement.
+pub decided : {X : Type 0} (x : Bool) → T x ↔ X → X ⊎ (X → ⊥)
+decided true f = inl (f .0 tt)
+decided false f = inr (f .1)
+
+-- A statement is the denial of what the denied test decides.
+pub denied : {X : Type 0} (x : Bool) → T (not x) ↔ X → T x ↔ (¬ X)
+denied true f = (λ _. f .1, λ _. tt)
+denied false f = (absurd, λ g. g (f .0 tt))
+
+-- R is U of the opposites.
+pub de-morgan : (x y z : Bool) → not (x && (y || z)) ≡ (not x || (not y && not z))
+de-morgan true true z = refl
+de-morgan true false z = refl
+de-morgan false y z = refl
+
+pub beq-not : (x y : Bool) → Bool·beq (not x) (not y) ≡ Bool·beq x y
+beq-not true true = refl
+beq-not true false = refl
+beq-not false true = refl
+beq-not false false = refl
+
+-- The exclusive or flips a test.
+pub xor-flips : (x o : Bool) → not (Bool·beq x o) ≡ flipped o x
+xor-flips true true = refl
+xor-flips true false = refl
+xor-flips false true = refl
+xor-flips false false = refl

@@ -1,0 +1,34 @@
+-- `marks::equations::row_after` meets its contract. Assumes nothing.
+use mathlib.Core.Path.{sym, ap, _∙_}
+use native.Mathlib.Omega.{arith}
+use Rattle.plan.specs.Positions.{last, after}
+use Rattle.plan.proofs.Rows.{after-last, after-other}
+use borrow.Author.Needs.{needs}
+use Rattle.marks.proofs.equations.row_after.Statement.{statement}
+use Rattle.marks.proofs.equations.row_after.Tie as tie
+use Rattle.marks.proofs.equations.row_after.Reads as reads
+use Rattle.marks.proofs.equations.row_after.Lts as lts
+
+-- src/equations.rt:101:15
+add-if1 : tie.Need-add-if1
+add-if1 c = search needs
+
+-- src/equations.rt:101:15
+sub-if1 : tie.Need-sub-if1
+sub-if1 c = search needs
+
+-- src/equations.rt:101:38
+add-result : tie.Need-add-result
+add-result c = search needs
+
+-- src/equations.rt:97:1
+returns : tie.Need-returns
+unfolding last
+returns c = (sym (ap (after (c .before .args .p) (c .before .args .c)) (c .if1 .taken) ∙ after-last (c .before .args .p) (c .before .args .c)), omega arith)
+
+-- src/equations.rt:97:1
+returns-2 : tie.Need-returns-2
+returns-2 c = (sym (after-other (c .before .args .p) (c .before .args .c) (c .before .args .row) (omega (arith, c .if1 .left))), omega (arith, c .if1 .left))
+
+pub row-after-spec : {M : Type 1} → statement M
+row-after-spec = tie.close (tie.spec add-if1 sub-if1 add-result returns returns-2)

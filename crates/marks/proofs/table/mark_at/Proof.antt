@@ -1,0 +1,22 @@
+-- `marks::table::mark_at` meets its contract. Assumes nothing.
+use mathlib.Core.Path.{ap}
+use lib.Dec.{eqb}
+use Rattle.marks.specs.Layout.{marked}
+use borrow.Author.Needs.{needs}
+use Rattle.marks.proofs.table.mark_at.Statement.{statement}
+use Rattle.marks.proofs.table.mark_at.Tie as tie
+use Rattle.marks.proofs.table.mark_at.Reads as reads
+use Rattle.marks.proofs.table.mark_at.Lts as lts
+use Rattle.marks.proofs.table.mark_byte.Reads as mark-byte-reads
+
+-- src/table.rt:26:5
+mark-byte-requires : tie.Need-mark-byte-requires
+mark-byte-requires c κs = search needs
+
+-- src/table.rt:22:1
+returns : tie.Need-returns
+unfolding marked
+returns c = ap (λ x. eqb x 1) (c .mark-byte .ensures)
+
+pub mark-at-spec : {M : Type 1} → statement M
+mark-at-spec = tie.close (tie.spec mark-byte-requires returns)
