@@ -1,0 +1,17 @@
+/*
+ * plain_check.h: check and judge in plain C, to time the exported ones beside.
+ * The same arguments and the same answers as in include/endless_run.h.
+ */
+#ifndef PLAIN_CHECK_H
+#define PLAIN_CHECK_H
+
+#include <stddef.h>
+#include <stdint.h>
+
+uint64_t plain_check(const uint8_t *rule, size_t rule_len, const uint8_t *plan, size_t plan_len,
+                     const uint8_t *marks, size_t marks_len);
+
+uint64_t plain_judge(const uint8_t *rule, size_t rule_len, const uint8_t *plan, size_t plan_len,
+                     uint64_t part, uint64_t row);
+
+#endif

@@ -1,0 +1,117 @@
+-- The meaning of an answer, carried through the packing. Assumes nothing.
+use Prim.Native.Nat.{ℕ, _+_, _*_, _-_, _≤_, _<_}
+use native.Mathlib.Omega.{arith}
+use mathlib.Core.Path.{_≡_, refl, sym, ap, _∙_, subst}
+use mathlib.Core.List.{List}
+use mathlib.Core.Bool.{Bool, true, false}
+use mathlib.Core.Logic.{_↔_}
+use lib.Dec.{T}
+use Rattle.refusal.specs.declared.Refusal.{Refusal}
+use Rattle.refusal.specs.declared.Refusal.the-variants.{RuleSizes, Kind, Operand, PlanSizes, Channels, StartDrift, MarkSizes, MarkByte, Equation, Closing, Witness, Absent}
+use Rattle.refusal.specs.Report.{reportOf}
+use Rattle.rule.specs.Layout.{partCount}
+use Rattle.judge.specs.declared.Verdict.{Verdict}
+use Rattle.judge.specs.declared.Verdict.the-variants.{AlwaysTrue, AlwaysFalse, Changes}
+use Rattle.judge.specs.declared.Judged.{Judged}
+use Rattle.judge.specs.declared.Judged.the-variants as J
+use Rattle.judge.specs.Judge.{JudgePromise}
+use Rattle.acceptance.specs.declared.Checked.{Checked}
+use Rattle.acceptance.specs.declared.Checked.the-variants as C
+use Rattle.acceptance.specs.Promise.{Cleared, RuleTruth, TableRight, CheckPromise}
+use Rattle.endless_run.specs.Packing.{refusalWord, verdictBit, checkWord, verdictWord, judgeWord}
+use Rattle.endless_run.specs.Promise.{CheckWordPromise, JudgeWordPromise}
+
+-- numbers are 1 to 12, so that a refusal is no small number
+pub number-within : (r : Refusal) → (1 ≤ reportOf r .number) × (reportOf r .number ≤ 12)
+number-within RuleSizes = omega arith
+number-within (Kind p) = omega arith
+number-within (Operand p) = omega arith
+number-within PlanSizes = omega arith
+number-within Channels = omega arith
+number-within (StartDrift r) = omega arith
+number-within MarkSizes = omega arith
+number-within (MarkByte p r) = omega arith
+number-within (Equation p r) = omega arith
+number-within (Closing p r) = omega arith
+number-within (Witness p) = omega arith
+number-within Absent = omega arith
+
+refusal-large : (r : Refusal) → 3 ≤ refusalWord r
+unfolding refusalWord
+refusal-large r = omega (arith, number-within r)
+
+module _ (rule plan table : List ℕ) where
+  -- by cases on the answer, once its word is known to be small
+  small-check : (a : Checked) → checkWord a < 2 → (v : Bool) × (a ≡ C.Accepted v)
+  unfolding checkWord
+  small-check (C.Accepted v) h = (v, refl)
+  small-check (C.Refused r) h = absurd (omega (arith, refusal-large r))
+
+  bit-small : (v : Bool) → verdictBit v < 2
+  bit-small true = omega arith
+  bit-small false = omega arith
+
+  accepted-small : (a : Checked) (v : Bool) → a ≡ C.Accepted v → checkWord a < 2
+  unfolding checkWord
+  accepted-small a v e = subst (λ (x : Checked). checkWord x < 2) (sym e) (bit-small v)
+
+  bit-one : (v : Bool) → (verdictBit v ≡ 1) ↔ T v
+  bit-one true = (λ _. tt, λ _. refl)
+  bit-one false = (λ e. absurd (omega arith), λ t. absurd t)
+
+  word-of : (a : Checked) (v : Bool) → a ≡ C.Accepted v → checkWord a ≡ verdictBit v
+  unfolding checkWord
+  word-of a v e = ap checkWord e
+
+  pub check-word : {a : Checked} {word : ℕ} → word ≡ checkWord a → CheckPromise rule plan table a → CheckWordPromise rule plan table word
+  check-word {a} {word} e p = record {
+    isCheck = e ∙ ap checkWord (p .isCheck);
+    accepts = λ c. (
+      λ h. p .accepts c .0 (small-check a (subst (λ (n : ℕ). n < 2) e h)),
+      λ r. let q = p .accepts c .1 r in subst (λ (n : ℕ). n < 2) (sym e) (accepted-small a (q .0) (q .1)),
+    );
+    holds = λ h.
+        let q = small-check a (subst (λ (n : ℕ). n < 2) e h) in
+        let w : word ≡ verdictBit (q .0) = e ∙ word-of a (q .0) (q .1) in
+        let t = p .verdict (q .0) (q .1) in (
+          λ o. t .0 (bit-one (q .0) .0 (sym w ∙ o)),
+          λ r. w ∙ bit-one (q .0) .1 (t .1 r),
+        );
+  }
+
+module _ (rule plan : List ℕ) (part row : ℕ) where
+  small-judge : (a : Judged) → judgeWord a < 3 → (v : Verdict) × (a ≡ J.Verdict v)
+  unfolding judgeWord
+  small-judge (J.Verdict v) h = (v, refl)
+  small-judge (J.Refused r) h = absurd (omega (arith, refusal-large r))
+
+  judged-word : (a : Judged) (v : Verdict) → a ≡ J.Verdict v → judgeWord a ≡ verdictWord v
+  unfolding judgeWord
+  judged-word a v e = ap judgeWord e
+
+  is-false : (v : Verdict) → (verdictWord v ≡ 0) ↔ (v ≡ AlwaysFalse)
+  is-false AlwaysFalse = (λ _. refl, λ _. refl)
+  is-false AlwaysTrue = (λ e. absurd (omega arith), λ e. absurd (let z : _≡_ {A = ℕ} 0 1 = cc in omega arith))
+  is-false Changes = (λ e. absurd (omega arith), λ e. absurd (let z : _≡_ {A = ℕ} 0 1 = cc in omega arith))
+
+  is-true : (v : Verdict) → (verdictWord v ≡ 1) ↔ (v ≡ AlwaysTrue)
+  is-true AlwaysFalse = (λ e. absurd (omega arith), λ e. absurd (let z : _≡_ {A = ℕ} 0 1 = cc in omega arith))
+  is-true AlwaysTrue = (λ _. refl, λ _. refl)
+  is-true Changes = (λ e. absurd (omega arith), λ e. absurd (let z : _≡_ {A = ℕ} 0 1 = cc in omega arith))
+
+  is-changes : (v : Verdict) → (verdictWord v ≡ 2) ↔ (v ≡ Changes)
+  is-changes AlwaysFalse = (λ e. absurd (omega arith), λ e. absurd (let z : _≡_ {A = ℕ} 0 1 = cc in omega arith))
+  is-changes AlwaysTrue = (λ e. absurd (omega arith), λ e. absurd (let z : _≡_ {A = ℕ} 0 1 = cc in omega arith))
+  is-changes Changes = (λ _. refl, λ _. refl)
+
+  -- a word against a statement that the verdict is equivalent to
+  through : {word n : ℕ} {S : Type 0} (v w : Verdict) → word ≡ verdictWord v → (verdictWord v ≡ n) ↔ (v ≡ w) → (v ≡ w) ↔ S → (word ≡ n) ↔ S
+  through v w e f g = (λ h. g .0 (f .0 (sym e ∙ h)), λ s. e ∙ f .1 (g .1 s))
+
+  pub judge-word : {a : Judged} {word : ℕ} → word ≡ judgeWord a → JudgePromise rule plan part row a → JudgeWordPromise rule plan part row word
+  judge-word {a} {word} e p = record {
+    isJudge = e ∙ ap judgeWord (p .isJudge);
+    alwaysFalse = λ h. let q = small-judge a (subst (λ (n : ℕ). n < 3) e h) in through (q .0) AlwaysFalse (e ∙ judged-word a (q .0) (q .1)) (is-false (q .0)) (p .meaning (q .0) (q .1) .alwaysFalse);
+    alwaysTrue = λ h. let q = small-judge a (subst (λ (n : ℕ). n < 3) e h) in through (q .0) AlwaysTrue (e ∙ judged-word a (q .0) (q .1)) (is-true (q .0)) (p .meaning (q .0) (q .1) .alwaysTrue);
+    changes = λ h. let q = small-judge a (subst (λ (n : ℕ). n < 3) e h) in through (q .0) Changes (e ∙ judged-word a (q .0) (q .1)) (is-changes (q .0)) (p .meaning (q .0) (q .1) .changes);
+  }

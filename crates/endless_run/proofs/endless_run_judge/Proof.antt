@@ -1,0 +1,55 @@
+use denote.Ref.{now}
+use mathlib.Core.Path.{ap, sym, _∙_}
+use Rattle.endless_run.specs.Packing.{judgeWord}
+use Rattle.judge.proofs.Promised.{judge-names}
+use Rattle.endless_run.proofs.Words.{judge-word}
+use borrow.Author.Needs.{needs}
+use Rattle.endless_run.proofs.endless_run_judge.Statement.{statement}
+use Rattle.endless_run.proofs.endless_run_judge.Tie as tie
+use Rattle.endless_run.proofs.endless_run_judge.Reads as reads
+use Rattle.endless_run.proofs.endless_run_judge.Lts as lts
+use Rattle.endless_run.proofs.refusal_word.Reads as refusal-word-reads
+use Rattle.endless_run.proofs.verdict_word.Reads as verdict-word-reads
+use Rattle.judge.proofs.judge.Reads as judge-reads
+
+-- src/lib.rt:50:11
+judge-requires : tie.Need-judge-requires
+judge-requires c κs = search needs
+
+-- src/lib.rt:51:25
+enum-known-verdict : tie.Need-enum-known-verdict
+enum-known-verdict c = search needs
+
+-- src/lib.rt:51:37
+verdict-word-requires : tie.Need-verdict-word-requires
+verdict-word-requires c κs = search needs
+
+-- src/lib.rt:52:25
+enum-known-refusal : tie.Need-enum-known-refusal
+enum-known-refusal c = search needs
+
+-- src/lib.rt:52:37
+refusal-word-requires : tie.Need-refusal-word-requires
+refusal-word-requires c κs = judge-names (now (c .before .before .before .before .before .before .args .rule)) (now (c .before .before .before .before .before .before .args .plan)) (c .before .before .before .before .before .before .args .part) (c .before .before .before .before .before .before .args .row) (c .before .before .before .judge .ensures .isJudge) _ (c .before .refusal .given .1)
+
+-- src/lib.rt:46:1
+returns : tie.Need-returns
+unfolding judgeWord
+returns c = judge-word (now (c .before .before .before .before .before .before .before .args .rule)) (now (c .before .before .before .before .before .before .before .args .plan)) (c .before .before .before .before .before .before .before .args .part) (c .before .before .before .before .before .before .before .args .row) (c .verdict-word .ensures ∙ sym (ap judgeWord (c .before .before .verdict .given .1))) (c .before .before .before .before .judge .ensures)
+
+-- src/lib.rt:46:1
+returns-2 : tie.Need-returns-2
+unfolding judgeWord
+returns-2 c = judge-word (now (c .before .before .before .before .before .before .before .args .rule)) (now (c .before .before .before .before .before .before .before .args .plan)) (c .before .before .before .before .before .before .before .args .part) (c .before .before .before .before .before .before .before .args .row) (c .refusal-word .ensures ∙ sym (ap judgeWord (c .before .before .refusal .given .1))) (c .before .before .before .before .judge .ensures)
+
+pub endless-run-judge-spec : {M : Type 1} → statement M
+endless-run-judge-spec =
+    tie.close
+    (tie.spec
+    judge-requires
+    enum-known-verdict
+    verdict-word-requires
+    enum-known-refusal
+    refusal-word-requires
+    returns
+    returns-2)

@@ -1,0 +1,32 @@
+-- What the exported functions promise of the numbers that they return, on all inputs. Assumes nothing.
+use Prim.Native.Nat.{ℕ, _-_, _<_}
+use mathlib.Core.Path.{_≡_}
+use mathlib.Core.List.{List}
+use mathlib.Core.Logic.{_↔_}
+use Rattle.cltlb.specs.Truth.{Holds}
+use Rattle.cltlb.specs.Parts.{formulaOf}
+use Rattle.rule.specs.Layout.{partCount}
+use Rattle.rule.specs.Take.{partsOf}
+use Rattle.plan.specs.Layout.{startRows, cycleRows}
+use Rattle.plan.specs.Positions.{rowOf}
+use Rattle.plan.specs.Run.{runOf}
+use Rattle.judge.specs.Judge.{judgeOf}
+use Rattle.acceptance.specs.Check.{checkOf}
+use Rattle.acceptance.specs.Promise.{Cleared, RuleTruth, TableRight}
+use Rattle.endless_run.specs.Packing.{checkWord, judgeWord}
+
+-- endless_run_check
+pub record CheckWordPromise (rule plan table : List ℕ) (word : ℕ) : Type 0 where
+  pub isCheck : word ≡ checkWord (checkOf rule plan table)
+  -- whatever clears refusals 1 to 8: 0 or 1 exactly where the table is right
+  pub accepts : Cleared rule plan table → (word < 2) ↔ TableRight rule plan table
+  -- 1 where the whole rule holds at position 0, 0 where it does not
+  pub holds : word < 2 → (word ≡ 1) ↔ RuleTruth rule plan (partCount rule - 1) 0
+
+-- endless_run_judge: of the published truth of the part at every position that lies on the row, that is, on every pass
+pub record JudgeWordPromise (rule plan : List ℕ) (part row word : ℕ) : Type 0 where
+  pub isJudge : word ≡ judgeWord (judgeOf rule plan part row)
+  pub alwaysFalse : word < 3 → (word ≡ 0) ↔ ((t : ℕ) → rowOf (startRows plan) (cycleRows plan) t ≡ row → ¬ Holds (runOf plan) (formulaOf (partsOf rule) part) t)
+  pub alwaysTrue : word < 3 → (word ≡ 1) ↔ ((t : ℕ) → rowOf (startRows plan) (cycleRows plan) t ≡ row → Holds (runOf plan) (formulaOf (partsOf rule) part) t)
+  pub changes : word < 3 → (word ≡ 2) ↔ (((t : ℕ) × (rowOf (startRows plan) (cycleRows plan) t ≡ row) × Holds (runOf plan) (formulaOf (partsOf rule) part) t)
+      × ((t : ℕ) × (rowOf (startRows plan) (cycleRows plan) t ≡ row) × (¬ Holds (runOf plan) (formulaOf (partsOf rule) part) t)))

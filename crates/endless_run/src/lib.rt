@@ -1,0 +1,52 @@
+// What C calls: the whole check and judge over byte slices, each answer packed into one number.
+ghost use mathlib.Core.Path.{_≡_};
+ghost use Prim.Native.Nat.{_<_};
+ghost use Rattle.refusal.specs.Report.{reportOf};
+ghost use Rattle.endless_run.specs.Packing.{refusalWord, verdictWord};
+ghost use Rattle.endless_run.specs.Promise.{CheckWordPromise, JudgeWordPromise};
+use acceptance::Checked;
+use judge::Judged;
+use judge::Verdict;
+use refusal::Refusal;
+
+// A refusal as one number: number × 2^32 + part × 2^16 + row.
+fn refusal_word(refusal: Refusal) -> u64
+    requires { ⌜ (reportOf refusal .part < 65536) × (reportOf refusal .row < 65536) ⌝ }
+    ensures { λ r. ⌜ r ≡ refusalWord refusal ⌝ }
+{
+    let report = refusal::report_of(refusal);
+    let number = report.number;
+    let part = report.part;
+    let row = report.row;
+    (number as u64) * 4294967296 + (part as u64) * 65536 + (row as u64)
+}
+
+fn verdict_word(verdict: Verdict) -> u64
+    ensures { λ r. ⌜ r ≡ verdictWord verdict ⌝ }
+{
+    match verdict {
+        Verdict::AlwaysFalse => 0,
+        Verdict::AlwaysTrue => 1,
+        Verdict::Changes => 2,
+    }
+}
+
+#[no_mangle]
+pub extern "C" fn endless_run_check(rule: &[u8], plan: &[u8], marks: &[u8]) -> u64
+    ensures { λ r. ⌜ CheckWordPromise (now (rule .entry)) (now (plan .entry)) (now (marks .entry)) r ⌝ }
+{
+    match acceptance::check(rule, plan, marks) {
+        Checked::Accepted(holds) => { if holds { 1 } else { 0 } }
+        Checked::Refused(refusal) => refusal_word(refusal),
+    }
+}
+
+#[no_mangle]
+pub extern "C" fn endless_run_judge(rule: &[u8], plan: &[u8], part: u64, row: u64) -> u64
+    ensures { λ r. ⌜ JudgeWordPromise (now (rule .entry)) (now (plan .entry)) part row r ⌝ }
+{
+    match judge::judge(rule, plan, part as usize, row as usize) {
+        Judged::Verdict(verdict) => verdict_word(verdict),
+        Judged::Refused(refusal) => refusal_word(refusal),
+    }
+}

@@ -1,0 +1,292 @@
+/*
+ * planner.c: a small planner that has its mark tables checked.
+ *
+ * The rule: a pinned count is never averaged until a lower one has come. A
+ * count is pinned at 4095, the most that its converter gives. Channel 0 is the
+ * count, channel 1 is 1 on rows that are averaged and 0 on others. As parts:
+ *
+ *   0  count < 4095                     a lower one
+ *   1  averaged = 1
+ *   2  not 1
+ *   3  2 U 0                            not averaged until a lower one
+ *   4  1 < 0                            never
+ *   5  4 R 3                            part 3, always: the whole rule
+ *
+ * Where the count is lower, part 3 holds at once, so it need not be said apart
+ * that it speaks of pinned counts. U also asks that a lower one does come.
+ *
+ * The program writes rule.bin, plan.bin and marks.bin of its first plan into
+ * the current folder, has the same bytes checked, and then shows three tables
+ * that are answered otherwise. Build and run, from the repository's root:
+ *
+ *   cc -std=c11 -Wall -Wextra -o planner examples/planner.c target/staticlib/libendless_run.a
+ *   ./planner
+ */
+#include "../include/endless_run.h"
+
+#include <stdio.h>
+
+enum { LIMIT = 4095, PARTS = 6, CHANNELS = 2, MOST_ROWS = 8, NO_WITNESS = 65535 };
+enum { LOWER, AVERAGED, NOT_AVERAGED, UNTIL_LOWER, NEVER, WHOLE };
+enum { LESS = 1, EQUAL = 2, NOT = 3, UNTIL = 7, RELEASE = 8 };
+
+/* What the planner decides: rows of counts, some of them averaged. */
+struct row {
+    int32_t count, averaged;
+    int32_t drift; /* of the count, for each pass */
+};
+
+struct plan {
+    int start, cycle; /* start rows, then cycle rows */
+    struct row row[MOST_ROWS];
+};
+
+struct bytes {
+    size_t len;
+    uint8_t at[512];
+};
+
+/* ---- Writing fields ---- */
+
+static void put1(struct bytes *b, unsigned n)
+{
+    b->at[b->len++] = (uint8_t)n;
+}
+
+static void put2(struct bytes *b, unsigned n)
+{
+    put1(b, n % 256);
+    put1(b, n / 256 % 256);
+}
+
+static void put4(struct bytes *b, int32_t n)
+{
+    put2(b, (uint32_t)n % 65536);
+    put2(b, (uint32_t)n / 65536);
+}
+
+/* ---- The rule sheet ---- */
+
+static void put_constant(struct bytes *b, int32_t number)
+{
+    put1(b, 0); /* form: a constant */
+    put1(b, 4); /* shift code: none */
+    put4(b, number);
+}
+
+static void put_channel(struct bytes *b, int channel)
+{
+    put1(b, 1); /* form: a reading */
+    put1(b, 4); /* shift code: this row */
+    put4(b, channel);
+}
+
+static void put_names(struct bytes *b, unsigned first, unsigned second)
+{
+    put2(b, first);
+    put2(b, second);
+    for (int i = 0; i < 8; i++)
+        put1(b, 0);
+}
+
+static struct bytes make_rule(void)
+{
+    static const uint8_t kinds[PARTS] = { LESS, EQUAL, NOT, UNTIL, LESS, RELEASE };
+    struct bytes b = { 0, { 0 } };
+    put2(&b, PARTS);
+    put2(&b, CHANNELS);
+    for (int part = 0; part < PARTS; part++)
+        put1(&b, kinds[part]);
+    put_channel(&b, 0); /* LOWER */
+    put_constant(&b, LIMIT);
+    put_channel(&b, 1); /* AVERAGED */
+    put_constant(&b, 1);
+    put_names(&b, AVERAGED, 0); /* NOT_AVERAGED names one part */
+    put_names(&b, NOT_AVERAGED, LOWER);
+    put_constant(&b, 1); /* NEVER */
+    put_constant(&b, 0);
+    put_names(&b, NEVER, UNTIL_LOWER);
+    return b;
+}
+
+/* ---- The plan ---- */
+
+static struct bytes make_plan(const struct plan *plan)
+{
+    struct bytes b = { 0, { 0 } };
+    int rows = plan->start + plan->cycle;
+    put2(&b, CHANNELS);
+    put2(&b, (unsigned)plan->start);
+    put2(&b, (unsigned)plan->cycle);
+    for (int i = 0; i < rows; i++) {
+        put4(&b, plan->row[i].count);
+        put4(&b, plan->row[i].averaged);
+    }
+    for (int i = 0; i < rows; i++) {
+        put4(&b, plan->row[i].drift);
+        put4(&b, 0);
+    }
+    return b;
+}
+
+/* ---- The mark table ---- */
+
+/* Marks of U and R go backward from the last row, which is followed by the
+   first cycle row. Two rounds settle them. */
+static void sweep(int mark[PARTS][MOST_ROWS], const struct plan *plan)
+{
+    int rows = plan->start + plan->cycle;
+    int until = 0, whole = 1; /* U begins with false, R with true */
+    for (int round = 0; round < 2; round++) {
+        for (int i = rows - 1; i >= 0; i--) {
+            until = mark[LOWER][i] || (mark[NOT_AVERAGED][i] && until);
+            mark[UNTIL_LOWER][i] = until;
+        }
+        until = mark[UNTIL_LOWER][plan->start];
+    }
+    for (int round = 0; round < 2; round++) {
+        for (int i = rows - 1; i >= 0; i--) {
+            whole = mark[UNTIL_LOWER][i] && (mark[NEVER][i] || whole);
+            mark[WHOLE][i] = whole;
+        }
+        whole = mark[WHOLE][plan->start];
+    }
+}
+
+/* A cycle row where a part is marked so. */
+static unsigned witness(int mark[PARTS][MOST_ROWS], const struct plan *plan, int part, int value)
+{
+    for (int i = plan->start; i < plan->start + plan->cycle; i++)
+        if (mark[part][i] == value)
+            return (unsigned)i;
+    return NO_WITNESS;
+}
+
+static struct bytes make_marks(const struct plan *plan)
+{
+    struct bytes b = { 0, { 0 } };
+    int mark[PARTS][MOST_ROWS];
+    int rows = plan->start + plan->cycle;
+    for (int i = 0; i < rows; i++) {
+        mark[LOWER][i] = plan->row[i].count < LIMIT;
+        mark[AVERAGED][i] = plan->row[i].averaged == 1;
+        mark[NOT_AVERAGED][i] = !mark[AVERAGED][i];
+        mark[NEVER][i] = 0;
+    }
+    sweep(mark, plan);
+
+    put2(&b, PARTS);
+    put2(&b, (unsigned)rows);
+    for (int part = 0; part < PARTS; part++)
+        for (int i = 0; i < rows; i++)
+            put1(&b, (unsigned)mark[part][i]);
+    for (int part = 0; part < PARTS; part++)
+        put2(&b, part == UNTIL_LOWER && mark[part][rows - 1] ? witness(mark, plan, LOWER, 1)
+                 : part == WHOLE && !mark[part][rows - 1]    ? witness(mark, plan, UNTIL_LOWER, 0)
+                                                             : NO_WITNESS);
+    return b;
+}
+
+/* ---- Answers in words ---- */
+
+static const char *meaning(unsigned number)
+{
+    switch (number) {
+    case ENDLESS_RUN_RULE_SIZES:
+        return "the rule's sizes or length are wrong";
+    case ENDLESS_RUN_KIND:
+        return "a kind byte is unknown";
+    case ENDLESS_RUN_OPERAND:
+        return "an operand breaks the layout";
+    case ENDLESS_RUN_PLAN_SIZES:
+        return "the plan's sizes or length are wrong";
+    case ENDLESS_RUN_CHANNELS:
+        return "the plan and the rule differ in channels";
+    case ENDLESS_RUN_START_DRIFT:
+        return "a start row has a drift";
+    case ENDLESS_RUN_MARK_SIZES:
+        return "the mark table's sizes or length are wrong";
+    case ENDLESS_RUN_MARK_BYTE:
+        return "a mark byte is above 1";
+    case ENDLESS_RUN_EQUATION:
+        return "a mark is not what the plan and the other marks give";
+    case ENDLESS_RUN_CLOSING:
+        return "the part's truth on this row is not the same on all passes";
+    case ENDLESS_RUN_WITNESS:
+        return "a witness is not in order";
+    case ENDLESS_RUN_ABSENT:
+        return "there is no such comparison or row";
+    default:
+        return "unknown";
+    }
+}
+
+static void show(uint64_t answer)
+{
+    if (endless_run_is_refusal(answer))
+        printf("  refused %u, part %u, row %u: %s\n", endless_run_number(answer),
+               endless_run_part(answer), endless_run_row(answer),
+               meaning(endless_run_number(answer)));
+    else
+        printf("  accepted %d: the marks are right on every pass, and the rule %s\n",
+               endless_run_verdict(answer),
+               endless_run_verdict(answer) ? "holds" : "does not hold");
+}
+
+static uint64_t check(const struct bytes *rule, const struct bytes *plan, const struct bytes *marks)
+{
+    return endless_run_check(rule->at, rule->len, plan->at, plan->len, marks->at, marks->len);
+}
+
+static int write_file(const char *name, const struct bytes *b)
+{
+    FILE *file = fopen(name, "wb");
+    if (file == NULL) {
+        perror(name);
+        return 0;
+    }
+    int written = fwrite(b->at, 1, b->len, file) == b->len;
+    int closed = fclose(file) == 0;
+    return written && closed;
+}
+
+/* ---- The plans ---- */
+
+/* One start row, then a cycle of four: pinned twice, lower, lower. */
+static const struct plan patient = {
+    1, 4, { { 3000, 1, 0 }, { 4095, 0, 0 }, { 4095, 0, 0 }, { 3900, 1, 0 }, { 3800, 1, 0 } }
+};
+
+int main(void)
+{
+    struct bytes rule = make_rule(), plan = make_plan(&patient), marks = make_marks(&patient);
+    if (!write_file("rule.bin", &rule) || !write_file("plan.bin", &plan) ||
+        !write_file("marks.bin", &marks))
+        return 1;
+    printf("Averages only after a lower count (rule.bin, plan.bin, marks.bin):\n");
+    show(check(&rule, &plan, &marks));
+
+    printf("The same, but row 1 is marked as a lower count:\n");
+    struct bytes false_marks = marks;
+    false_marks.at[4 + 5 * LOWER + 1] = 1;
+    show(check(&rule, &plan, &false_marks));
+
+    printf("Averages a pinned count on row 2, with right marks:\n");
+    struct plan hasty = patient;
+    hasty.row[2].averaged = 1;
+    plan = make_plan(&hasty);
+    marks = make_marks(&hasty);
+    show(check(&rule, &plan, &marks));
+
+    printf("As the first, but row 3 rises by 1 on each pass, from 3900:\n");
+    struct plan rising = patient;
+    rising.row[3].drift = 1;
+    plan = make_plan(&rising);
+    marks = make_marks(&rising);
+    show(check(&rule, &plan, &marks));
+    uint64_t judged = endless_run_judge(rule.at, rule.len, plan.at, plan.len, LOWER, 3);
+    if (judged == ENDLESS_RUN_CHANGES)
+        printf("  judged: count < %d on row 3 changes, as the count is %d on pass %d\n", LIMIT,
+               LIMIT, LIMIT - rising.row[3].count);
+    return 0;
+}

@@ -1,0 +1,234 @@
+/*
+ * endless_run.h: the C interface of the endless run checker.
+ *
+ * The checker answers questions about a rule and a plan. A rule is a formula
+ * of linear temporal logic over comparisons of readings (CLTLB over the
+ * integers with < and =). A plan is a finite description of an endless run:
+ * start rows, then cycle rows that come again for ever, where each coming
+ * again ("pass") adds a drift to every reading. A mark table claims the truth
+ * of every part of the rule on every row of the plan.
+ *
+ * endless_run_check() tells whether a mark table is right, on the whole of the
+ * endless run. endless_run_judge() tells whether one comparison of the rule
+ * has the same truth on every pass of one row.
+ *
+ *
+ * THE THREE LAYOUTS
+ *
+ * docs/FORMATS.md is the full description. All multi-byte fields are
+ * little-endian, and signed ones are two's complement.
+ *
+ *   rule   N, V             2 bytes each: parts (1 to 64), channels (1 to 8)
+ *          kinds            N bytes, each 1 to 12
+ *          operands         N times 12 bytes
+ *          length           4 + 13 * N
+ *
+ *   plan   V, P, C          2 bytes each: channels (1 to 8), start rows (0 or
+ *                           more), cycle rows (1 or more); the number of rows
+ *                           W = P + C is at most 256
+ *          readings         W * V signed 4-byte numbers, row after row
+ *          drifts           W * V signed 4-byte numbers, 0 in start rows
+ *          length           6 + 8 * V * W
+ *
+ *   marks  N, W             2 bytes each: as in the rule and in the plan
+ *          marks            N * W bytes, part after part: 1 true, 0 false
+ *          witnesses        N times 2 bytes: a row, or 65535 for none
+ *          length           4 + N * W + 2 * N
+ *
+ * Parts and rows are numbered from 0. The last part is the whole rule.
+ *
+ *
+ * WHAT HOLDS FOR BOTH FUNCTIONS
+ *
+ * Arguments. A slice is a pointer to its first byte and its length in bytes.
+ * Every length is allowed, and so is every content: bytes that are no rule, no
+ * plan or no mark table are refused, never trusted. A slice of length 0 is an
+ * empty one; its pointer is not followed and may be null. A pointer that comes
+ * with a length other than 0 must lead to that many readable bytes. Slices
+ * need no alignment and may overlap.
+ *
+ * Effects. There are none. The bytes lent are read during the call and never
+ * written. Nothing is allocated, nothing is kept between calls, no file is
+ * touched and errno is left alone. The same bytes always give the same answer.
+ *
+ * Threads. There is no shared state. Any number of threads may call at the
+ * same time, also on the same bytes, as long as nobody writes to them during a
+ * call.
+ *
+ * Time. Both functions always return. The time is bounded by the sizes N, V
+ * and W, and does not grow with the pass on which a comparison changes.
+ *
+ * Answers. An answer is one number:
+ *
+ *   accepted, judged    the value itself, below 2^32
+ *   refused             number * 2^32 + part * 2^16 + row
+ *
+ * where the refusal's number is one of enum endless_run_refusal, and part and
+ * row are 0 where the refusal names none. The functions at the end of this
+ * file take an answer apart.
+ */
+#ifndef ENDLESS_RUN_H
+#define ENDLESS_RUN_H
+
+#include <stddef.h>
+#include <stdint.h>
+
+#ifdef __cplusplus
+extern "C" {
+#endif
+
+/*
+ * The refusals, in the order in which they are looked for: an answer carries
+ * the first that applies. "Part" and "row" say what the refusal names.
+ *
+ * Refusals 9, 10 and 11 are looked for on one part before the next part, the
+ * lowest part first.
+ */
+enum endless_run_refusal {
+    /* The rule has fewer than 4 bytes, N or V is outside its range, or the
+       length is not the one that its sizes give. */
+    ENDLESS_RUN_RULE_SIZES = 1,
+
+    /* A kind byte is not 1 to 12. Part: the lowest such part. */
+    ENDLESS_RUN_KIND = 2,
+
+    /* An operand breaks the layout: a form, a shift code, a channel, a part
+       that is not lower than its user, or a padding byte other than 0. Part:
+       the lowest such part. */
+    ENDLESS_RUN_OPERAND = 3,
+
+    /* The plan has fewer than 6 bytes, V, C or W is outside its range, or the
+       length is not the one that its sizes give. */
+    ENDLESS_RUN_PLAN_SIZES = 4,
+
+    /* The plan's V differs from the rule's. */
+    ENDLESS_RUN_CHANNELS = 5,
+
+    /* A start row has a drift other than 0. Row: the lowest such row. */
+    ENDLESS_RUN_START_DRIFT = 6,
+
+    /* The mark table has fewer than 4 bytes, another N than the rule, another
+       W than the plan, or a length that is not the one that its sizes give. */
+    ENDLESS_RUN_MARK_SIZES = 7,
+
+    /* A mark byte is above 1. Part and row: the lowest such part, and the
+       lowest such row of that part. */
+    ENDLESS_RUN_MARK_BYTE = 8,
+
+    /* A mark breaks its equation, the one that ties it to the marks of the
+       parts that it names. Part; row: the lowest row whose mark does. */
+    ENDLESS_RUN_EQUATION = 9,
+
+    /* A part does not close: its truth on the rows does not carry over to the
+       following passes. Part; row: for a comparison the lowest cycle row on
+       which it changes, for every other part row P. */
+    ENDLESS_RUN_CLOSING = 10,
+
+    /* A witness is not as it should be: an "until" marked 1 on row W - 1 names
+       a cycle row where its second part is marked 1, a "release" marked 0
+       there names one where its second part is marked 0, and every other part
+       has 65535. Part. */
+    ENDLESS_RUN_WITNESS = 11,
+
+    /* The part or the row that the caller of endless_run_judge() named is
+       absent, or that part is no comparison. */
+    ENDLESS_RUN_ABSENT = 12
+};
+
+/* What endless_run_judge() finds. */
+enum endless_run_judged {
+    ENDLESS_RUN_ALWAYS_FALSE = 0, /* false on every pass */
+    ENDLESS_RUN_ALWAYS_TRUE = 1,  /* true on every pass */
+    ENDLESS_RUN_CHANGES = 2       /* true on one pass and false on another */
+};
+
+/*
+ * Check a mark table.
+ *
+ *   rule, rule_len      the rule
+ *   plan, plan_len      the plan
+ *   marks, marks_len    the mark table for this rule and this plan
+ *
+ * Returns
+ *
+ *   1           accepted, and the whole rule is true at position 0 of the run
+ *   0           accepted, and the whole rule is false at position 0
+ *   otherwise   a refusal, with number 1 to 11
+ *
+ * A table is accepted exactly when all of this is so: every part has on each
+ * cycle row the same truth on all passes, without end; every mark is the truth
+ * of its part at the first position of its row; every witness is in order. So
+ * an accepted mark is the truth of its part each time its row comes.
+ *
+ * "Accepted" says that the marks are right, and not that the rule holds: look
+ * at the verdict for that.
+ */
+uint64_t endless_run_check(const uint8_t *rule, size_t rule_len,
+                           const uint8_t *plan, size_t plan_len,
+                           const uint8_t *marks, size_t marks_len);
+
+/*
+ * Judge one comparison on one row, over all passes.
+ *
+ *   rule, rule_len      the rule
+ *   plan, plan_len      the plan
+ *   part                the number of the comparison in the rule
+ *   row                 the number of the row in the plan
+ *
+ * Every value of part and row is allowed; one that is absent is refused.
+ *
+ * Returns
+ *
+ *   0           ENDLESS_RUN_ALWAYS_FALSE: false on every pass
+ *   1           ENDLESS_RUN_ALWAYS_TRUE: true on every pass
+ *   2           ENDLESS_RUN_CHANGES: two passes differ
+ *   otherwise   a refusal, with number 1 to 6 or 12
+ *
+ * A start row comes once, so there the answer is never "changes". Readings are
+ * whole numbers without limit: they never wrap, on however late a pass. Where
+ * a shifted reading lies before position 0 the comparison is false.
+ */
+uint64_t endless_run_judge(const uint8_t *rule, size_t rule_len,
+                           const uint8_t *plan, size_t plan_len,
+                           uint64_t part, uint64_t row);
+
+/* 1 if the answer is a refusal; 0 if it is a verdict or a finding. */
+static inline int endless_run_is_refusal(uint64_t answer)
+{
+    return (answer >> 32) != 0;
+}
+
+/* The refusal's number, one of enum endless_run_refusal; 0 if the answer is no
+   refusal. */
+static inline unsigned endless_run_number(uint64_t answer)
+{
+    return (unsigned)(answer >> 32);
+}
+
+/* The part that a refusal names, 0 to 63; 0 if it names none. Of no use for an
+   answer that is no refusal: 0 then. */
+static inline unsigned endless_run_part(uint64_t answer)
+{
+    return endless_run_is_refusal(answer) ? (unsigned)((answer >> 16) & 0xFFFF) : 0;
+}
+
+/* The row that a refusal names, 0 to 255; 0 if it names none. Of no use for an
+   answer that is no refusal: 0 then. */
+static inline unsigned endless_run_row(uint64_t answer)
+{
+    return endless_run_is_refusal(answer) ? (unsigned)(answer & 0xFFFF) : 0;
+}
+
+/* The verdict in an answer of endless_run_check(): 1 if the table is accepted
+   and the whole rule is true at position 0; 0 if the table is accepted and the
+   rule is false there, and also if the table is refused. */
+static inline int endless_run_verdict(uint64_t answer)
+{
+    return answer == 1;
+}
+
+#ifdef __cplusplus
+}
+#endif
+
+#endif

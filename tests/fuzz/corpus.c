@@ -1,0 +1,126 @@
+/*
+ * corpus.c: writes the inputs from which a fuzzer starts, in fuzz.c's layout.
+ *
+ *   corpus FOLDER
+ *
+ * One input for each worked example. For each kind of part and some sizes of plan
+ * the true table of a rule with all kinds up to that one. For Y, Z, S and T the
+ * true table on each plan of three rows of 0 and 1, whether it closes or not.
+ */
+#include "../support/examples.h"
+
+#include <stdio.h>
+#include <stdlib.h>
+
+static struct sheet rule, plan, marks;
+static struct truth space;
+static const char *folder;
+
+static void write_input(const char *name, unsigned part, unsigned row)
+{
+    char path[1024];
+    uint8_t head[8];
+    snprintf(path, sizeof path, "%s/%s", folder, name);
+    FILE *file = fopen(path, "wb");
+    if (file == NULL) {
+        perror(path);
+        exit(1);
+    }
+    put2(head, (unsigned)rule.len);
+    put2(head + 2, (unsigned)plan.len);
+    put2(head + 4, part);
+    put2(head + 6, row);
+    fwrite(head, 1, sizeof head, file);
+    fwrite(rule.at, 1, rule.len, file);
+    fwrite(plan.at, 1, plan.len, file);
+    fwrite(marks.at, 1, marks.len, file);
+    if (fclose(file) != 0) {
+        perror(path);
+        exit(1);
+    }
+}
+
+static void write_examples(void)
+{
+    char name[64];
+    for (size_t i = 0; i < example_count; i++) {
+        read_hex(&rule, examples[i].rule);
+        read_hex(&plan, examples[i].plan);
+        read_hex(&marks, examples[i].marks ? examples[i].marks : "");
+        snprintf(name, sizeof name, "example-%zu", i);
+        write_input(name, 0, (unsigned)examples[i].row);
+    }
+}
+
+/* A part of every kind up to the last one: part k - 1 is of kind k. */
+static void all_kinds(enum kind last)
+{
+    start_rule(&rule, (int)last, 2);
+    write_comparison(&rule, 0, LESS, reading(1, 0), constant(25));
+    for (int kind = EQUAL; kind <= (int)last; kind++) {
+        int part = kind - 1;
+        if (kind == EQUAL)
+            write_comparison(&rule, part, EQUAL, reading(0, -1), constant(6));
+        else if (names_two_parts((enum kind)kind))
+            write_binary(&rule, part, (enum kind)kind, kind % 2, part - 1);
+        else
+            write_unary(&rule, part, (enum kind)kind, part - 1);
+    }
+}
+
+static void steady_plan(int start, int cycle)
+{
+    start_plan(&plan, 2, start, cycle);
+    for (int row = 0; row < start + cycle; row++) {
+        write_reading(&plan, row, 0, (row + cycle - start % cycle) % cycle % 2 ? 6 : 5);
+        write_reading(&plan, row, 1, (row + cycle - start % cycle) % cycle == 0 ? 30 : 20);
+        if (row >= start)
+            write_drift(&plan, row, 1, (row - start) % cycle == 0 ? 3 : -2);
+    }
+}
+
+static void write_kinds(void)
+{
+    static const int sizes[][2] = { { 0, 1 }, { 0, 2 }, { 2, 2 }, { 4, 4 }, { 7, 1 }, { 1, 5 } };
+    char name[64];
+    for (int kind = LESS; kind <= TRIGGER; kind++)
+        for (int i = 0; i < 6; i++) {
+            all_kinds((enum kind)kind);
+            steady_plan(sizes[i][0], sizes[i][1]);
+            write_true_marks_of(&marks, &space, &rule, &plan);
+            snprintf(name, sizeof name, "kinds-%d-plan-%d", kind, i);
+            write_input(name, (unsigned)kind % 2, (unsigned)sizes[i][0]);
+        }
+}
+
+/* A part of this kind over x = 1 and y = 1, on rows that the bits give. */
+static void write_past(enum kind kind, int start, int bits)
+{
+    char name[64];
+    start_rule(&rule, 3, 2);
+    write_comparison(&rule, 0, EQUAL, reading(0, 0), constant(1));
+    write_comparison(&rule, 1, EQUAL, reading(1, 0), constant(1));
+    write_formula(&rule, 2, &(struct formula){ .kind = kind, .a = 0, .b = 1 });
+    start_plan(&plan, 2, start, 3 - start);
+    for (int i = 0; i < 6; i++)
+        write_reading(&plan, i / 2, i % 2, bits >> i & 1);
+    write_true_marks_of(&marks, &space, &rule, &plan);
+    snprintf(name, sizeof name, "past-%d-start-%d-rows-%d", (int)kind, start, bits);
+    write_input(name, 0, (unsigned)start);
+}
+
+int main(int argc, char **argv)
+{
+    if (argc != 2) {
+        fprintf(stderr, "usage: corpus FOLDER\n");
+        return 2;
+    }
+    folder = argv[1];
+    write_examples();
+    write_kinds();
+    for (int kind = YESTERDAY; kind <= TRIGGER; kind++)
+        for (int start = 0; start < 3; start++)
+            for (int bits = 0; bits < 64; bits++)
+                write_past((enum kind)kind, start, bits);
+    return 0;
+}

@@ -1,0 +1,142 @@
+/*
+ * fuzz.c: check and judge on bytes that a fuzzer makes up.
+ *
+ * An input is cut into a question: 2 bytes each for the length of the rule, the
+ * length of the plan, the part and the row, then the rule, the plan and, to the
+ * end, the mark table. Lengths that are too long are cut off.
+ *
+ * Each function is called twice and must answer alike, leave every byte lent as
+ * it was, and stay within the slices (lend.c). Where the sizes are small enough
+ * for it to be quick, the answers are held to the second evaluator too.
+ *
+ * With -DWITH_LIBFUZZER the entry is LLVMFuzzerTestOneInput alone. Without it
+ * there is a main for AFL and for looking at single inputs: it reads the files
+ * named, or the standard input where none is.
+ */
+#include "../support/lend.h"
+
+#include <inttypes.h>
+#include <stdio.h>
+#include <stdlib.h>
+
+enum { HEAD = 8, LONGEST = 65536, MOST_CELLS = 2048 };
+
+struct question {
+    struct slice rule, plan, marks;
+    uint64_t part, row;
+};
+
+static unsigned field2(const uint8_t *at)
+{
+    return at[0] + 256u * at[1];
+}
+
+static struct slice take(struct slice *rest, size_t len)
+{
+    struct slice first = { rest->at, len < rest->len ? len : rest->len };
+    rest->at += first.len;
+    rest->len -= first.len;
+    return first;
+}
+
+static struct question cut(const uint8_t *data, size_t len)
+{
+    struct slice rest = { data + HEAD, len - HEAD };
+    struct question q;
+    q.rule = take(&rest, field2(data));
+    q.plan = take(&rest, field2(data + 2));
+    q.marks = rest;
+    q.part = field2(data + 4);
+    q.row = field2(data + 6);
+    return q;
+}
+
+/* Few enough parts and rows for the second evaluator to be quick. */
+static bool is_cheap(const struct question *q)
+{
+    if (q->rule.len < 4 || q->plan.len < 6)
+        return true;
+    unsigned rows = field2(q->plan.at + 2) + field2(q->plan.at + 4);
+    return rows > MOST_ROWS || field2(q->rule.at) * rows <= MOST_CELLS;
+}
+
+static void hold(bool right, const char *what, uint64_t answer, uint64_t due)
+{
+    if (right)
+        return;
+    fprintf(stderr, "%s: answer %" PRIx64 ", due %" PRIx64 " (hex)\n", what, answer, due);
+    abort();
+}
+
+/* The truth agrees: a table is accepted just as the published truth has it. */
+static bool as_truth_has_it(const struct question *q, uint64_t answer)
+{
+    static struct truth space;
+    switch (second_acceptance(&space, q->rule, q->plan, q->marks)) {
+    case ACCEPTED_FALSE:
+        return answer == 0;
+    case ACCEPTED_TRUE:
+        return answer == 1;
+    default:
+        return answer > 1;
+    }
+}
+
+static void try_check(const struct question *q)
+{
+    struct asked first = ask_check(q->rule, q->plan, q->marks);
+    struct asked again = ask_check(q->rule, q->plan, q->marks);
+    hold(first.unchanged && again.unchanged, "check wrote to a slice", first.answer, first.answer);
+    hold(first.answer == again.answer, "check answers twice", first.answer, again.answer);
+    if (!is_cheap(q))
+        return;
+    uint64_t due = second_check(q->rule, q->plan, q->marks);
+    hold(first.answer == due, "check", first.answer, due);
+    hold(as_truth_has_it(q, first.answer), "check and the truth", first.answer, due);
+}
+
+static void try_judge(const struct question *q)
+{
+    struct asked first = ask_judge(q->rule, q->plan, q->part, q->row);
+    struct asked again = ask_judge(q->rule, q->plan, q->part, q->row);
+    hold(first.unchanged && again.unchanged, "judge wrote to a slice", first.answer, first.answer);
+    hold(first.answer == again.answer, "judge answers twice", first.answer, again.answer);
+    uint64_t due = second_judge(q->rule, q->plan, q->part, q->row);
+    hold(first.answer == due, "judge", first.answer, due);
+}
+
+int LLVMFuzzerTestOneInput(const uint8_t *data, size_t len);
+
+int LLVMFuzzerTestOneInput(const uint8_t *data, size_t len)
+{
+    if (len < HEAD || len > LONGEST)
+        return 0;
+    struct question q = cut(data, len);
+    try_check(&q);
+    try_judge(&q);
+    return 0;
+}
+
+#ifndef WITH_LIBFUZZER
+static void try_stream(FILE *stream)
+{
+    static uint8_t data[LONGEST];
+    LLVMFuzzerTestOneInput(data, fread(data, 1, sizeof data, stream));
+}
+
+int main(int argc, char **argv)
+{
+    if (argc == 1)
+        try_stream(stdin);
+    for (int i = 1; i < argc; i++) {
+        FILE *file = fopen(argv[i], "rb");
+        if (file == NULL) {
+            perror(argv[i]);
+            return 2;
+        }
+        try_stream(file);
+        fclose(file);
+    }
+    return 0;
+}
+#endif

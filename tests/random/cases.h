@@ -1,0 +1,33 @@
+/*
+ * cases.h: random rules, plans and mark tables.
+ *
+ * A case is a plan, a rule that suits it, and a table. Most rules are grown part
+ * by part so that every part closes, since random parts seldom do. Most tables
+ * begin as the published truth; one fault is then put in, or none.
+ */
+#ifndef CASES_H
+#define CASES_H
+
+#include "../support/write.h"
+
+/* The case that was made last, as bytes; and the rule and the plan that it was
+   made from, before any fault, with the truth of each part. */
+extern struct sheet case_rule, case_plan, case_marks;
+extern struct truth case_truth;
+
+/* Make a case with the dice as they are. */
+void make_case(void);
+
+/* A comparison that suits the plan of the case, whether it closes or not. */
+struct formula some_comparison(void);
+
+/* A drift, mostly a large one. */
+int32_t extreme_drift(void);
+
+/* A plan for the case with readings of some channels and no drift. */
+void make_still_plan(int channels);
+
+/* A table for the rule and the plan of the case (tables.c). */
+void make_table(void);
+
+#endif

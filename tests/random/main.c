@@ -1,0 +1,35 @@
+/*
+ * main.c: the tests of the exported functions, as a C program that links the
+ * static library.
+ *
+ *   random [SEED [CASES]]
+ *
+ * The worked examples, the neighbours of each refusal, worked vectors from the
+ * papers, then random cases against the second evaluator. The same seed gives
+ * the same cases. The last line is 'N passed, M failed'; the exit status is 0
+ * only if M is 0.
+ */
+#include "expect.h"
+
+#include <stdio.h>
+#include <stdlib.h>
+
+static void run_group(const char *name, void (*group)(void))
+{
+    unsigned long before = passed + failed;
+    group();
+    printf("%s: %lu tests\n", name, passed + failed - before);
+}
+
+int main(int argc, char **argv)
+{
+    uint64_t seed = argc > 1 ? strtoull(argv[1], NULL, 10) : 1;
+    setvbuf(stdout, NULL, _IOLBF, 0);
+    unsigned long cases = argc > 2 ? strtoul(argv[2], NULL, 10) : 60000;
+    run_group("worked examples", test_examples);
+    run_group("neighbours of the refusals", test_neighbours);
+    run_group("worked vectors", test_vectors);
+    test_random(seed, cases);
+    printf("%lu passed, %lu failed\n", passed, failed);
+    return failed == 0 ? 0 : 1;
+}

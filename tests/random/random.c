@@ -1,0 +1,226 @@
+/*
+ * random.c: random cases against the second evaluator.
+ *
+ * What the answers were is counted, and a count below its floor is a failure: a
+ * generator that no longer produces an answer would test it no longer.
+ */
+#include "cases.h"
+#include "dice.h"
+#include "expect.h"
+
+#include "../../include/endless_run.h"
+
+#include <inttypes.h>
+#include <stdio.h>
+
+/* ---- Counts ---- */
+
+static struct {
+    unsigned long accepted[2], refused[13], judged[3];
+    unsigned long false_fixpoints; /* refused 11 where no witness would serve */
+    unsigned long full_size;       /* accepted with 64 parts and 256 rows */
+    unsigned long kinds[13];       /* accepted with a part of the kind */
+    unsigned long open[13];        /* refused 10 for a part of the kind */
+    unsigned long late;            /* "changes" on a late pass only */
+    unsigned long stepped_over;    /* an equality whose gap narrows and is never 0 */
+} counts;
+
+enum { LATE_PASS = 1000 };
+
+static void count_accepted(uint64_t verdict)
+{
+    bool seen[13] = { false };
+    counts.accepted[verdict]++;
+    counts.full_size += case_truth.rule.parts == 64 && case_truth.plan.rows == 256;
+    for (int part = 0; part < case_truth.rule.parts; part++)
+        seen[case_truth.rule.part[part].kind] = true;
+    for (int kind = LESS; kind <= TRIGGER; kind++)
+        counts.kinds[kind] += seen[kind];
+}
+
+static void count_check(uint64_t answer)
+{
+    unsigned number = endless_run_number(answer);
+    if (number == 0) {
+        count_accepted(answer);
+        return;
+    }
+    counts.refused[number]++;
+    struct rule r;
+    struct plan p;
+    if (decode_rule(slice_of(&case_rule), &r) != 0 ||
+        decode_plan(slice_of(&case_plan), r.channels, &p) != 0)
+        return;
+    int part = (int)endless_run_part(answer);
+    if (number == ENDLESS_RUN_CLOSING)
+        counts.open[r.part[part].kind]++;
+    if (number == ENDLESS_RUN_WITNESS) {
+        bool last = *mark_byte(&case_marks, part, p.rows - 1);
+        bool due = (r.part[part].kind == UNTIL && last) || (r.part[part].kind == RELEASE && !last);
+        counts.false_fixpoints +=
+            due && serving_witness(&case_marks, &r, &p, part, p.start) == NO_WITNESS;
+    }
+}
+
+static bool changes_late(const struct plan *p, const struct formula *f, int row)
+{
+    bool first = comparison_holds(p, f, row);
+    for (int64_t pass = 1; pass < LATE_PASS; pass++)
+        if (comparison_holds(p, f, position_of(p, row, pass)) != first)
+            return false;
+    return true;
+}
+
+static void count_judge(uint64_t answer, uint64_t part, uint64_t row)
+{
+    struct rule r;
+    struct plan p;
+    if (endless_run_is_refusal(answer)) {
+        counts.refused[endless_run_number(answer)]++;
+        return;
+    }
+    counts.judged[answer]++;
+    decode_rule(slice_of(&case_rule), &r);
+    decode_plan(slice_of(&case_plan), r.channels, &p);
+    const struct formula *f = &r.part[part];
+    if (answer == CHANGES)
+        counts.late += changes_late(&p, f, (int)row);
+    else if (f->kind == EQUAL && row >= (uint64_t)p.start)
+        counts.stepped_over += settled_pass(&p, f, (int)row) > LINES_FROM + 1;
+}
+
+/* Print a count, and fail if it is below its floor: so many in 10000 cases. */
+static void hold_to_floor(const char *name, unsigned long n, unsigned long cases,
+                          unsigned long in_10000)
+{
+    unsigned long floor = cases * in_10000 / 10000;
+    if (floor == 0)
+        floor = 1;
+    printf("  %-44s %8lu   floor %lu\n", name, n, floor);
+    if (n < floor) {
+        printf("FAILED %s: below the floor\n", name);
+        failed++;
+    } else {
+        passed++;
+    }
+}
+
+static void print_counts(unsigned long cases)
+{
+    static const char *const kind_names[] = { "",    "less", "equal", "not", "and", "or",   "X",
+                                              "U",   "R",    "Y",     "Z",   "S",   "T" };
+    static const unsigned long refusal_floors[] = { 0,  50, 20, 20,  50,  10, 10,
+                                                    50, 50, 500, 500, 500, 500 };
+    char name[64];
+    for (int verdict = 0; verdict < 2; verdict++) {
+        snprintf(name, sizeof name, "accepted %d", verdict);
+        hold_to_floor(name, counts.accepted[verdict], cases, 500);
+    }
+    for (int number = 1; number <= 12; number++) {
+        snprintf(name, sizeof name, "refused %d", number);
+        hold_to_floor(name, counts.refused[number], cases, refusal_floors[number]);
+    }
+    for (int judged = 0; judged < 3; judged++) {
+        snprintf(name, sizeof name, "judged %d", judged);
+        hold_to_floor(name, counts.judged[judged], cases, 500);
+    }
+    hold_to_floor("judged 2, alike on the first 1000 passes", counts.late, cases, 20);
+    hold_to_floor("judged 0, an equality stepped over", counts.stepped_over, cases, 50);
+    hold_to_floor("refused 11, and no witness would serve", counts.false_fixpoints, cases, 50);
+    hold_to_floor("accepted, 64 parts on 256 rows", counts.full_size, cases, 5);
+    for (int kind = LESS; kind <= TRIGGER; kind++) {
+        snprintf(name, sizeof name, "accepted with a part of kind %s", kind_names[kind]);
+        hold_to_floor(name, counts.kinds[kind], cases, 200);
+    }
+    for (int kind = LESS; kind <= TRIGGER; kind++)
+        if (kind <= EQUAL || kind >= YESTERDAY) {
+            snprintf(name, sizeof name, "refused 10 for kind %s", kind_names[kind]);
+            hold_to_floor(name, counts.open[kind], cases, 20);
+        }
+}
+
+/* ---- Questions ---- */
+
+static void print_sheet(const char *name, const struct sheet *sheet)
+{
+    printf("  %s (%zu bytes)", name, sheet->len);
+    for (size_t i = 0; i < sheet->len && i < 400; i++)
+        printf(" %02X", sheet->at[i]);
+    printf("%s\n", sheet->len > 400 ? " .." : "");
+}
+
+static void ask_about_table(const char *name)
+{
+    uint64_t answer =
+        second_check(slice_of(&case_rule), slice_of(&case_plan), slice_of(&case_marks));
+    count_check(answer);
+    if (!expect_check(name, &case_rule, &case_plan, &case_marks, answer) && failed <= 3) {
+        print_sheet("rule", &case_rule);
+        print_sheet("plan", &case_plan);
+        print_sheet("marks", &case_marks);
+    }
+}
+
+/* Any number, or one near the sizes: mostly a part and a row that are there. */
+static uint64_t some_index(int size)
+{
+    if (chance(95))
+        return (uint64_t)below(size);
+    if (chance(50))
+        return (uint64_t)between(size - 1, size + 1);
+    int bits = below(64);
+    return next_random() >> bits;
+}
+
+static void ask_about_part(const char *name, uint64_t part)
+{
+    uint64_t row = some_index(case_truth.plan.rows);
+    if (chance(60) && row < (uint64_t)case_truth.plan.start)
+        row = (uint64_t)between(case_truth.plan.start, case_truth.plan.rows - 1);
+    uint64_t answer = second_judge(slice_of(&case_rule), slice_of(&case_plan), part, row);
+    count_judge(answer, part, row);
+    if (!expect_judge(name, &case_rule, &case_plan, part, row, answer) && failed <= 3) {
+        printf("  part %" PRIu64 ", row %" PRIu64 "\n", part, row);
+        print_sheet("rule", &case_rule);
+        print_sheet("plan", &case_plan);
+    }
+}
+
+static bool is_operator(uint64_t part)
+{
+    const struct rule *r = &case_truth.rule;
+    return part < (uint64_t)r->parts && !is_comparison(r->part[part].kind);
+}
+
+/* A part of the rule, mostly a comparison. */
+static void ask_about_comparison(const char *name)
+{
+    uint64_t part = some_index(case_truth.rule.parts);
+    for (int tries = 0; tries < 4 && is_operator(part); tries++)
+        part = some_index(case_truth.rule.parts);
+    ask_about_part(name, part);
+}
+
+/* A comparison that was not chosen so that it closes. */
+static void ask_about_new_comparison(const char *name)
+{
+    struct formula f = some_comparison();
+    start_rule(&case_rule, 1, case_truth.plan.channels);
+    write_formula(&case_rule, 0, &f);
+    ask_about_part(name, 0);
+}
+
+void test_random(uint64_t seed, unsigned long cases)
+{
+    char name[64];
+    printf("random cases: seed %" PRIu64 ", %lu cases\n", seed, cases);
+    for (unsigned long i = 0; i < cases; i++) {
+        seed_dice(seed * 0xD1342543DE82EF95u + i); /* so that a case can be had alone */
+        snprintf(name, sizeof name, "random case %lu of seed %" PRIu64, i, seed);
+        make_case();
+        ask_about_table(name);
+        ask_about_comparison(name);
+        ask_about_new_comparison(name);
+    }
+    print_counts(cases);
+}

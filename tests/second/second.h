@@ -1,0 +1,161 @@
+/*
+ * second.h: a second evaluator for the endless run checker.
+ *
+ * It gives the answers of check and judge by another way than the checker and
+ * shares no code with it. Truth is found from the published sentences by going
+ * through the positions of the run ("b at some j from t on, and a from t to
+ * j - 1"), and a comparison is judged by looking at its passes. It is made to
+ * be believed, not to be fast.
+ *
+ *   sheets.c    the three byte layouts, refusals 1 to 8
+ *   run.c       readings and comparisons at a position, judging by passes
+ *   truth.c     the published truth of every part at every position
+ *   answers.c   the answers: refusal by refusal, and from the truth alone
+ */
+#ifndef SECOND_H
+#define SECOND_H
+
+#include <stdbool.h>
+#include <stddef.h>
+#include <stdint.h>
+
+enum { MOST_PARTS = 64, MOST_CHANNELS = 8, MOST_ROWS = 256, NO_WITNESS = 65535 };
+
+/* Bytes lent by the caller. */
+struct slice {
+    const uint8_t *at;
+    size_t len;
+};
+
+/* ---- The sheets, decoded (sheets.c) ---- */
+
+enum kind {
+    LESS = 1,
+    EQUAL = 2,
+    NOT = 3,
+    AND = 4,
+    OR = 5,
+    NEXT = 6,
+    UNTIL = 7,
+    RELEASE = 8,
+    YESTERDAY = 9,
+    WEAK_YESTERDAY = 10,
+    SINCE = 11,
+    TRIGGER = 12
+};
+
+/* A constant, or a channel read at a shifted position. */
+struct term {
+    bool is_reading;
+    int shift;
+    int32_t number; /* the constant, or the channel */
+};
+
+/* A part of the rule: a comparison of two terms, or an operator over the
+   formulas of one or two lower parts. */
+struct formula {
+    enum kind kind;
+    struct term left, right;
+    int a, b;
+};
+
+struct rule {
+    int parts, channels;
+    struct formula part[MOST_PARTS];
+};
+
+/* A stem of start rows, then a loop of cycle rows. */
+struct plan {
+    int channels, start, cycle, rows;
+    int32_t reading[MOST_ROWS][MOST_CHANNELS];
+    int32_t drift[MOST_ROWS][MOST_CHANNELS];
+};
+
+struct marks {
+    int parts, rows;
+    bool mark[MOST_PARTS][MOST_ROWS];
+    int witness[MOST_PARTS];
+};
+
+bool is_comparison(enum kind kind);
+bool names_two_parts(enum kind kind);
+
+/* A refusal as a number: number * 2^32 + part * 2^16 + row. */
+uint64_t refusal(int number, int part, int row);
+
+/* Decode a sheet. Each returns 0, or the first refusal that applies to it:
+   1 to 3 for the rule; 4 to 6 for the plan of a rule of that many channels; 7
+   and 8 for the mark table. What is decoded is whole only where 0 comes back. */
+uint64_t decode_rule(struct slice bytes, struct rule *rule);
+uint64_t decode_plan(struct slice bytes, int channels, struct plan *plan);
+uint64_t decode_marks(struct slice bytes, int parts, int rows, struct marks *marks);
+
+/* ---- The run of a plan (run.c) ---- */
+
+enum judged { ALWAYS_FALSE = 0, ALWAYS_TRUE = 1, CHANGES = 2 };
+
+/* Does the comparison hold at this position? */
+bool comparison_holds(const struct plan *plan, const struct formula *f, int64_t position);
+
+/* The position of a cycle row on a pass. */
+int64_t position_of(const struct plan *plan, int row, int64_t pass);
+
+/* A pass from which on the comparison has one and the same truth on a cycle
+   row. It may be as late as 2^37. */
+int64_t settled_pass(const struct plan *plan, const struct formula *f, int row);
+
+/* From this pass on no shift reaches a start row or lies before the run. */
+enum { LINES_FROM = 4 };
+
+/* Do two passes of a cycle row, from this pass on, differ? */
+bool changes_from(const struct plan *plan, const struct formula *f, int row, int64_t pass);
+
+/* The comparison's truth on a row, over all passes. */
+enum judged judge_by_passes(const struct plan *plan, const struct formula *f, int row);
+
+/* ---- The published truth (truth.c) ---- */
+
+/* The truth of one part at every position: written down below settled + C,
+   and from there on that of C positions before. */
+enum { COURSE_LONGEST = 32768 };
+struct course {
+    bool late; /* rests on a comparison that changes later than was followed */
+    int64_t settled;
+    uint8_t at[COURSE_LONGEST];
+};
+
+struct truth {
+    struct rule rule;
+    struct plan plan;
+    struct course part[MOST_PARTS];
+};
+
+/* Find the truth of one part of the rule on the run of the plan; the truth of
+   the parts that it names has been found. */
+void find_truth(struct truth *truth, int part);
+
+/* The published truth of a part at a position; not known where the part is
+   late and the position lies far on. */
+bool holds(const struct truth *truth, int part, int64_t position);
+
+/* Has the part on each cycle row the same truth on all passes? */
+bool is_row_periodic(const struct truth *truth, int part);
+
+/* ---- Answers (answers.c) ---- */
+
+/* The answer of check, refusal by refusal in the order of the list. */
+uint64_t second_check(struct slice rule, struct slice plan, struct slice marks);
+
+/* The answer of judge: refusals 1 to 6, then 12, then what the passes show. */
+uint64_t second_judge(struct slice rule, struct slice plan, uint64_t part, uint64_t row);
+
+/* Whether a table is accepted, found from the published truth alone and from
+   no equation: every part is row-periodic, every mark is the truth at the
+   first position of its row, every witness is in order. The verdict is the
+   truth of the last part at position 0. NOT_A_TABLE: refusals 1 to 8 apply.
+   The space is written over. */
+enum acceptance { NOT_A_TABLE, REFUSED, ACCEPTED_FALSE, ACCEPTED_TRUE };
+enum acceptance second_acceptance(struct truth *space, struct slice rule, struct slice plan,
+                                  struct slice marks);
+
+#endif

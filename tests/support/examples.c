@@ -1,0 +1,100 @@
+/*
+ * examples.c: the worked examples E1 to E11. E12 is about full sizes, and is
+ * tried where sizes are (neighbours.c).
+ */
+#include "examples.h"
+
+#include <ctype.h>
+
+/* ---- Terms: form, shift code, number ---- */
+
+#define X "01 04 00 00 00 00 "
+#define NEXT_X "01 05 00 00 00 00 "
+#define YESTERDAY_X "01 03 00 00 00 00 "
+#define C_0 "00 04 00 00 00 00 "
+#define C_3 "00 04 03 00 00 00 "
+#define C_9 "00 04 09 00 00 00 "
+#define C_10 "00 04 0A 00 00 00 "
+#define C_25 "00 04 19 00 00 00 "
+#define C_4093 "00 04 FD 0F 00 00 "
+#define C_4095 "00 04 FF 0F 00 00 "
+#define C_4096 "00 04 00 10 00 00 "
+
+/* ---- Rules: N, V, kinds, operands ---- */
+
+#define ONE_PART "01 00 01 00 "
+#define NAMES_0 "00 00 00 00 00 00 00 00 00 00 00 00 "
+#define NAMES_0_1 "00 00 01 00 00 00 00 00 00 00 00 00 "
+#define X_BELOW_25 ONE_PART "01 " X C_25
+#define Y_OF_IT "02 00 01 00 01 09 " X C_25 NAMES_0
+#define X_OF_IT "02 00 01 00 01 06 " X C_25 NAMES_0
+#define IT_UNTIL_NOT_IT "03 00 01 00 01 03 07 " X C_25 NAMES_0 NAMES_0_1
+#define BELOW_9_UNTIL_BELOW_3 "03 00 01 00 01 01 07 " X C_9 X C_3 NAMES_0_1
+
+/* ---- Plans: V, P, C, readings, drifts ---- */
+
+#define PLAN_A                                                                                     \
+    "01 00 01 00 02 00 0A 00 00 00 14 00 00 00 1E 00 00 00 "                                       \
+    "00 00 00 00 00 00 00 00 00 00 00 00"
+#define ONE_ROW "01 00 00 00 01 00 "
+#define PLAN_B ONE_ROW "FE 0F 00 00 01 00 00 00"
+#define FROM_0_BY_3 ONE_ROW "00 00 00 00 03 00 00 00"
+#define ALWAYS_5 ONE_ROW "05 00 00 00 00 00 00 00"
+#define FROM_TOP_BY_1 ONE_ROW "FF FF FF 7F 01 00 00 00"
+
+#define REFUSED(number, part, row) ((uint64_t)(number) << 32 | (part) << 16 | (row))
+#define E10_MARKED_1 "03 00 01 00 01 00 01 FF FF FF FF "
+
+const struct example examples[] = {
+    { "E1 x < 25", X_BELOW_25, PLAN_A, "01 00 03 00 01 01 00 FF FF", 0, 1 },
+    { "E1 judged, start row", X_BELOW_25, PLAN_A, 0, 0, ALWAYS_TRUE },
+    { "E1 judged, first cycle row", X_BELOW_25, PLAN_A, 0, 1, ALWAYS_TRUE },
+    { "E1 judged, last cycle row", X_BELOW_25, PLAN_A, 0, 2, ALWAYS_FALSE },
+    { "E2 Y of it", Y_OF_IT, PLAN_A, "02 00 03 00 01 01 00 00 01 01 FF FF FF FF", 0,
+      REFUSED(10, 1, 1) },
+    { "E3 X of it", X_OF_IT, PLAN_A, "02 00 03 00 01 01 00 01 00 01 FF FF FF FF", 0, 1 },
+    { "E4 witness 2", IT_UNTIL_NOT_IT, PLAN_A,
+      "03 00 03 00 01 01 00 00 00 01 01 01 01 FF FF FF FF 02 00", 0, 1 },
+    { "E4 witness 1", IT_UNTIL_NOT_IT, PLAN_A,
+      "03 00 03 00 01 01 00 00 00 01 01 01 01 FF FF FF FF 01 00", 0, REFUSED(11, 2, 0) },
+    { "E5 x < 4095", ONE_PART "01 " X C_4095, PLAN_B, 0, 0, CHANGES },
+    { "E5 checked", ONE_PART "01 " X C_4095, PLAN_B, "01 00 01 00 01 FF FF", 0,
+      REFUSED(10, 0, 0) },
+    { "E6 x = 4096", ONE_PART "02 " X C_4096, PLAN_B, 0, 0, CHANGES },
+    { "E6 x = 4093", ONE_PART "02 " X C_4093, PLAN_B, 0, 0, ALWAYS_FALSE },
+    { "E7 x < X x", ONE_PART "01 " X NEXT_X, PLAN_B, 0, 0, ALWAYS_TRUE },
+    { "E7 checked", ONE_PART "01 " X NEXT_X, PLAN_B, "01 00 01 00 01 FF FF", 0, 1 },
+    { "E8 Y x < x", ONE_PART "01 " YESTERDAY_X X, PLAN_B, 0, 0, CHANGES },
+    { "E9 x = 10", ONE_PART "02 " X C_10, FROM_0_BY_3, 0, 0, ALWAYS_FALSE },
+    { "E9 x = 9", ONE_PART "02 " X C_9, FROM_0_BY_3, 0, 0, CHANGES },
+    { "E9 x = 0", ONE_PART "02 " X C_0, FROM_0_BY_3, 0, 0, CHANGES },
+    { "E10 marked 1, no witness", BELOW_9_UNTIL_BELOW_3, ALWAYS_5, E10_MARKED_1 "FF FF", 0,
+      REFUSED(11, 2, 0) },
+    { "E10 marked 1, witness 0", BELOW_9_UNTIL_BELOW_3, ALWAYS_5, E10_MARKED_1 "00 00", 0,
+      REFUSED(11, 2, 0) },
+    { "E10 marked 1, witness 1", BELOW_9_UNTIL_BELOW_3, ALWAYS_5, E10_MARKED_1 "01 00", 0,
+      REFUSED(11, 2, 0) },
+    { "E10 marked 0", BELOW_9_UNTIL_BELOW_3, ALWAYS_5,
+      "03 00 01 00 01 00 00 FF FF FF FF FF FF", 0, 0 },
+    { "E11 x < 0", ONE_PART "01 " X C_0, FROM_TOP_BY_1, 0, 0, ALWAYS_FALSE },
+    { "E11 checked", ONE_PART "01 " X C_0, FROM_TOP_BY_1, "01 00 01 00 00 FF FF", 0, 0 },
+};
+const size_t example_count = sizeof examples / sizeof examples[0];
+
+static int hex_digit(char c)
+{
+    return isdigit((unsigned char)c) ? c - '0' : toupper((unsigned char)c) - 'A' + 10;
+}
+
+void read_hex(struct sheet *sheet, const char *hex)
+{
+    sheet->len = 0;
+    while (*hex) {
+        if (!isxdigit((unsigned char)*hex)) {
+            hex++;
+            continue;
+        }
+        sheet->at[sheet->len++] = (uint8_t)(16 * hex_digit(hex[0]) + hex_digit(hex[1]));
+        hex += 2;
+    }
+}

@@ -1,0 +1,24 @@
+/*
+ * lend.h: calls of the checker on bytes that are watched.
+ *
+ * Each slice is lent from a place of its own that has a page with no access on
+ * either side, and lies hard against one of the two in turn. A checker that
+ * reads past the end of a slice, or before its beginning, stops the program.
+ * After the call every byte is held against what was lent. An empty slice is
+ * lent by a null pointer every other time.
+ */
+#ifndef LEND_H
+#define LEND_H
+
+#include "../second/second.h"
+
+/* What a call gave, and whether all bytes lent are as before. */
+struct asked {
+    uint64_t answer;
+    bool unchanged;
+};
+
+struct asked ask_check(struct slice rule, struct slice plan, struct slice marks);
+struct asked ask_judge(struct slice rule, struct slice plan, uint64_t part, uint64_t row);
+
+#endif
