@@ -17,9 +17,9 @@ use fields::pattern;
 use plan::lookup::Seen;
 use plan::lookup::drift_at;
 use plan::lookup::number_at;
-use plan::lookup::seen_at;
 use plan::positions::pass_of;
 use plan::positions::row_of;
+use plan::view::seen_through;
 
 // A number of 32 bits, kept without a sign.
 fn lift(z: i32) -> u64
@@ -71,7 +71,14 @@ pub fn seen_term(plan: &[u8], v: usize, p: usize, c: usize, term: Term, t: usize
 {
     match term {
         Term::Constant(z) => Seen::Number(constant(z)),
-        Term::Reading { channel, shift } => seen_at(plan, v, p, c, channel, t + code_of(shift)),
+        Term::Reading { channel, shift } => seen_through(
+            plan,
+            v,
+            p,
+            c,
+            channel,
+            t + code_of(shift),
+        ),
     }
 }
 

@@ -23,11 +23,11 @@ code-of-requires c κs =
     let start = c .before .before .before .before in
     subst⁻¹ ShiftFits (toZ-ofZ w32 _ (record { sfits = c .known-told2 .given .1 .0 .1 })) (reading-fits _ _ _ (c .before .term2 .given .1) _ (start .pre .1) .1)
 
-add-seen-at : tie.Need-add-seen-at
-add-seen-at c = search needs
+add-seen-through : tie.Need-add-seen-through
+add-seen-through c = search needs
 
-seen-at-requires : tie.Need-seen-at-requires
-seen-at-requires c κs =
+seen-through-requires : tie.Need-seen-through-requires
+seen-through-requires c κs =
     let start = c .before .before .before .before .before in
     (start .pre .0, reading-fits _ _ _ (c .before .before .term2 .given .1) _ (start .pre .1) .0, omega (arith, start .pre .0 .a-cycle, c .code-of .ensures .1))
 
@@ -39,7 +39,7 @@ returns c =
 returns-2 : tie.Need-returns-2
 returns-2 c =
     let term2 = c .before .before .before .term2 in
-    sees-reading _ _ _ _ _ _ _ (term2 .given .1) (c .before .code-of .ensures .0 ∙ toZ-ofZ w32 _ (record { sfits = c .before .before .known-told2 .given .1 .0 .1 })) (c .seen-at .ensures .0)
+    sees-reading _ _ _ _ _ _ _ (term2 .given .1) (c .before .code-of .ensures .0 ∙ toZ-ofZ w32 _ (record { sfits = c .before .before .known-told2 .given .1 .0 .1 })) (c .seen-through .ensures .0)
 
 pub seen-term-spec : {M : Type 1} → statement M
 seen-term-spec =
@@ -49,7 +49,7 @@ seen-term-spec =
     constant-requires
     enum-known-term-2
     code-of-requires
-    add-seen-at
-    seen-at-requires
+    add-seen-through
+    seen-through-requires
     returns
     returns-2)

@@ -1,0 +1,5 @@
+pub mod Said
+pub mod Unwitnessed
+pub mod Answers
+pub mod Examples
+pub mod Counted
