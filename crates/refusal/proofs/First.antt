@@ -76,24 +76,3 @@ module _ (f : ℕ → Outcome) where
   -- or it comes to the end.
   pub turn-end : (k n : ℕ) → n ≤ k → inTurnFrom f k (n - k) ≡ Clear
   turn-end k n h = inTurnFrom-clear k (n - k) .1 (λ i a b. absurd (omega arith))
-
-module _ (f : ℕ → Bool) (r : ℕ → Refusal) (rest : Outcome) where
-  -- A loop over the numbers below n, with `rest` after it, begins with 0.
-  pub search-first : (n : ℕ) → (atLowest f n r orElse rest) ≡ (refusedAt r (lowestFrom f 0 (n - 0)) orElse rest)
-  unfolding atLowest lowest
-  search-first n = let whole : n - 0 ≡ n = omega arith in rw whole refl
-
-  -- When it is at k it goes past k,
-  pub search-next : (k n : ℕ) → k < n → f k ≡ false
-      → (refusedAt r (lowestFrom f k (n - k)) orElse rest) ≡ (refusedAt r (lowestFrom f (k + 1) (n - (k + 1))) orElse rest)
-  search-next k n h e = ap (λ o. refusedAt r o orElse rest) (passes f k n h e)
-
-  -- or it ends with a refusal,
-  pub search-found : (k n : ℕ) → k < n → f k ≡ true → (refusedAt r (lowestFrom f k (n - k)) orElse rest) ≡ Refused (r k)
-  unfolding refusedAt _orElse_
-  search-found k n h e = simp (found f k n h e)
-
-  -- or it comes to the end.
-  pub search-end : (k n : ℕ) → n ≤ k → (refusedAt r (lowestFrom f k (n - k)) orElse rest) ≡ rest
-  unfolding refusedAt _orElse_
-  search-end k n h = simp (ended f k n h)

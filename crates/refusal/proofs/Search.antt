@@ -5,7 +5,7 @@ use mathlib.Core.Bool.{Bool, true, false}
 use Prim.Native.Nat.{ℕ, _+_, _-_, _≤_, _<_}
 use native.Mathlib.Omega.{arith}
 use Rattle.refusal.specs.Lowest.{lowest, lowestFrom}
-use Rattle.refusal.specs.First.{refusedAt, atLowest}
+use Rattle.refusal.specs.First.{_orElse_, refusedAt, atLowest}
 use Rattle.refusal.specs.declared.Refusal.{Refusal}
 use Rattle.refusal.specs.declared.Outcome.{Outcome}
 use Rattle.refusal.specs.declared.Outcome.the-variants.{Clear, Refused}
@@ -33,3 +33,19 @@ module _ (f : ℕ → Bool) (n : ℕ) (r : ℕ → Refusal) where
   pub search-ends : (k : ℕ) → n ≤ k → Clear ≡ searchFrom f n r k
   unfolding refusedAt
   search-ends k h = sym (ap (refusedAt r) (ended f k n h))
+
+-- the same with `rest` after the search
+module _ (f : ℕ → Bool) (r : ℕ → Refusal) (rest : Outcome) where
+  pub search-first : (n : ℕ) → (atLowest f n r orElse rest) ≡ (searchFrom f n r 0 orElse rest)
+  search-first n = ap (λ o. o orElse rest) (search-starts f n r)
+
+  pub search-next : (k n : ℕ) → k < n → f k ≡ false → (searchFrom f n r k orElse rest) ≡ (searchFrom f n r (k + 1) orElse rest)
+  search-next k n h e = ap (λ o. o orElse rest) (search-on f n r k h e)
+
+  pub search-found : (k n : ℕ) → k < n → f k ≡ true → (searchFrom f n r k orElse rest) ≡ Refused (r k)
+  unfolding _orElse_
+  search-found k n h e = ap (λ o. o orElse rest) (sym (search-stops f n r k h e))
+
+  pub search-end : (k n : ℕ) → n ≤ k → (searchFrom f n r k orElse rest) ≡ rest
+  unfolding _orElse_
+  search-end k n h = ap (λ o. o orElse rest) (sym (search-ends f n r k h))

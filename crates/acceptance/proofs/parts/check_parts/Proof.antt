@@ -8,7 +8,8 @@ use Rattle.refusal.specs.Lowest.{lowestFrom}
 use Rattle.refusal.specs.First.{_orElse_, refusedAt, inTurnFrom, inTurn}
 use Rattle.refusal.specs.declared.Outcome.the-variants.{Clear}
 use Rattle.refusal.specs.declared.Refusal.the-variants.{Equation}
-use Rattle.refusal.proofs.First.{turn-first, turn-next, turn-end, search-next, search-found, search-end}
+use Rattle.refusal.proofs.First.{turn-first, turn-next, turn-end}
+use Rattle.refusal.proofs.Search.{search-next, search-found, search-end}
 use Rattle.marks.specs.Layout.{marked}
 use Rattle.marks.specs.Parts.{breaks}
 use Rattle.acceptance.proofs.PartsInTurn.{turn, rest, turns-all, always-taken, readable, row-loop, first-refuses, first-clears}

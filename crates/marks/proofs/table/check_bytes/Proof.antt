@@ -8,7 +8,8 @@ use Rattle.refusal.specs.Lowest.{lowestFrom}
 use Rattle.refusal.specs.First.{_orElse_, refusedAt, inTurnFrom, inTurn}
 use Rattle.refusal.specs.declared.Outcome.the-variants.{Clear}
 use Rattle.refusal.specs.declared.Refusal.the-variants.{MarkByte}
-use Rattle.refusal.proofs.First.{turn-first, turn-next, turn-end, search-first, search-next, search-found, search-end}
+use Rattle.refusal.proofs.First.{turn-first, turn-next, turn-end}
+use Rattle.refusal.proofs.Search.{search-first, search-next, search-found, search-end}
 use Rattle.marks.specs.Layout.{aboveOne, bytesOutcome}
 use Rattle.marks.proofs.table.check_bytes.Statement.{statement}
 use Rattle.marks.proofs.table.check_bytes.Tie as tie
