@@ -3,13 +3,13 @@ use Prim.Native.Nat.{ℕ, _+_, _-_, _*_, _≤_, _<_}
 use mathlib.Core.Path.{_≡_}
 use lib.ListN.{length}
 use borrow.Author.Needs.{needs}
-use Rattle.rule_vectors.proofs.try_count.Statement.{statement}
-use Rattle.rule_vectors.proofs.try_count.Tie as tie
-use Rattle.rule_vectors.proofs.try_count.Reads as reads
-use Rattle.rule_vectors.proofs.try_count.Lts as lts
+use Rattle.rule_vectors.proofs.takes.try_count.Statement.{statement}
+use Rattle.rule_vectors.proofs.takes.try_count.Tie as tie
+use Rattle.rule_vectors.proofs.takes.try_count.Reads as reads
+use Rattle.rule_vectors.proofs.takes.try_count.Lts as lts
 use Rattle.rule.proofs.put.Reads as put-reads
-use Rattle.rule_vectors.proofs.set_byte.Reads as set-byte-reads
-use Rattle.rule_vectors.proofs.try_sheet.Reads as try-sheet-reads
+use Rattle.rule_vectors.proofs.sheets.set_byte.Reads as set-byte-reads
+use Rattle.rule_vectors.proofs.takes.try_sheet.Reads as try-sheet-reads
 
 abbrev Inv-loop : tie.InvT-loop
 Inv-loop name count sheet₀ n₀ sheet n = length sheet ≡ length sheet₀

@@ -3,10 +3,10 @@ use Prim.Native.Nat.{ℕ, _+_, _-_, _*_, _≤_, _<_}
 use mathlib.Core.Path.{_≡_}
 use lib.ListN.{length}
 use borrow.Author.Needs.{needs}
-use Rattle.rule_vectors.proofs.changed.Statement.{statement}
-use Rattle.rule_vectors.proofs.changed.Tie as tie
-use Rattle.rule_vectors.proofs.changed.Reads as reads
-use Rattle.rule_vectors.proofs.changed.Lts as lts
+use Rattle.rule_vectors.proofs.puts.changed.Statement.{statement}
+use Rattle.rule_vectors.proofs.puts.changed.Tie as tie
+use Rattle.rule_vectors.proofs.puts.changed.Reads as reads
+use Rattle.rule_vectors.proofs.puts.changed.Lts as lts
 
 abbrev Inv-loop : tie.InvT-loop
 Inv-loop a b from to count₀ i₀ count i = Unit {0}

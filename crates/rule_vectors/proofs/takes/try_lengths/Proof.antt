@@ -3,13 +3,13 @@ use Prim.Native.Nat.{ℕ, _+_, _-_, _*_, _≤_, _<_}
 use mathlib.Core.Path.{_≡_}
 use lib.ListN.{length, length-take}
 use borrow.Author.Needs.{needs}
-use Rattle.rule_vectors.proofs.try_lengths.Statement.{statement}
-use Rattle.rule_vectors.proofs.try_lengths.Tie as tie
-use Rattle.rule_vectors.proofs.try_lengths.Reads as reads
-use Rattle.rule_vectors.proofs.try_lengths.Lts as lts
-use Rattle.rule_vectors.proofs.say.Reads as say-reads
-use Rattle.rule_vectors.proofs.say_number.Reads as say-number-reads
-use Rattle.rule_vectors.proofs.try_sheet.Reads as try-sheet-reads
+use Rattle.rule_vectors.proofs.takes.try_lengths.Statement.{statement}
+use Rattle.rule_vectors.proofs.takes.try_lengths.Tie as tie
+use Rattle.rule_vectors.proofs.takes.try_lengths.Reads as reads
+use Rattle.rule_vectors.proofs.takes.try_lengths.Lts as lts
+use Rattle.rule_vectors.proofs.print.say.Reads as say-reads
+use Rattle.rule_vectors.proofs.print.say_number.Reads as say-number-reads
+use Rattle.rule_vectors.proofs.takes.try_sheet.Reads as try-sheet-reads
 
 abbrev Inv-loop : tie.InvT-loop
 Inv-loop sheet size₀ t3 t4 t5 size = size ≤ length sheet
