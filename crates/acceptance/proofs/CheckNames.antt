@@ -1,4 +1,4 @@
--- A refusal of the check names a part below 64 and a row below 257, so that two bytes hold each. Assumes nothing.
+-- Two bytes hold the part and the row that a refusal of the check names. Assumes nothing.
 use Prim.Native.Nat.{ℕ, _+_, _-_, _≤_, _<_}
 use native.Mathlib.Omega.{arith}
 use mathlib.Core.Path.{_≡_, sym, _∙_}

@@ -1,4 +1,4 @@
--- A refusal of a plan names a row below 256. Assumes nothing.
+-- Two bytes hold the row that a refusal of a plan names. Assumes nothing.
 use Prim.Native.Nat.{ℕ, _<_}
 use native.Mathlib.Omega.{arith}
 use mathlib.Core.List.{List}

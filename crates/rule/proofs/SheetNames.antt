@@ -1,4 +1,4 @@
--- A refusal of a rule sheet names a part below 64. Assumes nothing.
+-- Two bytes hold the part that a refusal of a rule sheet names. Assumes nothing.
 use Prim.Native.Nat.{ℕ, _<_}
 use native.Mathlib.Omega.{arith}
 use mathlib.Core.List.{List}
