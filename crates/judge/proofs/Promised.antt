@@ -1,5 +1,5 @@
--- The definition of judge keeps its promise, whatever the bytes and numbers, and names no part or row when it refuses by 12.
--- Assumes nothing.
+-- The definition of judge keeps its promise, whatever the bytes and numbers, and two bytes hold the part and the row that its
+-- refusals name. Assumes nothing.
 use Prim.Native.Nat.{ℕ, _+_, _≤_, _<_}
 use native.Mathlib.Omega.{arith}
 use mathlib.Core.Path.{_≡_, refl, sym, ap, _∙_, subst}
