@@ -12,14 +12,14 @@ use Rattle.rule.specs.Layout.{partCount, channelCount}
 use Rattle.rule.specs.Sheet.{sheetOutcome}
 use Rattle.rule.proofs.Cleared.{cleared-counts}
 use Rattle.plan.specs.Layout.{startRows, cycleRows, rows}
-use Rattle.plan.specs.Sizes.{Fitting}
+use Rattle.plan.specs.inner.Sizes.{Fitting}
 use Rattle.plan.specs.Refusals.{planOutcome}
 use Rattle.marks.specs.Layout.{marked, tableOutcome}
 use Rattle.marks.proofs.Outcomes.{cleared-sized}
 use Rattle.acceptance.specs.declared.Checked.{Checked}
 use Rattle.acceptance.specs.declared.Checked.the-variants as C
 use Rattle.acceptance.specs.Check.{markOf, partsOutcome, checkOutcome, answered, checkOf}
-use Rattle.acceptance.specs.Parts.{Prepared}
+use Rattle.acceptance.specs.inner.Parts.{Prepared}
 
 module _ (rule plan table : List ℕ) where
   pub sheet-refused : {r : Refusal} → sheetOutcome rule ≡ Refused r → C.Refused r ≡ checkOf rule plan table

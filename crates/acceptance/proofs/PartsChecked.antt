@@ -6,7 +6,7 @@ use mathlib.Core.List.{List}
 use mathlib.Core.Bool.{Bool, true, false, not, _&&_, Bool·beq}
 use Rattle.cltlb.specs.Truth.{Formula, Holds}
 use Rattle.cltlb.specs.Parts.{isComparison, formulaFrom, formulaOf}
-use Rattle.cltlb.specs.Fits.{ComparisonFits}
+use Rattle.cltlb.specs.inner.Fits.{ComparisonFits}
 use Rattle.cltlb.specs.declared.Part.{Part}
 use Rattle.cltlb.specs.declared.Part.the-variants.{Less, Equal}
 use Rattle.refusal.specs.Lowest.{lowestFrom}
@@ -20,7 +20,7 @@ use Rattle.refusal.proofs.First.{atLowest-clear, refusedAt-clear}
 use Rattle.refusal.proofs.Search.{searchFrom}
 use Rattle.plan.specs.Layout.{startRows, cycleRows, rows}
 use Rattle.plan.specs.Positions.{rowOf}
-use Rattle.plan.specs.Sizes.{Fitting}
+use Rattle.plan.specs.inner.Sizes.{Fitting}
 use Rattle.plan.specs.Run.{runOf}
 use Rattle.plan.proofs.Rows.{row-start}
 use Rattle.judge.specs.declared.Verdict.{Verdict}
@@ -29,12 +29,12 @@ use Rattle.judge.specs.Meaning.{VerdictMeans}
 use Rattle.judge.specs.Rows.{comparisonAt, verdictOf}
 use Rattle.judge.proofs.Verdicts.{by-comparison, judged, comparison-tells}
 use Rattle.marks.specs.Layout.{marked}
-use Rattle.marks.specs.Tables.{allBelow, meetsOn}
+use Rattle.marks.specs.inner.Tables.{allBelow, meetsOn}
 use Rattle.marks.specs.Equations.{expected}
 use Rattle.marks.specs.Parts.{isChanges, wraps, witnessInOrder, breaks, equationOutcome, steadyOutcome, wrapOutcome, closingOutcome, witnessOutcome}
 use Rattle.marks.proofs.AllBelow.{all-each, and-true}
 use Rattle.marks.proofs.Outcomes.{meets-breaks, all-met, closing-wraps}
-use Rattle.acceptance.specs.Parts.{verdictAgrees, PartClear}
+use Rattle.acceptance.specs.inner.Parts.{verdictAgrees, PartClear}
 
 false≢true : false ≡ true → ⊥
 false≢true e = let z : _≡_ {A = ℕ} 0 1 = cc in omega arith

@@ -5,7 +5,7 @@ use mathlib.Core.Path.{_≡_, refl, sym, ap, ap₂, _∙_, subst, subst₂}
 use mathlib.Core.List.{List}
 use mathlib.Core.Bool.{Bool, true, false, cond}
 use Rattle.cltlb.specs.Parts.{NamesLower}
-use Rattle.cltlb.specs.Fits.{ComparisonFits}
+use Rattle.cltlb.specs.inner.Fits.{ComparisonFits}
 use Rattle.cltlb.specs.declared.Part.{Part}
 use Rattle.refusal.specs.Lowest.{lowestFrom}
 use Rattle.refusal.specs.First.{_orElse_, refusedAt, atLowest, inTurn}
@@ -20,12 +20,12 @@ use Rattle.rule.specs.declared.Taken.{Taken}
 use Rattle.rule.specs.declared.Taken.the-variants as K
 use Rattle.rule.proofs.Cleared.{cleared-taken, cleared-lower, cleared-terms}
 use Rattle.plan.specs.Layout.{startRows, cycleRows, rows}
-use Rattle.plan.specs.Sizes.{Fitting}
+use Rattle.plan.specs.inner.Sizes.{Fitting}
 use Rattle.judge.proofs.Entry.{taken-part}
 use Rattle.marks.specs.Layout.{marked, witnessOf}
 use Rattle.marks.specs.Parts.{breaks, equationOutcome, closingOutcome, witnessOutcome, partOutcome}
 use Rattle.acceptance.specs.Check.{markOf, witnessAt, partsOutcome}
-use Rattle.acceptance.specs.Parts.{Readable, PartClear, Prepared}
+use Rattle.acceptance.specs.inner.Parts.{Readable, PartClear, Prepared}
 
 orElse-assoc : (x y z : Outcome) → ((x orElse y) orElse z) ≡ (x orElse (y orElse z))
 unfolding _orElse_

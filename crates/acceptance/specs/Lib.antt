@@ -1,3 +1,3 @@
 pub mod Check
 pub mod Promise
-pub mod Parts
+pub mod inner

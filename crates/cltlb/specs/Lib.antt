@@ -2,4 +2,4 @@ pub mod Run
 pub mod Operators
 pub mod Truth
 pub mod Parts
-pub mod Fits
+pub mod inner

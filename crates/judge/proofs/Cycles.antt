@@ -19,8 +19,8 @@ use Rattle.plan.proofs.Lines.{run-later}
 use Rattle.judge.specs.Lines.{onPass}
 use Rattle.judge.specs.Comparisons.{testOf, judgeLines}
 use Rattle.judge.specs.Rows.{tested, channelLine, termLine, joinFirst, testAt, judgeCycle}
-use Rattle.cltlb.specs.Fits.{ShiftFits, TermFits}
-use Rattle.judge.specs.Reach.{back, reach}
+use Rattle.cltlb.specs.inner.Fits.{ShiftFits, TermFits}
+use Rattle.judge.specs.inner.Reach.{back, reach}
 use Rattle.judge.specs.declared.Relation.{Relation}
 use Rattle.judge.proofs.Passes.{PassMeans, means-iff, means-one, first-means}
 use Rattle.judge.proofs.Decisions.{Decides, Judges, Relates, tells, judges}

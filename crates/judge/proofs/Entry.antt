@@ -10,7 +10,7 @@ use mathlib.Core.Bool.{Bool, true, false, _&&_}
 use lib.Dec.{ltb}
 use borrow.Author.Tests.{lt-ltb, le-ltb}
 use Rattle.cltlb.specs.Parts.{isComparison, NamesLower}
-use Rattle.cltlb.specs.Fits.{ComparisonFits}
+use Rattle.cltlb.specs.inner.Fits.{ComparisonFits}
 use Rattle.cltlb.specs.declared.Part.{Part}
 use Rattle.refusal.specs.declared.Refusal.{Refusal}
 use Rattle.refusal.specs.declared.Refusal.the-variants.{Absent}
@@ -18,7 +18,7 @@ use Rattle.refusal.specs.declared.Outcome.{Outcome}
 use Rattle.refusal.specs.declared.Outcome.the-variants.{Clear, Refused}
 use Rattle.refusal.specs.First.{_orElse_, unless}
 use Rattle.rule.specs.Layout.{partCount, channelCount, sizesFit}
-use Rattle.rule.specs.Sizes as ruleSizes
+use Rattle.rule.specs.inner.Sizes as ruleSizes
 use Rattle.rule.specs.declared.sizes.Sizes.the-variants as R
 use Rattle.rule.specs.declared.Taken.{Taken}
 use Rattle.rule.specs.declared.Taken.the-variants as K
@@ -28,8 +28,8 @@ use Rattle.rule.proofs.SizesRead.{wrong-sizes, right-sizes}
 use Rattle.rule.proofs.Taking.{take-absent}
 use Rattle.rule.proofs.Cleared.{cleared-sizes, cleared-taken, cleared-terms, cleared-lower}
 use Rattle.plan.specs.Layout.{startRows, cycleRows, rows}
-use Rattle.plan.specs.Sizes as planSizes
-use Rattle.plan.specs.Sizes.{Fitting}
+use Rattle.plan.specs.inner.Sizes as planSizes
+use Rattle.plan.specs.inner.Sizes.{Fitting}
 use Rattle.plan.specs.declared.sizes.Sizes.the-variants as P
 use Rattle.plan.specs.Refusals.{planOutcome}
 use Rattle.plan.proofs.Fits.{counted}

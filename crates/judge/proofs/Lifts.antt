@@ -8,9 +8,9 @@ use mir.Val.{SFits}
 use Rattle.fields.specs.TwosComplement.{signedOf, patternOf}
 use Rattle.fields.proofs.Differences.{sub-same, sub-eq, pos-sub, negsuc-sub}
 use Rattle.fields.proofs.Patterns.{signed-pattern, fits-w32}
-use Rattle.plan.specs.Lifted.{unbiased, lowered}
-use Rattle.cltlb.specs.Fits.{ShiftFits}
-use Rattle.judge.specs.Reach.{back}
+use Rattle.plan.specs.inner.Lifted.{unbiased, lowered}
+use Rattle.cltlb.specs.inner.Fits.{ShiftFits}
+use Rattle.judge.specs.inner.Reach.{back}
 
 -- a number of an `i32` from its pattern
 pub lifts : (z : ℤ) (n b : ℕ) → SFits w32 z → n ≡ patternOf 4 z → unbiased b ≡ signedOf 4 n → unbiased b ≡ z

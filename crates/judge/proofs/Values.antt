@@ -21,18 +21,18 @@ use Rattle.cltlb.specs.declared.Part.the-variants.{Less, Equal, Not, And, Or, N
 use Rattle.fields.proofs.Differences.{sub-pos, sub-eq, pos-sub, negsuc-sub}
 use Rattle.plan.specs.Layout.{startRows, cycleRows, driftOf}
 use Rattle.plan.specs.Positions.{rowOf, passOf}
-use Rattle.plan.specs.Sizes.{Fitting}
+use Rattle.plan.specs.inner.Sizes.{Fitting}
 use Rattle.plan.specs.Run.{readingOn, readingAt, runOf}
-use Rattle.plan.specs.Lifted.{unbiased, lowered, seenOf}
+use Rattle.plan.specs.inner.Lifted.{unbiased, lowered, seenOf}
 use Rattle.plan.specs.declared.lookup.Seen.{Seen}
 use Rattle.plan.specs.declared.lookup.Seen.the-variants.{Number, BeforeRun}
 use Rattle.plan.proofs.Shifts.{shifted}
 use Rattle.judge.specs.Comparisons.{testOf, judgeLines, ofComparison}
 use Rattle.judge.specs.Lines.{Line}
 use Rattle.judge.specs.Rows.{tested, channelLine, termLine, join, joinFirst, testAt, judgeCycle, judgeRow, verdictOf}
-use Rattle.cltlb.specs.Fits.{ShiftFits, TermFits, ComparisonFits}
-use Rattle.judge.specs.Reach.{back, reach}
-use Rattle.judge.specs.Judgement.{Judgement}
+use Rattle.cltlb.specs.inner.Fits.{ShiftFits, TermFits, ComparisonFits}
+use Rattle.judge.specs.inner.Reach.{back, reach}
+use Rattle.judge.specs.inner.Judgement.{Judgement}
 use Rattle.judge.specs.declared.Relation.{Relation}
 use Rattle.judge.specs.declared.Relation.the-variants.{Below, Same}
 use Rattle.judge.specs.declared.Verdict.{Verdict}

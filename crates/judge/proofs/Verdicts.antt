@@ -20,7 +20,7 @@ use Rattle.plan.proofs.Rows.{row-start, row-ge, row-again, row-split}
 use Rattle.judge.specs.Meaning.{VerdictMeans}
 use Rattle.judge.specs.Comparisons.{ofComparison}
 use Rattle.judge.specs.Rows.{testAt, judgeCycle, judgeRow, comparisonAt, verdictOf}
-use Rattle.cltlb.specs.Fits.{TermFits, ComparisonFits}
+use Rattle.cltlb.specs.inner.Fits.{TermFits, ComparisonFits}
 use Rattle.judge.specs.declared.Relation.{Relation}
 use Rattle.judge.specs.declared.Relation.the-variants.{Below, Same}
 use Rattle.judge.specs.declared.Verdict.{Verdict}

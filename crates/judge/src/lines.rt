@@ -4,7 +4,7 @@ ghost use mathlib.Core.Bool.{cond};
 ghost use Prim.Native.Nat.{_<_};
 ghost use Rattle.judge.specs.Lines.{judgeLess, meets, judgeEqual};
 ghost use Rattle.judge.specs.Comparisons.{judgeLines};
-ghost use Rattle.judge.specs.Lifted.{lineOf};
+ghost use Rattle.judge.specs.inner.Lifted.{lineOf};
 use crate::Relation;
 use crate::Verdict;
 

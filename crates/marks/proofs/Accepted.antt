@@ -19,7 +19,7 @@ use Rattle.refusal.proofs.First.{inTurn-clear}
 use Rattle.plan.specs.Layout.{startRows, cycleRows, rows}
 use Rattle.plan.specs.Positions.{passOf}
 use Rattle.plan.specs.Run.{runOf}
-use Rattle.cltlb.specs.Fits.{ComparisonFits}
+use Rattle.cltlb.specs.inner.Fits.{ComparisonFits}
 use Rattle.marks.specs.Parts.{witnessInOrder, partOutcome}
 use Rattle.marks.specs.Meaning.{Truth, Settled, MarksTrue, WitnessesInOrder}
 use Rattle.marks.proofs.Tests.{T-path, T-ext}

@@ -7,7 +7,7 @@ use native.Mathlib.Nat.{not-suc-le-zero}
 use native.Mathlib.Decide.{decLt}
 use native.Mathlib.Numerals.{add-one}
 use native.Mathlib.Omega.{arith}
-use Rattle.marks.specs.Tables.{allBelow}
+use Rattle.marks.specs.inner.Tables.{allBelow}
 
 and-idr : (x : Bool) → (x && true) ≡ x
 and-idr true = refl

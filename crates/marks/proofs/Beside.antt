@@ -13,7 +13,7 @@ use Rattle.cltlb.specs.declared.Part.the-variants.{Less, Equal, Not, And, Or, N
 use Rattle.plan.specs.Positions.{last, after}
 use Rattle.plan.proofs.Rows.{after-last, after-other}
 use Rattle.marks.specs.Layout.{markByte, marked}
-use Rattle.marks.specs.Tables.{allBelow, flipped, copiesOf, stepsOf, markIn, looksBack, byRowBeside, meetsBeside, meetsOn}
+use Rattle.marks.specs.inner.Tables.{allBelow, flipped, copiesOf, stepsOf, markIn, looksBack, byRowBeside, meetsBeside, meetsOn}
 use Rattle.marks.specs.Equations.{byRowBefore, expected}
 use Rattle.marks.specs.Parts.{wraps}
 use Rattle.marks.proofs.Tests.{de-morgan, beq-not}

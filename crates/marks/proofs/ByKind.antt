@@ -12,7 +12,7 @@ use Rattle.cltlb.specs.declared.Part.{Part}
 use Rattle.cltlb.specs.declared.Part.the-variants.{Less, Equal, Not, And, Or, Next, Until, Release, Yesterday, WeakYesterday, Since, Trigger}
 use Rattle.plan.specs.Positions.{last}
 use Rattle.marks.specs.Equations.{expected}
-use Rattle.marks.specs.Tables.{looksBack, meetsOn}
+use Rattle.marks.specs.inner.Tables.{looksBack, meetsOn}
 use Rattle.marks.specs.Parts.{noWitness, isCycleRow, witnessInOrder}
 
 -- ---- row 0 of parts that look back

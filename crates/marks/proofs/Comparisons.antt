@@ -23,7 +23,7 @@ use Rattle.judge.specs.declared.Verdict.{Verdict}
 use Rattle.judge.specs.declared.Verdict.the-variants.{AlwaysTrue, AlwaysFalse, Changes}
 use Rattle.judge.specs.Meaning.{VerdictMeans}
 use Rattle.judge.specs.Rows.{comparisonAt, verdictOf}
-use Rattle.cltlb.specs.Fits.{ComparisonFits}
+use Rattle.cltlb.specs.inner.Fits.{ComparisonFits}
 use Rattle.judge.proofs.Verdicts.{judged, comparison-tells}
 use Rattle.marks.specs.Parts.{isChanges, steadyOutcome}
 use Rattle.marks.proofs.Tests.{T-true, T-ext}

@@ -19,7 +19,7 @@ use Rattle.plan.specs.Layout.{startRows, cycleRows, rows}
 use Rattle.judge.specs.Comparisons.{ofComparison}
 use Rattle.judge.specs.Rows.{comparisonAt}
 use Rattle.marks.specs.Layout.{sizesFit, bytesOutcome, tableOutcome}
-use Rattle.marks.specs.Tables.{allBelow, meetsOn, Sized}
+use Rattle.marks.specs.inner.Tables.{allBelow, meetsOn, Sized}
 use Rattle.marks.specs.Equations.{byRowBefore, expected}
 use Rattle.marks.specs.Parts.{wraps, breaks, equationOutcome, wrapOutcome, closingOutcome}
 use Rattle.marks.proofs.AllBelow.{and-true, all-each}

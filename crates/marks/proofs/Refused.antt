@@ -13,7 +13,7 @@ use Rattle.refusal.specs.declared.Outcome.the-variants.{Clear, Refused}
 use Rattle.refusal.specs.declared.Refusal.the-variants.{MarkSizes, MarkByte}
 use Rattle.refusal.proofs.First.{atLowest-clear, inTurn-clear}
 use Rattle.marks.specs.Layout.{sizesFit, markByte, aboveOne, bytesOutcome, tableOutcome}
-use Rattle.marks.specs.Tables.{allBelow}
+use Rattle.marks.specs.inner.Tables.{allBelow}
 use Rattle.marks.proofs.AllBelow.{all-each}
 use Rattle.marks.proofs.Places.{cell}
 

@@ -3,7 +3,7 @@ use mathlib.Core.Path.{_≡_, refl, subst, subst⁻¹}
 use mathlib.Core.Bool.{Bool, true, false, not, _&&_, _||_, Bool·beq}
 use mathlib.Core.Logic.{_↔_, _⊎_, inl, inr, ⊎-elim}
 use lib.Dec.{T, T-not, not-T}
-use Rattle.marks.specs.Tables.{flipped}
+use Rattle.marks.specs.inner.Tables.{flipped}
 
 pub T-dec : (x : Bool) → T x ⊎ T (not x)
 T-dec true = inl tt

@@ -1,5 +1,5 @@
 pub mod Layout
 pub mod Equations
-pub mod Tables
 pub mod Parts
 pub mod Meaning
+pub mod inner

@@ -6,7 +6,7 @@ ghost use Prim.Native.Nat.{_+_, _*_, _≤_, _<_};
 ghost use Rattle.cltlb.specs.Parts.{isComparison, NamesLower};
 ghost use Rattle.plan.specs.Positions.{after};
 ghost use Rattle.marks.specs.Layout.{marked};
-ghost use Rattle.marks.specs.Tables.{allBelow, copiesOf, stepsOf, looksBack, meetsBeside, meetsOn, Sized};
+ghost use Rattle.marks.specs.inner.Tables.{allBelow, copiesOf, stepsOf, looksBack, meetsBeside, meetsOn, Sized};
 ghost use Rattle.marks.specs.Parts.{wraps};
 use crate::sweeps::agree;
 use crate::sweeps::copies;

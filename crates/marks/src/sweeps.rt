@@ -5,7 +5,7 @@ ghost use mathlib.Core.Bool.{Bool·beq, not, _&&_, _||_};
 ghost use Prim.Native.Nat.{_+_, _≤_};
 ghost use lib.Dec.{eqb, ltb};
 ghost use lib.ListN.{length, getD};
-ghost use Rattle.marks.specs.Tables.{allBelow, flipped, copiesOf, stepsOf, markIn};
+ghost use Rattle.marks.specs.inner.Tables.{allBelow, flipped, copiesOf, stepsOf, markIn};
 
 // Every one of `count` bytes from `at` on is a mark, 0 or 1.
 pub fn all_marks(table: &[u8], at: usize, count: usize) -> bool

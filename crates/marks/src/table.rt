@@ -3,7 +3,7 @@ ghost use mathlib.Core.Path.{_≡_};
 ghost use Prim.Native.Nat.{_≤_, _<_};
 ghost use Rattle.refusal.specs.First.{inTurn};
 ghost use Rattle.marks.specs.Layout.{markByte, marked, witnessOf, bytesOutcome, tableOutcome};
-ghost use Rattle.marks.specs.Tables.{Sized};
+ghost use Rattle.marks.specs.inner.Tables.{Sized};
 use crate::sweeps::all_marks;
 use fields::u16_at;
 use refusal::Outcome;

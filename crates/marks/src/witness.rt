@@ -4,7 +4,7 @@ ghost use mathlib.Core.Bool.{_&&_};
 ghost use Prim.Native.Nat.{_+_, _≤_, _<_};
 ghost use Rattle.cltlb.specs.Parts.{NamesLower};
 ghost use Rattle.marks.specs.Layout.{marked, witnessOf};
-ghost use Rattle.marks.specs.Tables.{flipped, Sized};
+ghost use Rattle.marks.specs.inner.Tables.{flipped, Sized};
 ghost use Rattle.marks.specs.Parts.{isCycleRow, witnessInOrder};
 use crate::table::mark_at;
 use crate::table::witness_at;

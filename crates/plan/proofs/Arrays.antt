@@ -7,7 +7,7 @@ use mathlib.Core.List.{List}
 use lib.ListN.{length, take, drop, length-take, length-drop}
 use lib.IntN.{pos, _+ℤ_, _*ℤ_}
 use Rattle.plan.specs.Layout.{rows, headLength, arrayLength, readings, drifts, cell, entry, readingOf, driftOf}
-use Rattle.plan.specs.Sizes.{Fitting}
+use Rattle.plan.specs.inner.Sizes.{Fitting}
 use Rattle.plan.specs.Positions.{rowOf, passOf}
 use Rattle.plan.specs.Run.{readingOn, readingAt}
 

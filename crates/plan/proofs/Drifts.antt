@@ -11,8 +11,8 @@ use lib.IntN.{ℤ}
 use borrow.Author.Tests.{eq-eqb, ne-eqb}
 use Rattle.fields.proofs.Differences.{sub-pos, sub-neg}
 use Rattle.plan.specs.Layout.{driftOf}
-use Rattle.plan.specs.Sizes.{Fitting}
-use Rattle.plan.specs.Lifted.{unbiased}
+use Rattle.plan.specs.inner.Sizes.{Fitting}
+use Rattle.plan.specs.inner.Lifted.{unbiased}
 use Rattle.plan.specs.Refusals.{isZero, anyBelow, driftsAt, drifting}
 
 -- A search for one that is true, going up.

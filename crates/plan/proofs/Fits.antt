@@ -8,7 +8,7 @@ use lib.ListN.{length}
 use lib.Dec.{leb, eqb}
 use borrow.Author.Tests.{le-leb, lt-leb, eq-eqb, ne-eqb, leb-true, eqb-true}
 use Rattle.plan.specs.Layout.{channels, startRows, cycleRows, rows, headLength, arrayLength, sizesFit}
-use Rattle.plan.specs.Sizes.{sizesOf, Fitting}
+use Rattle.plan.specs.inner.Sizes.{sizesOf, Fitting}
 use Rattle.plan.specs.declared.sizes.Sizes.the-variants.{Counts, Wrong}
 
 both : (a b : Bool) → a && b ≡ true → (a ≡ true) × (b ≡ true)

@@ -6,7 +6,7 @@ use native.Mathlib.Omega.{arith}
 use mathlib.Core.Path.{_≡_, sym, ap₂, _∙_}
 use lib.IntN.{ℤ, pos, _+ℤ_, _*ℤ_}
 use Rattle.fields.proofs.Differences.{sub-same, sub-line}
-use Rattle.plan.specs.Lifted.{unbiased, lowered}
+use Rattle.plan.specs.inner.Lifted.{unbiased, lowered}
 
 -- the value on pass k, of a reading and a drift
 pub lifted : (a d k : ℕ) {x y : ℤ} → k < 1024 → unbiased a ≡ x → unbiased d ≡ y → lowered (a + k * d + (1023 - k) * 2147483648) ≡ x +ℤ pos k *ℤ y

@@ -9,7 +9,7 @@ use Rattle.refusal.specs.declared.Outcome.the-variants.{Clear, Refused}
 use Rattle.refusal.specs.declared.Refusal.the-variants.{PlanSizes, Channels, StartDrift}
 use Rattle.refusal.proofs.First.{orElse-clear, unless-clear, atLowest-clear}
 use Rattle.plan.specs.Layout.{channels, startRows, cycleRows, sizesFit}
-use Rattle.plan.specs.Sizes.{sizesOf, Fitting}
+use Rattle.plan.specs.inner.Sizes.{sizesOf, Fitting}
 use Rattle.plan.specs.Refusals.{drifting, planOutcome}
 use Rattle.plan.specs.declared.sizes.Sizes.the-variants.{Counts, Wrong}
 use Rattle.plan.proofs.Fits.{fitting, fits-true, counted, unfit}

@@ -5,10 +5,10 @@ use mathlib.Core.Bool.{and-false}
 use mathlib.Core.List.{List}
 use lib.IntN.{subℕ}
 use borrow.Author.Tests.{lt-ltb, le-ltb, le-leb, lt-leb}
-use Rattle.plan.specs.Sizes.{sizesOf, Fitting}
+use Rattle.plan.specs.inner.Sizes.{sizesOf, Fitting}
 use Rattle.plan.specs.Run.{runOf}
-use Rattle.plan.specs.Lifted.{seenOf}
-use Rattle.plan.specs.View.{inReach, foundIn, foundOf}
+use Rattle.plan.specs.inner.Lifted.{seenOf}
+use Rattle.plan.specs.inner.View.{inReach, foundIn, foundOf}
 use Rattle.plan.specs.declared.sizes.Sizes.the-variants.{Wrong}
 use Rattle.plan.specs.declared.lookup.Seen.{Seen}
 use Rattle.plan.specs.declared.view.Found.the-variants.{Inside, Outside}

@@ -1,7 +1,5 @@
 pub mod Layout
-pub mod Sizes
 pub mod Positions
 pub mod Run
-pub mod Lifted
 pub mod Refusals
-pub mod View
+pub mod inner

@@ -3,7 +3,7 @@ ghost use mathlib.Core.Path.{_≡_};
 ghost use Prim.Native.Nat.{_+_, _<_};
 ghost use Rattle.refusal.specs.First.{atLowest};
 ghost use Rattle.refusal.specs.declared.Refusal.the-variants.{StartDrift};
-ghost use Rattle.plan.specs.Sizes.{Fitting};
+ghost use Rattle.plan.specs.inner.Sizes.{Fitting};
 ghost use Rattle.plan.specs.Refusals as refusals;
 use crate::lookup::drift_at;
 use crate::sizes::Sizes;

@@ -1,6 +1,6 @@
 // The plan's sizes, read and held to their ranges and to the length.
 ghost use mathlib.Core.Path.{_≡_};
-ghost use Rattle.plan.specs.Sizes.{sizesOf};
+ghost use Rattle.plan.specs.inner.Sizes.{sizesOf};
 use crate::layout::array_length;
 use crate::layout::head_length;
 use fields::u16_at;

@@ -15,7 +15,7 @@ use Rattle.refusal.specs.declared.Outcome.{Outcome}
 use Rattle.refusal.specs.declared.Outcome.the-variants.{Clear, Refused}
 use Rattle.refusal.proofs.Lowest.{lowest-none, passes, found, ended}
 
-clear-refused : {r : Refusal} → Refused r ≡ Clear → ⊥
+pub clear-refused : {r : Refusal} → Refused r ≡ Clear → ⊥
 clear-refused e = let z : _≡_ {A = ℕ} 0 1 = cc in omega arith
 
 -- Two tests refuse nothing where neither does.

@@ -17,6 +17,7 @@ pub mod SizesKnown
 pub mod TakenIsLaid
 pub mod Written
 pub mod RoundTrips
+pub mod Promised
 pub mod PartsFit
 pub mod Cleared
 pub mod Examples

@@ -1,7 +1,7 @@
 -- An operand's twelve bytes, written as two or three neighbouring fields. Assumes nothing.
 use Prim.Native.Nat.{ℕ, _+_, _-_, _≤_, _<_}
 use native.Mathlib.Omega.{arith}
-use mathlib.Core.Path.{_≡_, refl, sym, ap, _∙_}
+use mathlib.Core.Path.{_≡_, refl, sym, ap, _∙_, subst⁻¹}
 use mathlib.Core.List.{List, _++_, append-assoc}
 use lib.ListN.{length, take, drop, replicate, length-append, length-take, length-drop, length-replicate}
 use borrow.Rule.Slice.PartMut.{putMid}
@@ -13,6 +13,7 @@ use Rattle.rule.specs.declared.operands.Operand.the-variants.{Terms, One
 use Rattle.rule.specs.Terms.{termBytes}
 use Rattle.rule.specs.Operands.{operandBytes}
 use Rattle.rule.specs.Put.{overwritten}
+use Rattle.rule.specs.inner.Laid.{WordTerm, WordOperand}
 use Rattle.rule.proofs.Overwriting.{lent-front, lent-whole, then-behind, same-length}
 use Rattle.rule.proofs.TermsWritten.{term-length}
 
@@ -77,3 +78,16 @@ module _ (s : List ℕ) (a : ℕ) (long : a + 12 ≤ length s) where
       zeros (putMid (a + 2) (n - (a + 2)) (putMid a (length s - a) s ys) zs) us (bytesOf 2 x ++ bytesOf 2 y) 4 8 g
       (length-append (bytesOf 2 x) (bytesOf 2 y) ∙ (let e = length-bytes 2 x in let d = length-bytes 2 y in omega arith)) refl r
       ∙ ap (overwritten s a) (append-assoc (bytesOf 2 x) (bytesOf 2 y) (replicate 8 0))
+
+-- an operand of code: its constants are numbers of four bytes
+pub terms-word : (left right : Term) → WordTerm left → WordTerm right → WordOperand (Terms left right)
+unfolding WordOperand
+terms-word left right a b = (a, b)
+
+pub one-word : {x : Operand} {a : ℕ} → x ≡ One a → WordOperand x
+unfolding WordOperand
+one-word e = subst⁻¹ WordOperand e tt
+
+pub two-word : {x : Operand} {a b : ℕ} → x ≡ Two a b → WordOperand x
+unfolding WordOperand
+two-word e = subst⁻¹ WordOperand e tt

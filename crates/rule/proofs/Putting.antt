@@ -15,7 +15,7 @@ use Rattle.refusal.specs.First.{_orElse_, unless}
 use Rattle.cltlb.specs.declared.Part.{Part}
 use Rattle.rule.specs.declared.sizes.Sizes.the-variants.{Counts, Wrong}
 use Rattle.rule.specs.Layout.{kindPlace, operandPlace}
-use Rattle.rule.specs.Sizes.{sizesOf}
+use Rattle.rule.specs.inner.Sizes.{sizesOf}
 use Rattle.rule.specs.Operands.{operandBytes, operandFits}
 use Rattle.rule.specs.Kinds.{kindOf, operandOf}
 use Rattle.rule.specs.Put.{putOutcome, overwritten, written, afterPut, putBytes}

@@ -9,7 +9,7 @@ use borrow.Author.Tests.{le-leb, lt-leb, eq-eqb, ne-eqb}
 use Rattle.fields.specs.LittleEndian.{numberAt}
 use Rattle.rule.specs.declared.sizes.Sizes.the-variants.{Counts, Wrong}
 use Rattle.rule.specs.Layout.{partCount, channelCount, sizesFit}
-use Rattle.rule.specs.Sizes.{sizesOf, Counted}
+use Rattle.rule.specs.inner.Sizes.{sizesOf, Counted}
 
 module _ (sheet : List ℕ) where
   pub wrong : sizesFit sheet ≡ false → Wrong ≡ sizesOf sheet

@@ -18,7 +18,7 @@ use Rattle.rule.specs.declared.operands.OperandRead.{OperandRead}
 use Rattle.rule.specs.declared.operands.OperandRead.the-variants as O
 use Rattle.rule.specs.declared.operands.Shape.{Shape}
 use Rattle.rule.specs.Layout.{partCount, channelCount, kindByte, kindPlace, operandPlace, sizesFit}
-use Rattle.rule.specs.Sizes.{sizesOf}
+use Rattle.rule.specs.inner.Sizes.{sizesOf}
 use Rattle.rule.specs.Operands.{operandAt, operandFits}
 use Rattle.rule.specs.Kinds.{shapeOf, isUnknown, kindUnknown, partOf}
 use Rattle.rule.specs.Take.{takenOperand, takeOf}

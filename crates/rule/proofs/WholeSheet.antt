@@ -19,7 +19,7 @@ use Rattle.rule.specs.declared.sizes.Sizes.the-variants.{Counts, Wrong}
 use Rattle.rule.specs.declared.operands.OperandRead.{OperandRead}
 use Rattle.rule.specs.declared.operands.OperandRead.the-variants as O
 use Rattle.rule.specs.Layout.{partCount, channelCount, kindByte, operandPlace, sizesFit}
-use Rattle.rule.specs.Sizes.{sizesOf}
+use Rattle.rule.specs.inner.Sizes.{sizesOf}
 use Rattle.rule.specs.Operands.{operandAt, operandFits}
 use Rattle.rule.specs.Kinds.{shapeOf, kindUnknown, partOf}
 use Rattle.rule.specs.Take.{takenOperand, takeOf, refusalTaken}

@@ -1,7 +1,7 @@
 // The rule sheet: one part of it taken and put, and the whole of it checked.
 ghost use mathlib.Core.Path.{_≡_};
-ghost use Rattle.rule.specs.Take.{takeOf, refusalTaken};
-ghost use Rattle.rule.specs.Put.{putOutcome, putBytes};
+ghost use Rattle.rule.specs.Take.{refusalTaken};
+ghost use Rattle.rule.specs.Promise.{TakePromise, PutPromise};
 ghost use Rattle.rule.specs.Sheet.{untakeable, KindsKnown, sheetOutcome};
 ghost use Rattle.rule.specs.Kinds.{kindUnknown};
 ghost use Rattle.refusal.specs.First.{atLowest};
@@ -26,7 +26,7 @@ pub enum Taken {
 
 // The part with number `n`. Refused: 1, 12, then 2 and 3 on that part.
 pub fn take(sheet: &[u8], n: usize) -> Taken
-    ensures { λ r. ⌜ r ≡ takeOf (now (sheet .entry)) n ⌝ }
+    ensures { λ r. ⌜ TakePromise (now (sheet .entry)) n r ⌝ }
 {
     let Sizes::Counts { parts, channels } = sizes::read_sizes(sheet) else {
         return Taken::Refused(Refusal::RuleSizes);
@@ -53,7 +53,7 @@ pub fn take(sheet: &[u8], n: usize) -> Taken
 // Writes a part at number `n`: its kind byte and the twelve bytes of its operand. Refused, with every byte as it was: 1,
 // 12, then 3 on the part.
 pub fn put(sheet: &mut [u8], n: usize, part: Part) -> Outcome
-    ensures { λ r. ⌜ (r ≡ putOutcome (now (sheet .entry)) n part) × (now (sheet .exit) ≡ putBytes (now (sheet .entry)) n part) ⌝ }
+    ensures { λ r. ⌜ PutPromise (now (sheet .entry)) n part r (now (sheet .exit)) ⌝ }
 {
     let Sizes::Counts { parts, channels } = sizes::read_sizes(sheet) else {
         return Outcome::Refused(Refusal::RuleSizes);

@@ -6,6 +6,7 @@ ghost use Prim.Native.Nat.{_+_, _≤_, _<_};
 ghost use lib.ListN.{length, drop, replicate};
 ghost use Rattle.rule.specs.Operands.{operandAt, operandFits, operandBytes, allZero};
 ghost use Rattle.rule.specs.Put.{overwritten};
+ghost use Rattle.rule.specs.inner.Laid.{WordOperand};
 use crate::terms::TermRead;
 use cltlb::Term;
 
@@ -115,7 +116,7 @@ fn clear(t: &mut [u8])
 
 fn put_terms(s: &mut [u8], at: usize, left: Term, right: Term)
     requires { ⌜ (at + 12 ≤ length (now s)) × (operandFits 8 64 (Operand.Terms left right) ≡ true) ⌝ }
-    ensures { λ _. ⌜ now (s .exit) ≡ overwritten (now (s .entry)) at (operandBytes (Operand.Terms left right)) ⌝ }
+    ensures { λ _. ⌜ (now (s .exit) ≡ overwritten (now (s .entry)) at (operandBytes (Operand.Terms left right))) × WordOperand (Operand.Terms left right) ⌝ }
 {
     crate::terms::put_term(&mut s[at..], left);
     crate::terms::put_term(&mut s[at + 6..at + 12], right);
@@ -141,7 +142,7 @@ fn put_two(s: &mut [u8], at: usize, a: usize, b: usize)
 // Writes an operand over the twelve bytes of a sheet from `at` on.
 pub fn put_operand(s: &mut [u8], at: usize, x: Operand)
     requires { ⌜ (at + 12 ≤ length (now s)) × (operandFits 8 64 x ≡ true) ⌝ }
-    ensures { λ _. ⌜ now (s .exit) ≡ overwritten (now (s .entry)) at (operandBytes x) ⌝ }
+    ensures { λ _. ⌜ (now (s .exit) ≡ overwritten (now (s .entry)) at (operandBytes x)) × WordOperand x ⌝ }
 {
     match x {
         Operand::Terms(left, right) => put_terms(s, at, left, right),

@@ -1,6 +1,6 @@
 // The sizes at the front of a rule sheet.
 ghost use mathlib.Core.Path.{_≡_};
-ghost use Rattle.rule.specs.Sizes.{sizesOf, Counted};
+ghost use Rattle.rule.specs.inner.Sizes.{sizesOf, Counted};
 
 // The number of parts and of channels, or that the sizes or the length are wrong.
 pub enum Sizes {

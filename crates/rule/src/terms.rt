@@ -5,6 +5,7 @@ ghost use mathlib.Core.List.{_∷_, _++_};
 ghost use Prim.Native.Nat.{_+_, _≤_};
 ghost use lib.ListN.{length, drop};
 ghost use Rattle.fields.specs.LittleEndian.{bytesOf};
+ghost use Rattle.rule.specs.inner.Laid.{WordTerm};
 ghost use Rattle.rule.specs.Terms.{shiftOf, codeOf, shiftFits, termAt, termFits, termBytes};
 use cltlb::Term;
 
@@ -81,7 +82,7 @@ fn put_fields(t: &mut [u8], form: u8, code: u8, number: u32)
 // Writes a term over the six bytes at the front of a lent part.
 pub fn put_term(t: &mut [u8], x: Term)
     requires { ⌜ (6 ≤ length (now t)) × (termFits 8 x ≡ true) ⌝ }
-    ensures { λ _. ⌜ now (t .exit) ≡ termBytes x ++ drop 6 (now (t .entry)) ⌝ }
+    ensures { λ _. ⌜ (now (t .exit) ≡ termBytes x ++ drop 6 (now (t .entry))) × WordTerm x ⌝ }
 {
     match x {
         Term::Constant(z) => put_fields(t, 0, 4, fields::pattern(z)),

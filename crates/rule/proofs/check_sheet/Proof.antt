@@ -1,7 +1,7 @@
 use denote.Ref.{now}
 use native.Mathlib.Omega.{arith}
 use mathlib.Core.Path.{sym, subst, _∙_}
-use Rattle.rule.specs.Sizes.{Counted}
+use Rattle.rule.specs.inner.Sizes.{Counted}
 use Rattle.rule.proofs.WholeSheet as law
 use borrow.Author.Needs.{needs}
 use Rattle.rule.proofs.check_sheet.Statement.{statement}

@@ -4,12 +4,13 @@ use mathlib.Core.Path.{sym, ap, subst, _∙_}
 use Prim.Native.Nat.{ℕ, _+_, _*_}
 use mathlib.Core.List.{List}
 use lib.ListN.{set, length-set}
-use Rattle.rule.specs.Sizes.{Counted}
+use Rattle.rule.specs.inner.Sizes.{Counted}
 use Rattle.rule.specs.Operands.{operandBytes, operandFits}
 use Rattle.rule.specs.declared.operands.Operand.{Operand}
 use Rattle.rule.specs.Put.{overwritten}
 use Rattle.rule.proofs.Fits.{operand-more}
 use Rattle.rule.proofs.Putting as law
+use Rattle.rule.proofs.Promised.{put-refused, put-kept}
 use borrow.Author.Needs.{needs}
 use Rattle.rule.proofs.put.Statement.{statement}
 use Rattle.rule.proofs.put.Tie as tie
@@ -39,7 +40,7 @@ same-length c = search needs
 
 -- src/lib.rt:57:9
 returns : tie.Need-returns
-returns c = law.put-sizes (now (c .before .before .before .before .before .args .sheet)) (c .before .before .before .before .before .args .n) (c .before .before .before .before .before .args .part) (sym (c .before .before .read-sizes .ensures .0) ∙ c .enum-told .given .1)
+returns c = put-refused (now (c .before .before .before .before .before .args .sheet)) (c .before .before .before .before .before .args .n) (c .before .before .before .before .before .args .part) (law.put-sizes (now (c .before .before .before .before .before .args .sheet)) (c .before .before .before .before .before .args .n) (c .before .before .before .before .before .args .part) (sym (c .before .before .read-sizes .ensures .0) ∙ c .enum-told .given .1))
 
 -- src/lib.rt:60:9
 same-length-2 : tie.Need-same-length-2
@@ -47,7 +48,7 @@ same-length-2 c = search needs
 
 -- src/lib.rt:60:9
 returns-2 : tie.Need-returns-2
-returns-2 c = law.put-absent (now (c .before .before .before .before .before .before .before .args .sheet)) (c .before .before .before .before .before .before .before .args .n) (c .before .before .before .before .before .before .before .args .part) (sym (c .before .before .before .before .read-sizes .ensures .0) ∙ c .before .before .parts .given .1) (c .if1 .taken)
+returns-2 c = put-refused (now (c .before .before .before .before .before .before .before .args .sheet)) (c .before .before .before .before .before .before .before .args .n) (c .before .before .before .before .before .before .before .args .part) (law.put-absent (now (c .before .before .before .before .before .before .before .args .sheet)) (c .before .before .before .before .before .before .before .args .n) (c .before .before .before .before .before .before .before .args .part) (sym (c .before .before .before .before .read-sizes .ensures .0) ∙ c .before .before .parts .given .1) (c .if1 .taken))
 
 -- src/lib.rt:62:9
 operand-of-requires : tie.Need-operand-of-requires
@@ -91,7 +92,7 @@ same-length-3 c = c .before .before .put-operand .kept .0 ∙ simp length-set
 
 -- src/lib.rt:53:1
 returns-3 : tie.Need-returns-3
-returns-3 c = law.put-done (now (c .before .before .before .before .before .before .before .before .before .before .before .before .before .before .before .args .sheet)) (c .before .before .before .before .before .before .before .before .before .before .before .before .before .before .before .args .n) (c .before .before .before .before .before .before .before .before .before .before .before .before .before .before .before .args .part) (sym (c .before .before .before .before .before .before .before .before .before .before .before .before .read-sizes .ensures .0) ∙ c .before .before .before .before .before .before .before .before .before .before .parts .given .1) (c .before .before .before .before .before .before .before .before .if1 .left) (c .before .before .before .before .kind-of .ensures) (c .before .before .before .before .before .before .before .operand-of .ensures) (sym (c .before .before .before .before .before .before .operand-fits .ensures) ∙ c .before .before .before .before .before .if2 .taken) (c .before .before .put-operand .ensures)
+returns-3 c = put-kept (now (c .before .before .before .before .before .before .before .before .before .before .before .before .before .before .before .args .sheet)) (c .before .before .before .before .before .before .before .before .before .before .before .before .before .before .before .args .n) (c .before .before .before .before .before .before .before .before .before .before .before .before .before .before .before .args .part) (c .before .before .before .before .before .before .before .operand-of .ensures) (c .before .before .put-operand .ensures .1) (law.put-done (now (c .before .before .before .before .before .before .before .before .before .before .before .before .before .before .before .args .sheet)) (c .before .before .before .before .before .before .before .before .before .before .before .before .before .before .before .args .n) (c .before .before .before .before .before .before .before .before .before .before .before .before .before .before .before .args .part) (sym (c .before .before .before .before .before .before .before .before .before .before .before .before .read-sizes .ensures .0) ∙ c .before .before .before .before .before .before .before .before .before .before .parts .given .1) (c .before .before .before .before .before .before .before .before .if1 .left) (c .before .before .before .before .kind-of .ensures) (c .before .before .before .before .before .before .before .operand-of .ensures) (sym (c .before .before .before .before .before .before .operand-fits .ensures) ∙ c .before .before .before .before .before .if2 .taken) (c .before .before .put-operand .ensures .0))
 
 -- src/lib.rt:53:1
 same-length-4 : tie.Need-same-length-4
@@ -99,7 +100,7 @@ same-length-4 c = search needs
 
 -- src/lib.rt:53:1
 returns-4 : tie.Need-returns-4
-returns-4 c = law.put-misfit (now (c .before .before .before .before .before .before .before .before .before .before .args .sheet)) (c .before .before .before .before .before .before .before .before .before .before .args .n) (c .before .before .before .before .before .before .before .before .before .before .args .part) (sym (c .before .before .before .before .before .before .before .read-sizes .ensures .0) ∙ c .before .before .before .before .before .parts .given .1) (c .before .before .before .if1 .left) (ap (operandFits _ (c .before .before .before .before .before .before .before .before .before .before .args .n)) (sym (c .before .before .operand-of .ensures)) ∙ sym (c .before .operand-fits .ensures) ∙ c .if2 .left)
+returns-4 c = put-refused (now (c .before .before .before .before .before .before .before .before .before .before .args .sheet)) (c .before .before .before .before .before .before .before .before .before .before .args .n) (c .before .before .before .before .before .before .before .before .before .before .args .part) (law.put-misfit (now (c .before .before .before .before .before .before .before .before .before .before .args .sheet)) (c .before .before .before .before .before .before .before .before .before .before .args .n) (c .before .before .before .before .before .before .before .before .before .before .args .part) (sym (c .before .before .before .before .before .before .before .read-sizes .ensures .0) ∙ c .before .before .before .before .before .parts .given .1) (c .before .before .before .if1 .left) (ap (operandFits _ (c .before .before .before .before .before .before .before .before .before .before .args .n)) (sym (c .before .before .operand-of .ensures)) ∙ sym (c .before .operand-fits .ensures) ∙ c .if2 .left))
 
 pub put-spec : {M : Type 1} → statement M
 put-spec =

@@ -1,8 +1,9 @@
 use denote.Ref.{now}
 use native.Mathlib.Omega.{arith}
 use mathlib.Core.Path.{sym, subst, _∙_}
-use Rattle.rule.specs.Sizes.{Counted}
+use Rattle.rule.specs.inner.Sizes.{Counted}
 use Rattle.rule.proofs.Taking as law
+use Rattle.rule.proofs.Promised.{take-promise}
 use borrow.Author.Needs.{needs}
 use Rattle.rule.proofs.take.Statement.{statement}
 use Rattle.rule.proofs.take.Tie as tie
@@ -29,11 +30,11 @@ enum-told c = search needs
 
 -- src/lib.rt:31:9
 returns : tie.Need-returns
-returns c = law.take-sizes _ _ (sym (c .before .before .read-sizes .ensures .0) ∙ c .enum-told .given .1)
+returns c = take-promise _ _ (λ i. omega (arith, c .before .before .before .shared-slice-known .given i)) (law.take-sizes _ _ (sym (c .before .before .read-sizes .ensures .0) ∙ c .enum-told .given .1))
 
 -- src/lib.rt:34:9
 returns-2 : tie.Need-returns-2
-returns-2 c = law.take-absent _ _ (sym (c .before .before .before .before .read-sizes .ensures .0) ∙ c .before .before .parts .given .1) (c .if1 .taken)
+returns-2 c = take-promise _ _ (λ i. omega (arith, c .before .before .before .before .before .shared-slice-known .given i)) (law.take-absent _ _ (sym (c .before .before .before .before .read-sizes .ensures .0) ∙ c .before .before .parts .given .1) (c .if1 .taken))
 
 -- src/lib.rt:36:22
 add-kind : tie.Need-add-kind
@@ -53,7 +54,7 @@ is-unknown-requires c κs = search needs
 
 -- src/lib.rt:39:9
 returns-3 : tie.Need-returns-3
-returns-3 c = law.take-unknown _ _ (sym (c .before .before .before .before .before .before .before .before .read-sizes .ensures .0) ∙ c .before .before .before .before .before .before .parts .given .1) (c .before .before .before .before .if1 .left) (law.kind-tested (now (c .before .before .before .before .before .before .before .before .before .before .args .sheet)) (c .before .before .before .before .before .before .before .before .before .before .args .n) (c .before .is-unknown .ensures) (c .before .before .shape-of .ensures) (c .if2 .taken))
+returns-3 c = take-promise _ _ (λ i. omega (arith, c .before .before .before .before .before .before .before .before .before .shared-slice-known .given i)) (law.take-unknown _ _ (sym (c .before .before .before .before .before .before .before .before .read-sizes .ensures .0) ∙ c .before .before .before .before .before .before .parts .given .1) (c .before .before .before .before .if1 .left) (law.kind-tested (now (c .before .before .before .before .before .before .before .before .before .before .args .sheet)) (c .before .before .before .before .before .before .before .before .before .before .args .n) (c .before .is-unknown .ensures) (c .before .before .shape-of .ensures) (c .if2 .taken)))
 
 -- src/lib.rt:41:69
 add-operand-at : tie.Need-add-operand-at
@@ -81,7 +82,7 @@ enum-told-2 c = search needs
 
 -- src/lib.rt:42:9
 returns-4 : tie.Need-returns-4
-returns-4 c = law.broken-operand _ _ _ (c .enum-told2 .given .1) ∙ law.take-read (now (c .before .before .before .before .before .before .before .before .before .before .before .before .before .args .sheet)) (c .before .before .before .before .before .before .before .before .before .before .before .before .before .args .n) (sym (c .before .before .before .before .before .before .before .before .before .before .before .read-sizes .ensures .0) ∙ c .before .before .before .before .before .before .before .before .before .parts .given .1) (c .before .before .before .before .before .before .before .if1 .left) (law.kind-tested (now (c .before .before .before .before .before .before .before .before .before .before .before .before .before .args .sheet)) (c .before .before .before .before .before .before .before .before .before .before .before .before .before .args .n) (c .before .before .before .before .is-unknown .ensures) (c .before .before .before .before .before .shape-of .ensures) (c .before .before .before .if2 .left)) (c .before .before .before .before .before .shape-of .ensures) (c .before .before .operand-at .ensures)
+returns-4 c = take-promise _ _ (λ i. omega (arith, c .before .before .before .before .before .before .before .before .before .before .before .before .shared-slice-known .given i)) (law.broken-operand _ _ _ (c .enum-told2 .given .1) ∙ law.take-read (now (c .before .before .before .before .before .before .before .before .before .before .before .before .before .args .sheet)) (c .before .before .before .before .before .before .before .before .before .before .before .before .before .args .n) (sym (c .before .before .before .before .before .before .before .before .before .before .before .read-sizes .ensures .0) ∙ c .before .before .before .before .before .before .before .before .before .parts .given .1) (c .before .before .before .before .before .before .before .if1 .left) (law.kind-tested (now (c .before .before .before .before .before .before .before .before .before .before .before .before .before .args .sheet)) (c .before .before .before .before .before .before .before .before .before .before .before .before .before .args .n) (c .before .before .before .before .is-unknown .ensures) (c .before .before .before .before .before .shape-of .ensures) (c .before .before .before .if2 .left)) (c .before .before .before .before .before .shape-of .ensures) (c .before .before .operand-at .ensures))
 
 -- src/lib.rt:44:8
 operand-fits-requires : tie.Need-operand-fits-requires
@@ -93,11 +94,11 @@ part-of-requires c κs = search needs
 
 -- src/lib.rt:27:1
 returns-5 : tie.Need-returns-5
-returns-5 c = law.fit-operand _ _ _ (c .before .before .before .before .operand .given .1) (sym (c .before .before .operand-fits .ensures) ∙ c .before .if3 .taken) (c .part-of .ensures) ∙ law.take-read (now (c .before .before .before .before .before .before .before .before .before .before .before .before .before .before .before .before .before .args .sheet)) (c .before .before .before .before .before .before .before .before .before .before .before .before .before .before .before .before .before .args .n) (sym (c .before .before .before .before .before .before .before .before .before .before .before .before .before .before .before .read-sizes .ensures .0) ∙ c .before .before .before .before .before .before .before .before .before .before .before .before .before .parts .given .1) (c .before .before .before .before .before .before .before .before .before .before .before .if1 .left) (law.kind-tested (now (c .before .before .before .before .before .before .before .before .before .before .before .before .before .before .before .before .before .args .sheet)) (c .before .before .before .before .before .before .before .before .before .before .before .before .before .before .before .before .before .args .n) (c .before .before .before .before .before .before .before .before .is-unknown .ensures) (c .before .before .before .before .before .before .before .before .before .shape-of .ensures) (c .before .before .before .before .before .before .before .if2 .left)) (c .before .before .before .before .before .before .before .before .before .shape-of .ensures) (c .before .before .before .before .before .before .operand-at .ensures)
+returns-5 c = take-promise _ _ (λ i. omega (arith, c .before .before .before .before .before .before .before .before .before .before .before .before .before .before .before .before .shared-slice-known .given i)) (law.fit-operand _ _ _ (c .before .before .before .before .operand .given .1) (sym (c .before .before .operand-fits .ensures) ∙ c .before .if3 .taken) (c .part-of .ensures) ∙ law.take-read (now (c .before .before .before .before .before .before .before .before .before .before .before .before .before .before .before .before .before .args .sheet)) (c .before .before .before .before .before .before .before .before .before .before .before .before .before .before .before .before .before .args .n) (sym (c .before .before .before .before .before .before .before .before .before .before .before .before .before .before .before .read-sizes .ensures .0) ∙ c .before .before .before .before .before .before .before .before .before .before .before .before .before .parts .given .1) (c .before .before .before .before .before .before .before .before .before .before .before .if1 .left) (law.kind-tested (now (c .before .before .before .before .before .before .before .before .before .before .before .before .before .before .before .before .before .args .sheet)) (c .before .before .before .before .before .before .before .before .before .before .before .before .before .before .before .before .before .args .n) (c .before .before .before .before .before .before .before .before .is-unknown .ensures) (c .before .before .before .before .before .before .before .before .before .shape-of .ensures) (c .before .before .before .before .before .before .before .if2 .left)) (c .before .before .before .before .before .before .before .before .before .shape-of .ensures) (c .before .before .before .before .before .before .operand-at .ensures))
 
 -- src/lib.rt:27:1
 returns-6 : tie.Need-returns-6
-returns-6 c = law.misfit-operand _ _ _ (c .before .before .before .operand .given .1) (sym (c .before .operand-fits .ensures) ∙ c .if3 .left) ∙ law.take-read (now (c .before .before .before .before .before .before .before .before .before .before .before .before .before .before .before .before .args .sheet)) (c .before .before .before .before .before .before .before .before .before .before .before .before .before .before .before .before .args .n) (sym (c .before .before .before .before .before .before .before .before .before .before .before .before .before .before .read-sizes .ensures .0) ∙ c .before .before .before .before .before .before .before .before .before .before .before .before .parts .given .1) (c .before .before .before .before .before .before .before .before .before .before .if1 .left) (law.kind-tested (now (c .before .before .before .before .before .before .before .before .before .before .before .before .before .before .before .before .args .sheet)) (c .before .before .before .before .before .before .before .before .before .before .before .before .before .before .before .before .args .n) (c .before .before .before .before .before .before .before .is-unknown .ensures) (c .before .before .before .before .before .before .before .before .shape-of .ensures) (c .before .before .before .before .before .before .if2 .left)) (c .before .before .before .before .before .before .before .before .shape-of .ensures) (c .before .before .before .before .before .operand-at .ensures)
+returns-6 c = take-promise _ _ (λ i. omega (arith, c .before .before .before .before .before .before .before .before .before .before .before .before .before .before .before .shared-slice-known .given i)) (law.misfit-operand _ _ _ (c .before .before .before .operand .given .1) (sym (c .before .operand-fits .ensures) ∙ c .if3 .left) ∙ law.take-read (now (c .before .before .before .before .before .before .before .before .before .before .before .before .before .before .before .before .args .sheet)) (c .before .before .before .before .before .before .before .before .before .before .before .before .before .before .before .before .args .n) (sym (c .before .before .before .before .before .before .before .before .before .before .before .before .before .before .read-sizes .ensures .0) ∙ c .before .before .before .before .before .before .before .before .before .before .before .before .parts .given .1) (c .before .before .before .before .before .before .before .before .before .before .if1 .left) (law.kind-tested (now (c .before .before .before .before .before .before .before .before .before .before .before .before .before .before .before .before .args .sheet)) (c .before .before .before .before .before .before .before .before .before .before .before .before .before .before .before .before .args .n) (c .before .before .before .before .before .before .before .is-unknown .ensures) (c .before .before .before .before .before .before .before .before .shape-of .ensures) (c .before .before .before .before .before .before .if2 .left)) (c .before .before .before .before .before .before .before .before .shape-of .ensures) (c .before .before .before .before .before .operand-at .ensures))
 
 pub take-spec : {M : Type 1} → statement M
 take-spec =

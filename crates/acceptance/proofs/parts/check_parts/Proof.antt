@@ -58,7 +58,7 @@ refusal-of-requires c κs = search needs
 
 -- src/parts.rt:161:13
 surely-clear-requires : tie.Need-surely-clear-requires Inv-loop μ-loop Inv-parts μ-parts
-surely-clear-requires c κs = readable (now (c .before .before .before .before .before .before .before .before .before .args .rule)) (now (c .before .before .before .before .before .before .before .before .before .args .plan)) (now (c .before .before .before .before .before .before .before .before .before .args .table)) (c .before .before .before .before .before .before .before .before .before .pre) (c .before .before .before .before .before .parts .i) (c .before .before .before .before .parts-test .taken) (c .before .before .before .take .ensures) (c .before .taken .given .1)
+surely-clear-requires c κs = readable (now (c .before .before .before .before .before .before .before .before .before .args .rule)) (now (c .before .before .before .before .before .before .before .before .before .args .plan)) (now (c .before .before .before .before .before .before .before .before .before .args .table)) (c .before .before .before .before .before .before .before .before .before .pre) (c .before .before .before .before .before .parts .i) (c .before .before .before .before .parts-test .taken) (c .before .before .before .take .ensures .isTake) (c .before .taken .given .1)
 
 -- src/parts.rt:162:36
 add-rows-left : tie.Need-add-rows-left Inv-loop μ-loop Inv-parts μ-parts
@@ -70,11 +70,11 @@ rows-left-requires c κs = search needs
 
 -- src/parts.rt:164:9
 loop-holds : tie.Need-loop-holds Inv-loop μ-loop Inv-parts μ-parts
-loop-holds c = (omega arith, c .before .before .before .before .before .before .before .parts .inv .1, c .before .before .before .before .before .before .before .parts .inv .2 ∙ turn-next _ _ _ (c .before .before .before .before .before .before .parts-test .taken) ∙ row-loop (now (c .before .before .before .before .before .before .before .before .before .before .before .args .rule)) (now (c .before .before .before .before .before .before .before .before .before .before .before .args .plan)) (now (c .before .before .before .before .before .before .before .before .before .before .before .args .table)) (c .before .before .before .before .before .before .before .before .before .before .before .pre) (c .before .before .before .before .before .before .before .parts .i) (c .before .before .before .before .before .before .parts-test .taken) (c .before .before .before .before .before .take .ensures) (c .before .before .before .taken .given .1) _ (c .before .surely-clear .result) (c .before .surely-clear .ensures) _ (c .rows-left .ensures))
+loop-holds c = (omega arith, c .before .before .before .before .before .before .before .parts .inv .1, c .before .before .before .before .before .before .before .parts .inv .2 ∙ turn-next _ _ _ (c .before .before .before .before .before .before .parts-test .taken) ∙ row-loop (now (c .before .before .before .before .before .before .before .before .before .before .before .args .rule)) (now (c .before .before .before .before .before .before .before .before .before .before .before .args .plan)) (now (c .before .before .before .before .before .before .before .before .before .before .before .args .table)) (c .before .before .before .before .before .before .before .before .before .before .before .pre) (c .before .before .before .before .before .before .before .parts .i) (c .before .before .before .before .before .before .parts-test .taken) (c .before .before .before .before .before .take .ensures .isTake) (c .before .before .before .taken .given .1) _ (c .before .surely-clear .result) (c .before .surely-clear .ensures) _ (c .rows-left .ensures))
 
 -- src/parts.rt:165:16
 breaks-on-requires : tie.Need-breaks-on-requires Inv-loop μ-loop Inv-parts μ-parts
-breaks-on-requires c κs = (readable (now (c .before .before .before .before .before .before .before .before .before .before .before .before .before .args .rule)) (now (c .before .before .before .before .before .before .before .before .before .before .before .before .before .args .plan)) (now (c .before .before .before .before .before .before .before .before .before .before .before .before .before .args .table)) (c .before .before .before .before .before .before .before .before .before .before .before .before .before .pre) (c .before .before .before .before .before .before .before .before .before .parts .i) (c .before .before .before .before .before .before .before .before .parts-test .taken) (c .before .before .before .before .before .before .before .take .ensures) (c .before .before .before .before .before .taken .given .1), omega (arith, c .loop-test .taken, rows-most (c .before .before .before .surely-clear .result) (c .before .before .rows-left .result) (c .before .before .before .before .before .before .before .before .before .before .before .before .before .args .p + c .before .before .before .before .before .before .before .before .before .before .before .before .before .args .c) (c .before .before .rows-left .ensures)))
+breaks-on-requires c κs = (readable (now (c .before .before .before .before .before .before .before .before .before .before .before .before .before .args .rule)) (now (c .before .before .before .before .before .before .before .before .before .before .before .before .before .args .plan)) (now (c .before .before .before .before .before .before .before .before .before .before .before .before .before .args .table)) (c .before .before .before .before .before .before .before .before .before .before .before .before .before .pre) (c .before .before .before .before .before .before .before .before .before .parts .i) (c .before .before .before .before .before .before .before .before .parts-test .taken) (c .before .before .before .before .before .before .before .take .ensures .isTake) (c .before .before .before .before .before .taken .given .1), omega (arith, c .loop-test .taken, rows-most (c .before .before .before .surely-clear .result) (c .before .before .rows-left .result) (c .before .before .before .before .before .before .before .before .before .before .before .before .before .args .p + c .before .before .before .before .before .before .before .before .before .before .before .before .before .args .c) (c .before .before .rows-left .ensures)))
 
 -- src/parts.rt:169:13
 add-row : tie.Need-add-row Inv-loop μ-loop Inv-parts μ-parts
@@ -90,7 +90,7 @@ loop-again c = (omega arith, c .before .before .before .loop .inv .1, c .before 
 
 -- src/parts.rt:171:13
 check-rest-requires : tie.Need-check-rest-requires Inv-loop μ-loop Inv-parts μ-parts
-check-rest-requires c κs = (readable (now (c .before .before .before .before .before .before .before .before .before .before .before .before .before .args .rule)) (now (c .before .before .before .before .before .before .before .before .before .before .before .before .before .args .plan)) (now (c .before .before .before .before .before .before .before .before .before .before .before .before .before .args .table)) (c .before .before .before .before .before .before .before .before .before .before .before .before .before .pre) (c .before .before .before .before .before .before .before .before .before .parts .i) (c .before .before .before .before .before .before .before .before .parts-test .taken) (c .before .before .before .before .before .before .before .take .ensures) (c .before .before .before .before .before .taken .given .1), c .before .before .before .surely-clear .ensures)
+check-rest-requires c κs = (readable (now (c .before .before .before .before .before .before .before .before .before .before .before .before .before .args .rule)) (now (c .before .before .before .before .before .before .before .before .before .before .before .before .before .args .plan)) (now (c .before .before .before .before .before .before .before .before .before .before .before .before .before .args .table)) (c .before .before .before .before .before .before .before .before .before .before .before .before .before .pre) (c .before .before .before .before .before .before .before .before .before .parts .i) (c .before .before .before .before .before .before .before .before .parts-test .taken) (c .before .before .before .before .before .before .before .take .ensures .isTake) (c .before .before .before .before .before .taken .given .1), c .before .before .before .surely-clear .ensures)
 
 -- src/parts.rt:172:33
 enum-known-rest : tie.Need-enum-known-rest Inv-loop μ-loop Inv-parts μ-parts
@@ -117,7 +117,7 @@ returns c = c .before .parts .inv .1 ∙ sym (sym (turns-all (now (c .before .be
 
 -- src/parts.rt:149:1
 returns-2 : tie.Need-returns-2 Inv-loop μ-loop Inv-parts μ-parts
-returns-2 c = absurd (always-taken (now (c .before .before .before .before .before .before .before .before .before .args .rule)) (now (c .before .before .before .before .before .before .before .before .before .args .plan)) (now (c .before .before .before .before .before .before .before .before .before .args .table)) (c .before .before .before .before .before .before .before .before .before .pre) (c .before .before .before .before .before .parts .i) (c .before .before .before .before .parts-test .taken) (c .before .before .before .take .ensures) (c .before .enum-told .given .1))
+returns-2 c = absurd (always-taken (now (c .before .before .before .before .before .before .before .before .before .args .rule)) (now (c .before .before .before .before .before .before .before .before .before .args .plan)) (now (c .before .before .before .before .before .before .before .before .before .args .table)) (c .before .before .before .before .before .before .before .before .before .pre) (c .before .before .before .before .before .parts .i) (c .before .before .before .before .parts-test .taken) (c .before .before .before .take .ensures .isTake) (c .before .enum-told .given .1))
 
 -- src/parts.rt:149:1
 returns-3 : tie.Need-returns-3 Inv-loop μ-loop Inv-parts μ-parts

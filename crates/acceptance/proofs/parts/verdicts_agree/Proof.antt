@@ -4,9 +4,9 @@ use borrow.Author.Needs.{needs}
 use mathlib.Core.Path.{_≡_, ap₂, _∙_}
 use Rattle.judge.specs.Rows.{verdictOf}
 use Rattle.marks.specs.Layout.{marked}
-use Rattle.marks.specs.Tables.{allBelow}
+use Rattle.marks.specs.inner.Tables.{allBelow}
 use Rattle.marks.proofs.AllBelow.{sweep-first, sweep-next, sweep-end}
-use Rattle.acceptance.specs.Parts.{verdictAgrees}
+use Rattle.acceptance.specs.inner.Parts.{verdictAgrees}
 use Rattle.acceptance.proofs.parts.verdicts_agree.Statement.{statement}
 use Rattle.acceptance.proofs.parts.verdicts_agree.Tie as tie
 use Rattle.acceptance.proofs.parts.verdicts_agree.Reads as reads

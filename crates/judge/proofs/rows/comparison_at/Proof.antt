@@ -1,7 +1,7 @@
 -- `judge::rows::comparison_at` meets its contract. Assumes nothing.
 use Rattle.judge.specs.Comparisons.{ofComparison}
 use Rattle.judge.specs.Rows.{comparisonAt}
-use Rattle.cltlb.specs.Fits.{ComparisonFits}
+use Rattle.cltlb.specs.inner.Fits.{ComparisonFits}
 use Rattle.judge.proofs.Values.{no-comparison}
 use borrow.Author.Needs.{needs}
 use Rattle.judge.proofs.rows.comparison_at.Statement.{statement}

@@ -3,7 +3,7 @@ use Prim.Native.Nat.{_+_, _*_, _≤_, max}
 use native.Mathlib.Nat.{mul-le-mul-right}
 use native.Mathlib.Omega.{arith}
 use mathlib.Core.Path.{_≡_, ap₂, _∙_}
-use Rattle.judge.specs.Reach.{reach}
+use Rattle.judge.specs.inner.Reach.{reach}
 use Rattle.judge.proofs.Values.{farther-le, farther-left, farther-right, cycle-is}
 use borrow.Author.Needs.{needs}
 use Rattle.judge.proofs.rows.judge_cycle.Statement.{statement}

@@ -1,7 +1,7 @@
 -- `judge::rows::judge_row` meets its contract. Assumes nothing.
 use Rattle.judge.specs.Comparisons.{ofComparison}
 use Rattle.judge.specs.Rows.{verdictOf}
-use Rattle.cltlb.specs.Fits.{ComparisonFits}
+use Rattle.cltlb.specs.inner.Fits.{ComparisonFits}
 use Rattle.judge.proofs.Values.{no-comparison, judgement}
 use borrow.Author.Needs.{needs}
 use Rattle.judge.proofs.rows.judge_row.Statement.{statement}

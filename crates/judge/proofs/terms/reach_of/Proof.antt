@@ -2,7 +2,7 @@
 use mathlib.Core.Path.{_∙_, ap}
 use mir.Syntax.{w32}
 use mir.ValLaws.{toZ-ofZ}
-use Rattle.judge.specs.Reach.{back, reach}
+use Rattle.judge.specs.inner.Reach.{back, reach}
 use Rattle.judge.proofs.Values.{reading-reach}
 use borrow.Author.Needs.{needs}
 use Rattle.judge.proofs.terms.reach_of.Statement.{statement}

@@ -3,7 +3,7 @@ use mathlib.Core.Path.{_∙_, subst⁻¹}
 use native.Mathlib.Omega.{arith}
 use mir.Syntax.{w32}
 use mir.ValLaws.{toZ-ofZ}
-use Rattle.cltlb.specs.Fits.{ShiftFits}
+use Rattle.cltlb.specs.inner.Fits.{ShiftFits}
 use Rattle.judge.proofs.Values.{reading-fits, sees-constant, sees-reading}
 use borrow.Author.Needs.{needs}
 use Rattle.judge.proofs.terms.seen_term.Statement.{statement}

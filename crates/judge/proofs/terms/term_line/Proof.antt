@@ -5,7 +5,7 @@ use native.Mathlib.Omega.{arith}
 use lib.IntN.{subℕ}
 use mir.Syntax.{w32}
 use mir.ValLaws.{toZ-ofZ}
-use Rattle.cltlb.specs.Fits.{ShiftFits}
+use Rattle.cltlb.specs.inner.Fits.{ShiftFits}
 use Rattle.judge.proofs.Values.{reading-fits, reading-inside, line-constant, line-reading}
 use borrow.Author.Needs.{needs}
 use Rattle.judge.proofs.terms.term_line.Statement.{statement}

@@ -3,7 +3,7 @@ use mathlib.Core.Path.{sym, ap, _∙_}
 use Prim.Native.Nat.{_+_}
 use denote.Ref.{now}
 use Rattle.marks.specs.Layout.{marked}
-use Rattle.marks.specs.Tables.{meetsBeside, meetsOn}
+use Rattle.marks.specs.inner.Tables.{meetsBeside, meetsOn}
 use Rattle.marks.proofs.Beside.{ahead-on, back-on}
 use borrow.Author.Needs.{needs}
 use Rattle.marks.proofs.equations.meets_on.Statement.{statement}

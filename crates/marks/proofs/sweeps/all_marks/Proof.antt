@@ -5,7 +5,7 @@ use Prim.Native.Nat.{_+_, _-_, _≤_}
 use lib.Dec.{ltb}
 use lib.ListN.{getD}
 use native.Mathlib.Omega.{arith}
-use Rattle.marks.specs.Tables.{allBelow}
+use Rattle.marks.specs.inner.Tables.{allBelow}
 use Rattle.marks.proofs.AllBelow.{sweep-first, sweep-next, sweep-end}
 use Rattle.marks.proofs.sweeps.all_marks.Statement.{statement}
 use Rattle.marks.proofs.sweeps.all_marks.Tie as tie

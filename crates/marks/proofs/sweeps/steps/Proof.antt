@@ -4,7 +4,7 @@ use mathlib.Core.Bool.{Bool·beq, _&&_, _||_}
 use Prim.Native.Nat.{_+_, _-_, _≤_}
 use native.Mathlib.Omega.{arith}
 use borrow.Author.Needs.{needs}
-use Rattle.marks.specs.Tables.{allBelow, flipped, markIn}
+use Rattle.marks.specs.inner.Tables.{allBelow, flipped, markIn}
 use Rattle.marks.proofs.AllBelow.{sweep-first, sweep-next, sweep-end}
 use Rattle.marks.proofs.sweeps.steps.Statement.{statement}
 use Rattle.marks.proofs.sweeps.steps.Tie as tie

@@ -1,6 +1,6 @@
 -- `marks::witness::names_row` meets its contract. Assumes nothing.
 use mathlib.Core.Path.{ap, _∙_}
-use Rattle.marks.specs.Tables.{flipped}
+use Rattle.marks.specs.inner.Tables.{flipped}
 use Rattle.marks.proofs.Tests.{xor-flips}
 use Rattle.marks.proofs.ByKind.{before-cycle, after-cycle, in-cycle}
 use borrow.Author.Needs.{needs}

@@ -4,7 +4,7 @@ use native.Mathlib.Omega.{arith}
 use mathlib.Core.Path.{_∙_, ap}
 use denote.Ref.{now}
 use Rattle.cltlb.specs.Run.{number}
-use Rattle.plan.specs.Lifted.{seenOf}
+use Rattle.plan.specs.inner.Lifted.{seenOf}
 use Rattle.plan.proofs.Rows.{row-lt, pass-lt}
 use Rattle.plan.proofs.Shifts.{before-run, in-run}
 use Rattle.plan.proofs.Arrays.{value-at}

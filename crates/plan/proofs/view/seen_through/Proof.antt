@@ -40,9 +40,9 @@ use denote.Triple.Table.{entered, cited}
 use denote.Triple.Walked.{says, needs, Stays, stay-none, stay-none-slice, walkOf, goes-none, goes-none-slice, Walks, ends-at, walked, walk-meets}
 use denote.Triple.Clauses.{ensured, lasts}
 use denote.Exit.{yes}
-use Rattle.plan.specs.Sizes.{Fitting}
+use Rattle.plan.specs.inner.Sizes.{Fitting}
 use Rattle.plan.specs.Run.{runOf}
-use Rattle.plan.specs.Lifted.{seenOf, Small}
+use Rattle.plan.specs.inner.Lifted.{seenOf, Small}
 use Rattle.plan.specs.declared.view.PlanView.{PlanView}
 use Rattle.plan.specs.declared.lookup.Seen.{Seen}
 use Rattle.plan.proofs.view.PlanView as T

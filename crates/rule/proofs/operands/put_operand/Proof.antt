@@ -1,10 +1,12 @@
 use denote.Ref.{now}
 use native.Mathlib.Omega.{arith}
-use mathlib.Core.Path.{sym, ap, _∙_}
+use mathlib.Core.Path.{sym, ap, _∙_, subst⁻¹}
 use Rattle.rule.specs.declared.operands.Operand.{Operand}
 use Rattle.rule.specs.Operands.{operandBytes, operandFits}
 use Rattle.rule.specs.Put.{overwritten}
 use Rattle.rule.proofs.Fits.{one-fits, two-fit}
+use Rattle.rule.specs.inner.Laid.{WordOperand}
+use Rattle.rule.proofs.OperandsWritten.{one-word, two-word}
 use borrow.Author.Needs.{needs}
 use Rattle.rule.proofs.operands.put_operand.Statement.{statement}
 use Rattle.rule.proofs.operands.put_operand.Tie as tie
@@ -44,7 +46,7 @@ same-length c = search needs
 
 -- src/operands.rt:141:1
 returns : tie.Need-returns
-returns c = c .before .before .put-terms .ensures ∙ sym (ap (λ (o : Operand). overwritten (now (c .before .before .before .before .before .before .before .before .args .s)) (c .before .before .before .before .before .before .before .before .args .at) (operandBytes o)) (c .before .before .before .before .before .x .given .1))
+returns c = (c .before .before .put-terms .ensures .0 ∙ sym (ap (λ (o : Operand). overwritten (now (c .before .before .before .before .before .before .before .before .args .s)) (c .before .before .before .before .before .before .before .before .args .at) (operandBytes o)) (c .before .before .before .before .before .x .given .1)), subst⁻¹ WordOperand (c .before .before .before .before .before .x .given .1) (c .before .before .put-terms .ensures .1))
 
 -- src/operands.rt:141:1
 same-length-2 : tie.Need-same-length-2
@@ -52,7 +54,7 @@ same-length-2 c = search needs
 
 -- src/operands.rt:141:1
 returns-2 : tie.Need-returns-2
-returns-2 c = c .before .before .put-one .ensures ∙ sym (ap (λ (o : Operand). overwritten (now (c .before .before .before .before .before .before .before .before .args .s)) (c .before .before .before .before .before .before .before .before .args .at) (operandBytes o)) (c .before .before .before .before .before .x2 .given .1))
+returns-2 c = (c .before .before .put-one .ensures ∙ sym (ap (λ (o : Operand). overwritten (now (c .before .before .before .before .before .before .before .before .args .s)) (c .before .before .before .before .before .before .before .before .args .at) (operandBytes o)) (c .before .before .before .before .before .x2 .given .1)), one-word (c .before .before .before .before .before .x2 .given .1))
 
 -- src/operands.rt:141:1
 same-length-3 : tie.Need-same-length-3
@@ -60,7 +62,7 @@ same-length-3 c = search needs
 
 -- src/operands.rt:141:1
 returns-3 : tie.Need-returns-3
-returns-3 c = c .before .before .put-two .ensures ∙ sym (ap (λ (o : Operand). overwritten (now (c .before .before .before .before .before .before .before .before .args .s)) (c .before .before .before .before .before .before .before .before .args .at) (operandBytes o)) (c .before .before .before .before .before .x3 .given .1))
+returns-3 c = (c .before .before .put-two .ensures ∙ sym (ap (λ (o : Operand). overwritten (now (c .before .before .before .before .before .before .before .before .args .s)) (c .before .before .before .before .before .before .before .before .args .at) (operandBytes o)) (c .before .before .before .before .before .x3 .given .1)), two-word (c .before .before .before .before .before .x3 .given .1))
 
 pub put-operand-spec : {M : Type 1} → statement M
 put-operand-spec =

@@ -56,7 +56,7 @@ same-length c = search needs
 
 -- src/operands.rt:115:1
 returns : tie.Need-returns
-returns c = law.two-terms (now (c .before .before .before .before .before .before .before .before .before .args .s)) (c .before .before .before .before .before .before .before .before .before .args .at) (c .before .before .before .before .before .before .before .before .before .pre .0) (c .before .before .before .before .before .before .put-term .last .0) (c .before .before .put-term2 .last .0) (c .before .before .before .before .before .before .before .before .before .args .left) (c .before .before .before .before .before .before .before .before .before .args .right) (c .before .before .before .before .before .before .put-term .ensures) (c .before .before .put-term2 .ensures)
+returns c = (law.two-terms (now (c .before .before .before .before .before .before .before .before .before .args .s)) (c .before .before .before .before .before .before .before .before .before .args .at) (c .before .before .before .before .before .before .before .before .before .pre .0) (c .before .before .before .before .before .before .put-term .last .0) (c .before .before .put-term2 .last .0) (c .before .before .before .before .before .before .before .before .before .args .left) (c .before .before .before .before .before .before .before .before .before .args .right) (c .before .before .before .before .before .before .put-term .ensures .0) (c .before .before .put-term2 .ensures .0), law.terms-word (c .before .before .before .before .before .before .before .before .before .args .left) (c .before .before .before .before .before .before .before .before .before .args .right) (c .before .before .before .before .before .before .put-term .ensures .1) (c .before .before .put-term2 .ensures .1))
 
 pub put-terms-spec : {M : Type 1} → statement M
 put-terms-spec =

@@ -4,6 +4,7 @@ use denote.Ref.{now}
 use mir.Syntax.{w32}
 use mir.ValLaws.{toZ-ofZ}
 use Rattle.fields.specs.TwosComplement.{patternOf}
+use Rattle.fields.proofs.Patterns.{fits-w32}
 use Rattle.rule.specs.Terms.{codeOf, shiftFits}
 use Rattle.rule.proofs.Fits.{reading-fits}
 use Rattle.rule.proofs.TermsWritten as law
@@ -50,7 +51,7 @@ same-length c = search needs
 
 -- src/terms.rt:82:1
 returns : tie.Need-returns
-returns c = c .before .before .put-fields .ensures ∙ law.constant-bytes (now (c .before .before .before .before .before .before .before .before .before .args .t)) (c .before .before .before .before .before .before .x .given .1) (c .before .before .before .pattern .ensures ∙ ap (patternOf 4) (toZ-ofZ w32 (c .before .before .before .before .before .before .x .given .0 .0) (record { sfits = c .before .before .before .before .before .known-told .given .0 .1 })))
+returns c = (c .before .before .put-fields .ensures ∙ law.constant-bytes (now (c .before .before .before .before .before .before .before .before .before .args .t)) (c .before .before .before .before .before .before .x .given .1) (c .before .before .before .pattern .ensures ∙ ap (patternOf 4) (toZ-ofZ w32 (c .before .before .before .before .before .before .x .given .0 .0) (record { sfits = c .before .before .before .before .before .known-told .given .0 .1 }))), law.constant-word (c .before .before .before .before .before .before .x .given .1) (fits-w32 (c .before .before .before .before .before .before .x .given .0 .0) (record { sfits = c .before .before .before .before .before .known-told .given .0 .1 })))
 
 -- src/terms.rt:82:1
 same-length-2 : tie.Need-same-length-2
@@ -58,7 +59,7 @@ same-length-2 c = search needs
 
 -- src/terms.rt:82:1
 returns-2 : tie.Need-returns-2
-returns-2 c = c .before .before .put-fields2 .ensures ∙ law.reading-bytes (now (c .before .before .before .before .before .before .before .before .before .args .t)) (c .before .before .before .before .before .before .x2 .given .1) (c .before .before .before .code-of .ensures ∙ ap codeOf (toZ-ofZ w32 (c .before .before .before .before .before .before .x2 .given .0 .1 .0) (record { sfits = c .before .before .before .before .before .known-told2 .given .1 .0 .1 })))
+returns-2 c = (c .before .before .put-fields2 .ensures ∙ law.reading-bytes (now (c .before .before .before .before .before .before .before .before .before .args .t)) (c .before .before .before .before .before .before .x2 .given .1) (c .before .before .before .code-of .ensures ∙ ap codeOf (toZ-ofZ w32 (c .before .before .before .before .before .before .x2 .given .0 .1 .0) (record { sfits = c .before .before .before .before .before .known-told2 .given .1 .0 .1 }))), law.reading-word (c .before .before .before .before .before .before .x2 .given .1))
 
 pub put-term-spec : {M : Type 1} → statement M
 put-term-spec =

@@ -1,5 +1,5 @@
 -- Lines as the code keeps them, lifted so that no number is below 0. Assumes nothing.
-use Rattle.plan.specs.Lifted.{unbiased, lowered}
+use Rattle.plan.specs.inner.Lifted.{unbiased, lowered}
 use Rattle.judge.specs.Lines.{Line}
 use Rattle.judge.specs.declared.lines.LiftedLine.{LiftedLine}
 

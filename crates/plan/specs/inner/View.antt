@@ -7,7 +7,7 @@ use lib.Dec.{ltb, leb}
 use lib.IntN.{subℕ}
 use Rattle.cltlb.specs.Run as cltlb
 use Rattle.plan.specs.Layout.{channels, startRows, cycleRows, sizesFit}
-use Rattle.plan.specs.Lifted.{seenOf, Small}
+use Rattle.plan.specs.inner.Lifted.{seenOf, Small}
 use Rattle.plan.specs.Run.{runOf}
 use Rattle.plan.specs.declared.view.Found.{Found}
 use Rattle.plan.specs.declared.view.Found.the-variants.{Inside, Outside}

@@ -4,16 +4,16 @@ use mathlib.Core.Path.{_≡_}
 use mathlib.Core.List.{List}
 use mathlib.Core.Bool.{Bool, false, not}
 use Rattle.cltlb.specs.Parts.{NamesLower}
-use Rattle.cltlb.specs.Fits.{ComparisonFits}
+use Rattle.cltlb.specs.inner.Fits.{ComparisonFits}
 use Rattle.cltlb.specs.declared.Part.{Part}
 use Rattle.refusal.specs.declared.Outcome.the-variants.{Clear}
 use Rattle.rule.specs.Layout.{partCount, channelCount}
 use Rattle.rule.specs.Sheet.{sheetOutcome}
-use Rattle.plan.specs.Sizes.{Fitting}
+use Rattle.plan.specs.inner.Sizes.{Fitting}
 use Rattle.judge.specs.declared.Verdict.{Verdict}
 use Rattle.judge.specs.declared.Verdict.the-variants.{AlwaysTrue, AlwaysFalse, Changes}
 use Rattle.marks.specs.Layout.{marked}
-use Rattle.marks.specs.Tables.{Sized}
+use Rattle.marks.specs.inner.Tables.{Sized}
 use Rattle.marks.specs.Parts.{equationOutcome, closingOutcome}
 
 -- a verdict says on every pass what the mark says
