@@ -1,8 +1,8 @@
 -- When tests made in order refuse nothing, and how loops make them. Assumes nothing.
-use mathlib.Core.Path.{_≡_, refl, ap, subst}
+use mathlib.Core.Path.{_≡_, refl, ap, subst, sym}
 use mathlib.Core.Bool.{Bool, true, false}
 use mathlib.Core.Option.{Option, none, some}
-use mathlib.Core.Logic.{_↔_, Iff·trans, by-cases}
+use mathlib.Core.Logic.{_↔_, Iff·trans, by-cases, _⊎_, inl, inr, ⊎-elim}
 use Prim.Native.Nat.{ℕ, zero, suc, _+_, _-_, _≤_, _<_}
 use native.Mathlib.Decide.{decLt}
 use native.Mathlib.Numerals.{add-one}
@@ -35,6 +35,24 @@ unfolding unless
 unless-clear-T true r = (λ _. tt, λ _. refl)
 unless-clear-T false r = (clear-refused, absurd)
 
+-- A condition that is not met is what refuses.
+pub unless-refused : (b : Bool) (q r : Refusal) → unless b q ≡ Refused r → (b ≡ false) × (q ≡ r)
+unfolding unless
+unless-refused true q r e = absurd (clear-refused (sym e))
+unless-refused false q r e = (refl, cc)
+
+-- Of two tests, the first one refuses, or it refuses nothing and the second one does.
+pub orElse-refused : (x y : Outcome) (r : Refusal) → x orElse y ≡ Refused r → (x ≡ Refused r) ⊎ ((x ≡ Clear) × (y ≡ Refused r))
+unfolding _orElse_
+orElse-refused Clear y r e = inr (refl, e)
+orElse-refused (Refused q) y r e = inl e
+
+-- A search that refuses has found the number.
+pub refusedAt-refused : (q : ℕ → Refusal) (o : Option ℕ) (r : Refusal) → refusedAt q o ≡ Refused r → (k : ℕ) × (o ≡ some k) × (q k ≡ r)
+unfolding refusedAt
+refusedAt-refused q none r e = absurd (clear-refused (sym e))
+refusedAt-refused q (some k) r e = (k, refl, cc)
+
 -- A search refuses nothing where it finds nothing.
 pub refusedAt-clear : (r : ℕ → Refusal) (o : Option ℕ) → (refusedAt r o ≡ Clear) ↔ (o ≡ none)
 unfolding refusedAt
@@ -62,6 +80,28 @@ module _ (f : ℕ → Outcome) where
   pub inTurn-clear : (n : ℕ) → (inTurn f n ≡ Clear) ↔ ((i : ℕ) → i < n → f i ≡ Clear)
   unfolding inTurn
   inTurn-clear n = Iff·trans (inTurnFrom-clear 0 n) (λ h i l. h i (omega arith) (omega arith), λ h i z l. h i (omega arith))
+
+  -- Items that refuse: the first that does, those before it refusing nothing.
+  turns-refused : (k n : ℕ) (r : Refusal) → inTurnFrom f k n ≡ Refused r
+      → (i : ℕ) × (k ≤ i) × (i < k + n) × ((j : ℕ) → k ≤ j → j < i → f j ≡ Clear) × (f i ≡ Refused r)
+  unfolding inTurnFrom
+  turns-refused k zero r e = absurd (clear-refused (sym e))
+  turns-refused k (suc n) r e =
+      ⊎-elim
+      (λ h. (k, (omega arith), (omega arith), (λ j a b. absurd (omega arith)), h))
+      (λ h.
+      let p = turns-refused (suc k) n r (h .1) in
+      let low = p .1 in
+      let high = p .2 in
+      (p .0, (omega arith), (omega arith), first-and-rest k (p .0) (h .0) (p .3), p .4))
+      (orElse-refused (f k) (inTurnFrom f (suc k) n) r e)
+
+  pub inTurn-refused : (n : ℕ) (r : Refusal) → inTurn f n ≡ Refused r → (i : ℕ) × (i < n) × ((j : ℕ) → j < i → f j ≡ Clear) × (f i ≡ Refused r)
+  unfolding inTurn
+  inTurn-refused n r e =
+      let p = turns-refused 0 n r e in
+      let high = p .2 in
+      (p .0, (omega arith), (λ j l. p .3 j (omega arith) l), p .4)
 
   -- A loop over the items below n begins with item 0.
   pub turn-first : (n : ℕ) → inTurn f n ≡ inTurnFrom f 0 (n - 0)
