@@ -1,4 +1,5 @@
 pub mod Steps
+pub mod Shifted
 pub mod Duals
 pub mod Depth
 pub mod SameRun

@@ -21,7 +21,7 @@ use Rattle.plan.specs.Positions.{passOf}
 use Rattle.plan.specs.Run.{runOf}
 use Rattle.cltlb.specs.inner.Fits.{ComparisonFits}
 use Rattle.marks.specs.Parts.{witnessInOrder, partOutcome}
-use Rattle.marks.specs.Meaning.{Truth, Settled, MarksTrue, WitnessesInOrder}
+use Rattle.marks.specs.Meaning.{Truth, SettledOn, PartSettled, PartMarksTrue, PartWitnessed, Settled, MarksTrue, WitnessesInOrder}
 use Rattle.marks.proofs.Tests.{T-path, T-ext}
 use Rattle.marks.proofs.Rows.{rowAt, first-position, start-row, from-start, is-row, row-0, again, row-and-pass}
 use Rattle.marks.proofs.Endless.{Agrees, markAt}
@@ -42,17 +42,18 @@ module _ (plan : List ℕ) (parts : ℕ → Part) (n : ℕ) (mark : ℕ → ℕ 
   Accepted witness = inTurn (λ i. partOutcome plan mark (parts i) i (witness i)) n ≡ Clear
 
 module _ (plan : List ℕ) (hC : 1 ≤ cycleRows plan) (parts : ℕ → Part) (n : ℕ) (mark : ℕ → ℕ → Bool) where
-  everywhere-settled : TrueEverywhere plan parts n mark → Settled parts n plan
-  unfolding Settled
-  everywhere-settled h i l row low high k =
-      Iff·trans (Iff·symm (h i l row)) (Iff·trans (T-path (ap (mark i) (sym (again plan hC row k low)))) (h i l (row + k * cycleRows plan)))
+  -- Where the marks of a part are its truth at every position, the part is settled and its marks are true on the rows.
+  pub true-settled : (i : ℕ) → TrueAt plan parts n mark i → PartSettled parts plan i
+  unfolding PartSettled SettledOn
+  true-settled i h row low high k =
+      Iff·trans (Iff·symm (h row)) (Iff·trans (T-path (ap (mark i) (sym (again plan hC row k low)))) (h (row + k * cycleRows plan)))
 
-  everywhere-marks : TrueEverywhere plan parts n mark → MarksTrue parts n plan mark
-  unfolding MarksTrue
-  everywhere-marks h i l row high = Iff·trans (T-path (ap (mark i) (sym (first-position plan row high)))) (h i l row)
+  pub true-marks : (i : ℕ) → TrueAt plan parts n mark i → PartMarksTrue parts plan i mark
+  unfolding PartMarksTrue
+  true-marks i h row high = Iff·trans (T-path (ap (mark i) (sym (first-position plan row high)))) (h row)
 
   settled-everywhere : Settled parts n plan → MarksTrue parts n plan mark → TrueEverywhere plan parts n mark
-  unfolding Settled MarksTrue
+  unfolding Settled PartSettled SettledOn MarksTrue PartMarksTrue
   settled-everywhere settled marks i l t =
       Iff·trans (marks i l row (is-row plan hC t)) (by-cases (decLt t (startRows plan)) start (λ q. cycle (omega arith)))
     where
@@ -69,31 +70,34 @@ module _ (plan : List ℕ) (hC : 1 ≤ cycleRows plan) (parts : ℕ → Part) (n
 
   -- The marks are the truth at every position exactly where the parts are settled and the marks are true on the rows.
   pub everywhere-iff : TrueEverywhere plan parts n mark ↔ (Settled parts n plan × MarksTrue parts n plan mark)
-  everywhere-iff = (λ h. (everywhere-settled h, everywhere-marks h), λ p. settled-everywhere (p .0) (p .1))
+  unfolding Settled MarksTrue
+  everywhere-iff = (λ h. (λ i l. true-settled i (h i l), λ i l. true-marks i (h i l)), λ p. settled-everywhere (p .0) (p .1))
 
 -- What refusals 1 to 3 clear of the parts: they name lower ones, and the terms of comparisons fit, with v channels.
 module _ (plan : List ℕ) (hC : 1 ≤ cycleRows plan) (parts : ℕ → Part) (n : ℕ) (low : (i : ℕ) → i < n → NamesLower i (parts i))
     (v : ℕ) (fits : (i : ℕ) → i < n → ComparisonFits v (parts i)) where
   module _ (mark : ℕ → ℕ → Bool) (witness : ℕ → ℕ) where
     -- One part, where the marks of the lower ones are the truth.
-    one : (i : ℕ) → i < n → ((a : ℕ) → a < i → TrueAt plan parts n mark a)
+    pub one : (i : ℕ) → i < n → ((a : ℕ) → a < i → TrueAt plan parts n mark a)
         → (partOutcome plan mark (parts i) i (witness i) ≡ Clear) ↔ (TrueAt plan parts n mark i × T (witnessInOrder (startRows plan) (cycleRows plan) mark (parts i) i (witness i)))
     unfolding Truth
     one i l named =
         rw (formula-made parts n low i l)
-        (part-accepted plan mark (formulaOf parts) hC i (witness i) named (parts i) (low i l) (λ c. judged-part plan hC v (parts i) (fits i l) c (formulaOf parts)))
+        (part-accepted plan mark (formulaOf parts) hC i named (parts i) (witness i) (low i l) (λ c. judged-part plan hC v (parts i) (fits i l) c (formulaOf parts)))
 
-    below : ((i : ℕ) → i < n → partOutcome plan mark (parts i) i (witness i) ≡ Clear) → (k i : ℕ) → i < k → i < n → TrueAt plan parts n mark i
-    below clear zero i h l = absurd (not-suc-le-zero h)
-    below clear (suc k) i h l = one i l (λ a q. below clear k a (omega arith) (omega arith)) .0 (clear i l) .0
+    -- The parts below m, where none of them is refused.
+    pub below : (m : ℕ) → m ≤ n → ((i : ℕ) → i < m → partOutcome plan mark (parts i) i (witness i) ≡ Clear) → (i : ℕ) → i < m
+        → TrueAt plan parts n mark i × T (witnessInOrder (startRows plan) (cycleRows plan) mark (parts i) i (witness i))
+    below zero few clear i l = absurd (not-suc-le-zero l)
+    below (suc m) few clear i l =
+        let lower = below m (omega arith) (λ a q. clear a (omega arith)) in
+        one i (omega arith) (λ a q. lower a (omega arith) .0) .0 (clear i l)
 
     -- A table is accepted exactly where its marks are the truth at every position and its witnesses are in order.
     pub accepted-everywhere : Accepted plan parts n mark witness ↔ (TrueEverywhere plan parts n mark × WitnessesInOrder parts n plan mark witness)
-    unfolding WitnessesInOrder
+    unfolding WitnessesInOrder PartWitnessed
     accepted-everywhere = Iff·trans (inTurn-clear (λ i. partOutcome plan mark (parts i) i (witness i)) n) (
-      λ clear.
-          let all : TrueEverywhere plan parts n mark = λ i l. below clear (suc i) i (omega arith) l in
-          (all, λ i l. one i l (λ a q. all a (omega arith)) .0 (clear i l) .1),
+      λ clear. let right = below n (omega arith) clear in (λ i l. right i l .0, λ i l. right i l .1),
       λ p i l. one i l (λ a q. p .0 a (omega arith)) .1 (p .0 i l, p .1 i l),
     )
 
@@ -112,13 +116,13 @@ module _ (plan : List ℕ) (hC : 1 ≤ cycleRows plan) (parts : ℕ → Part) (n
 
     -- The mark of the last part on row 0 is the whole rule's truth at position 0.
     pub accepted-verdict : 1 ≤ n → Accepted plan parts n mark witness → T (mark (n - 1) 0) ↔ Truth parts plan (n - 1) 0
-    unfolding MarksTrue
+    unfolding MarksTrue PartMarksTrue
     accepted-verdict some h = accepted-means h .1 (n - 1) (omega arith) 0 (row-0 plan hC)
 
   -- Every table of true marks is accepted with some witnesses.
   pub true-marks-accepted : (mark : ℕ → ℕ → Bool) → Settled parts n plan → MarksTrue parts n plan mark
       → (witness : ℕ → ℕ) × Accepted plan parts n mark witness
-  unfolding Truth WitnessesInOrder
+  unfolding Truth WitnessesInOrder PartWitnessed
   true-marks-accepted mark settled marks = (
     λ i. pick i (decLt i n),
     true-accepted mark (λ i. pick i (decLt i n)) (settled, marks, λ i l. picked i l (decLt i n)),
@@ -143,6 +147,6 @@ module _ (plan : List ℕ) (hC : 1 ≤ cycleRows plan) (parts : ℕ → Part) (n
   -- The accepted table is unique but for witnesses.
   pub accepted-unique : (mark other : ℕ → ℕ → Bool) (witness others : ℕ → ℕ) → Accepted plan parts n mark witness → Accepted plan parts n other others
       → (i row : ℕ) → i < n → row < rows plan → mark i row ≡ other i row
-  unfolding MarksTrue
+  unfolding MarksTrue PartMarksTrue
   accepted-unique mark other witness others h k i row l q =
       T-ext (mark i row) (other i row) (Iff·trans (accepted-means mark witness h .1 i l row q) (Iff·symm (accepted-means other others k .1 i l row q)))

@@ -46,7 +46,7 @@ judged-part plan hC v p fits c f = record {
 }
 
 -- Where a verdict is not "changes", the truth at two positions of the row is one.
-same-truth : (P C row : ℕ) (F : ℕ → Type 0) (v : Verdict) → VerdictMeans P C row F v → isChanges v ≡ false
+pub same-truth : (P C row : ℕ) (F : ℕ → Type 0) (v : Verdict) → VerdictMeans P C row F v → isChanges v ≡ false
     → (s t : ℕ) → rowOf P C s ≡ row → rowOf P C t ≡ row → F s ↔ F t
 same-truth P C row F AlwaysTrue w e s t d k = let all = w .alwaysTrue .0 refl in (λ _. all t k, λ _. all s d)
 same-truth P C row F AlwaysFalse w e s t d k = let none = w .alwaysFalse .0 refl in (λ h. absurd (none s d h), λ h. absurd (none t k h))

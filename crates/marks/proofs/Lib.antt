@@ -13,4 +13,6 @@ pub mod Unrolled
 pub mod Witnesses
 pub mod Witnessed
 pub mod Parts
+pub mod Faults
 pub mod Accepted
+pub mod RefusalMeans

@@ -74,16 +74,13 @@ module _ (A B : ℕ → Type 0) (a b m : ℕ → Bool) (ha : Agrees a A) (hb : A
     pub until-agrees : Decides B m → Agrees m (Until A B)
     until-agrees d t = (carried (d t .0) t (d t .1), marked t)
 
-  -- ---- U and R: the truth meets the equation
+  -- ---- U and R at a position, from the mark after it
 
-  pub until-meets : Agrees m (Until A B) → (t : ℕ) → m t ≡ untilDue a b m t
-  until-meets h t =
-      T-ext (m t) (untilDue a b m t) (Iff·trans (h t) (Iff·trans (until-step A B t) (Iff·symm (or-and t (m (suc t)) (h (suc t))))))
+  pub until-by : (t : ℕ) → T (m (suc t)) ↔ Until A B (suc t) → T (untilDue a b m t) ↔ Until A B t
+  until-by t h = Iff·trans (or-and t (m (suc t)) h) (Iff·symm (until-step A B t))
 
-  pub release-meets : Agrees m (Release A B) → (t : ℕ) → m t ≡ releaseDue a b m t
-  release-meets h t =
-      T-ext (m t) (releaseDue a b m t)
-      (Iff·trans (h t) (Iff·trans (release-step A B t (decided (a t) (ha t))) (Iff·symm (and-or t (m (suc t)) (h (suc t))))))
+  pub release-by : (t : ℕ) → T (m (suc t)) ↔ Release A B (suc t) → T (releaseDue a b m t) ↔ Release A B t
+  release-by t h = Iff·trans (and-or t (m (suc t)) h) (Iff·symm (release-step A B t (decided (a t) (ha t))))
 
   -- ---- S and T at a position, from the marks before it
 
@@ -111,13 +108,16 @@ module _ (A B : ℕ → Type 0) (a b m : ℕ → Bool) (ha : Agrees a A) (hb : A
 -- ---- equations that look at no mark of the part itself but earlier ones
 
 module _ (X : ℕ → Type 0) (m due : ℕ → Bool) (by : (t : ℕ) → ((k : ℕ) → k < t → T (m k) ↔ X k) → T (due t) ↔ X t) where
-  below : ((t : ℕ) → m t ≡ due t) → (n k : ℕ) → k < n → T (m k) ↔ X k
-  below meets zero k l = absurd (not-suc-le-zero l)
-  below meets (suc n) k l = Iff·trans (T-path (meets k)) (by k (λ j q. below meets n j (omega arith)))
+  -- Where they hold at every position below n, the marks are the truth there.
+  pub agrees-below : (n : ℕ) → ((t : ℕ) → t < n → m t ≡ due t) → (k : ℕ) → k < n → T (m k) ↔ X k
+  agrees-below zero meets k l = absurd (not-suc-le-zero l)
+  agrees-below (suc n) meets k l =
+      let before = agrees-below n (λ t q. meets t (omega arith)) in
+      Iff·trans (T-path (meets k l)) (by k (λ j q. before j (omega arith)))
 
   -- They hold at every position exactly where the marks are the truth.
   pub meets-agrees : ((t : ℕ) → m t ≡ due t) ↔ Agrees m X
   meets-agrees = (
-    λ meets t. below meets (suc t) t (omega arith),
+    λ meets t. agrees-below (suc t) (λ k _. meets k) t (omega arith),
     λ h t. T-ext (m t) (due t) (Iff·trans (h t) (Iff·symm (by t (λ k l. h k)))),
   )

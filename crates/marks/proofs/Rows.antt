@@ -3,6 +3,7 @@ use mathlib.Core.Path.{_≡_, sym, ap, _∙_}
 use mathlib.Core.List.{List}
 use mathlib.Core.Logic.{_⊎_, inl, inr, by-cases}
 use Prim.Native.Nat.{ℕ, suc, _+_, _*_, _≤_, _<_}
+use native.Mathlib.Nat.{one-mul}
 use native.Mathlib.Decide.{decLt}
 use native.Mathlib.Omega.{arith}
 use Rattle.plan.specs.Layout.{startRows, cycleRows, rows}
@@ -49,13 +50,28 @@ module _ (plan : List ℕ) where
     pub again : (row k : ℕ) → startRows plan ≤ row → rowAt plan (row + k * cycleRows plan) ≡ rowAt plan row
     again row k h = row-later (startRows plan) (cycleRows plan) hC row k h
 
-    pub comes : (row t : ℕ) → startRows plan ≤ row → row < rows plan → (n : ℕ) × (rowAt plan (t + n) ≡ row)
-    unfolding rows
-    comes row t h l = row-comes (startRows plan) (cycleRows plan) hC row t h l
+    pub once-more : (t : ℕ) → startRows plan ≤ t → rowAt plan (t + cycleRows plan) ≡ rowAt plan t
+    once-more t h = ap (λ (c : ℕ). rowAt plan (t + c)) (sym (one-mul (cycleRows plan))) ∙ again t 1 h
+
+    -- The position after the first pass is row P on pass 1.
+    pub second-pass : suc (lastRow plan) ≡ startRows plan + 1 * cycleRows plan
+    unfolding last
+    second-pass = omega arith
 
     -- A position of the cycle is its row and some passes more.
     pub row-and-pass : (t : ℕ) → startRows plan ≤ t → t ≡ rowAt plan t + passOf (startRows plan) (cycleRows plan) t * cycleRows plan
     row-and-pass t h = row-split (startRows plan) (cycleRows plan) hC t h
+
+    -- A position that lies on a cycle row is that row and some passes more.
+    pub on-cycle-row : (row t : ℕ) → startRows plan ≤ row → rowAt plan t ≡ row → t ≡ row + passOf (startRows plan) (cycleRows plan) t * cycleRows plan
+    on-cycle-row row t low e =
+        by-cases (decLt t (startRows plan))
+        (λ l. absurd (let same = start-row t l in omega arith))
+        (λ l. row-and-pass t (omega arith) ∙ ap (λ (x : ℕ). x + passOf (startRows plan) (cycleRows plan) t * cycleRows plan) e)
+
+    pub comes : (row t : ℕ) → startRows plan ≤ row → row < rows plan → (n : ℕ) × (rowAt plan (t + n) ≡ row)
+    unfolding rows
+    comes row t h l = row-comes (startRows plan) (cycleRows plan) hC row t h l
 
     pub row-after : (t : ℕ) → after (startRows plan) (cycleRows plan) (rowAt plan t) ≡ rowAt plan (suc t)
     row-after t = sym (row-suc (startRows plan) (cycleRows plan) hC t)

@@ -35,6 +35,13 @@ beq-T true false = (absurd, λ e. subst T e tt)
 beq-T false true = (absurd, λ e. subst⁻¹ T e tt)
 beq-T false false = (λ _. refl, λ _. tt)
 
+-- Two tests differ, by the same test.
+pub beq-differs : (x y : Bool) → Bool·beq x y ≡ false → (T x × T (not y)) ⊎ (T (not x) × T y)
+beq-differs true true e = absurd (subst T e tt)
+beq-differs true false e = inl (tt, tt)
+beq-differs false true e = inr (tt, tt)
+beq-differs false false e = absurd (subst T e tt)
+
 -- Boolean operations against the statements that they stand for.
 pub not-iff : {X : Type 0} (x : Bool) → T x ↔ X → T (not x) ↔ (¬ X)
 not-iff x f = (λ n h. T-not x n (f .1 h), λ g. not-T x (λ h. g (f .0 h)))

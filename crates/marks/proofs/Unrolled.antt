@@ -58,7 +58,7 @@ module _ (plan : List ℕ) (mark : ℕ → ℕ → Bool) where
     row0 : rowAt plan 0 ≡ 0
     row0 = first-position plan 0 (row-0 plan hC)
 
-    unrolls : (p : Part) (i : ℕ) → Unrolls p i
+    pub unrolls : (p : Part) (i : ℕ) → Unrolls p i
     unfolding expected byRowBefore due closingOutcome
     unrolls (Less x y) i = compares refl (λ _. refl) (λ _. refl) refl
     unrolls (Equal x y) i = compares refl (λ _. refl) (λ _. refl) refl
@@ -72,6 +72,18 @@ module _ (plan : List ℕ) (mark : ℕ → ℕ → Bool) where
     unrolls (WeakYesterday a) i = back refl (λ _. refl) (λ _. refl) refl
     unrolls (Since a b) i = back (ap (mark b) (sym row0)) (λ _. refl) (λ _. refl) refl
     unrolls (Trigger a b) i = back (ap (mark b) (sym row0)) (λ _. refl) (λ _. refl) refl
+
+    -- What the equation asks on a row is what is due at the row's first position.
+    pub expected-due : (p : Part) (i row : ℕ) → row < rows plan → expectedOn p i row ≡ due plan mark p i row
+    expected-due p i = go (unrolls p i)
+      where
+        go : Unrolls p i → (row : ℕ) → row < rows plan → expectedOn p i row ≡ due plan mark p i row
+        go (compares c e d k) row l = e row ∙ sym (d row)
+        go (ahead e k) row l = subst (λ (x : ℕ). expectedOn p i x ≡ due plan mark p i row) (first-position plan row l) (e row)
+        go (back z s b k) zero l = z
+        go (back z s b k) (suc row) l =
+            s row
+            ∙ subst₂ (λ (x y : ℕ). byRowBefore mark p i x y ≡ due plan mark p i (suc row)) (first-position plan (suc row) l) (first-position plan row (omega arith)) (b row)
 
     -- An equation by the row before, on the rows above 0 and on row P after row W - 1, is one by the position before.
     module _ (m : ℕ → Bool) (G : ℕ → ℕ → Bool) where

@@ -1,6 +1,5 @@
--- What an accepted mark table means: demand 3, over any parts, plan and marks. Assumes nothing.
+-- What marks that are accepted mean: demand 3, part by part, over any parts, plan and marks. Assumes nothing.
 use Prim.Native.Nat.{ℕ, _+_, _*_, _≤_, _<_}
-use mathlib.Core.Path.{_≡_}
 use mathlib.Core.List.{List}
 use mathlib.Core.Bool.{Bool}
 use mathlib.Core.Logic.{_↔_}
@@ -16,18 +15,42 @@ use Rattle.marks.specs.Parts.{witnessInOrder}
 unfoldable pub Truth : (ℕ → Part) → List ℕ → ℕ → ℕ → Type 0
 Truth parts plan i t = Holds (runOf plan) (formulaOf parts i) t
 
+-- of part i
+module _ (parts : ℕ → Part) (plan : List ℕ) (i : ℕ) where
+  -- it has on a cycle row the same published truth on all passes, without end
+  unfoldable pub SettledOn : ℕ → Type 0
+  SettledOn row = (k : ℕ) → Truth parts plan i row ↔ Truth parts plan i (row + k * cycleRows plan)
+
+  -- it has on a row one published truth on one pass and the other on another
+  unfoldable pub DiffersOn : ℕ → Type 0
+  DiffersOn row =
+      ((k : ℕ) × Truth parts plan i (row + k * cycleRows plan))
+      × ((k : ℕ) × (¬ Truth parts plan i (row + k * cycleRows plan)))
+
+  -- it is settled on each cycle row
+  unfoldable pub PartSettled : Type 0
+  PartSettled = (row : ℕ) → startRows plan ≤ row → row < rows plan → SettledOn row
+
+  module _ (mark : ℕ → ℕ → Bool) where
+    -- every mark of it is its published truth at the first position of the mark's row
+    unfoldable pub PartMarksTrue : Type 0
+    PartMarksTrue = (row : ℕ) → row < rows plan → T (mark i row) ↔ Truth parts plan i row
+
+    -- its witness is in order
+    unfoldable pub PartWitnessed : (ℕ → ℕ) → Type 0
+    PartWitnessed witness = T (witnessInOrder (startRows plan) (cycleRows plan) mark (parts i) i (witness i))
+
+-- of the parts below n
 module _ (parts : ℕ → Part) (n : ℕ) (plan : List ℕ) where
   -- every part has, on each cycle row, the same published truth on all passes, without end
   unfoldable pub Settled : Type 0
-  Settled =
-      (i : ℕ) → i < n → (row : ℕ) → startRows plan ≤ row → row < rows plan
-      → (k : ℕ) → Truth parts plan i row ↔ Truth parts plan i (row + k * cycleRows plan)
+  Settled = (i : ℕ) → i < n → PartSettled parts plan i
 
   module _ (mark : ℕ → ℕ → Bool) where
     -- every mark is the published truth of its part at the first position of its row
     unfoldable pub MarksTrue : Type 0
-    MarksTrue = (i : ℕ) → i < n → (row : ℕ) → row < rows plan → T (mark i row) ↔ Truth parts plan i row
+    MarksTrue = (i : ℕ) → i < n → PartMarksTrue parts plan i mark
 
     -- every witness is in order
     unfoldable pub WitnessesInOrder : (ℕ → ℕ) → Type 0
-    WitnessesInOrder witness = (i : ℕ) → i < n → T (witnessInOrder (startRows plan) (cycleRows plan) mark (parts i) i (witness i))
+    WitnessesInOrder witness = (i : ℕ) → i < n → PartWitnessed parts plan i mark witness

@@ -1,0 +1,103 @@
+-- Refusals 9, 10 and 11 of a table say of the published truth what marks/specs/Refusals states. Assumes nothing.
+use mathlib.Core.Path.{_≡_, sym, _∙_, subst}
+use mathlib.Core.Bool.{Bool, true}
+use mathlib.Core.List.{List}
+use mathlib.Core.Logic.{⊎-elim}
+use Prim.Native.Nat.{ℕ, _≤_, _<_}
+use native.Mathlib.Omega.{arith}
+use lib.Dec.{T}
+use Rattle.cltlb.specs.Parts.{isComparison, formulaOf, NamesLower}
+use Rattle.cltlb.specs.inner.Fits.{ComparisonFits}
+use Rattle.cltlb.specs.declared.Part.{Part}
+use Rattle.cltlb.proofs.Depth.{formula-made}
+use Rattle.refusal.specs.First.{_orElse_, inTurn}
+use Rattle.refusal.specs.declared.Refusal.{Refusal}
+use Rattle.refusal.specs.declared.Refusal.the-variants.{RuleSizes, Kind, Operand, PlanSizes, Channels, StartDrift, MarkSizes, MarkByte, Equation, Closing, Witness, Absent}
+use Rattle.refusal.specs.declared.Outcome.the-variants.{Clear, Refused}
+use Rattle.refusal.proofs.First.{unless-refused, unless-clear-T, orElse-refused, inTurn-refused, clear-refused}
+use Rattle.plan.specs.Layout.{startRows, cycleRows, rows}
+use Rattle.marks.specs.Parts.{witnessInOrder, equationOutcome, closingOutcome, witnessOutcome, partOutcome}
+use Rattle.marks.specs.Meaning.{Truth, SettledOn, DiffersOn, PartMarksTrue, PartWitnessed}
+use Rattle.marks.specs.Refusals.{FirstFault, EquationMeans, ClosingMeans, WitnessMeans}
+use Rattle.marks.proofs.Comparisons.{judged-part}
+use Rattle.marks.proofs.Unrolled.{equation-clear}
+use Rattle.marks.proofs.Parts.{This}
+use Rattle.marks.proofs.Faults.{Open, equation-untrue, equation-row, closing-open}
+use Rattle.marks.proofs.Accepted.{TrueAt, true-settled, true-marks, below}
+
+module _ (plan : List ℕ) (parts : ℕ → Part) (n : ℕ) (mark : ℕ → ℕ → Bool) (witness : ℕ → ℕ) where
+  -- what a refusal of the table says, by its number
+  unfoldable pub Means : Refusal → Type 0
+  Means RuleSizes = Unit {0}
+  Means (Kind i) = Unit {0}
+  Means (Operand i) = Unit {0}
+  Means PlanSizes = Unit {0}
+  Means Channels = Unit {0}
+  Means (StartDrift row) = Unit {0}
+  Means MarkSizes = Unit {0}
+  Means (MarkByte i row) = Unit {0}
+  Means (Equation i row) = EquationMeans parts n plan mark witness i row
+  Means (Closing i row) = ClosingMeans parts n plan mark witness i row
+  Means (Witness i) = WitnessMeans parts n plan mark witness i
+  Means Absent = Unit {0}
+
+module _ (plan : List ℕ) (hC : 1 ≤ cycleRows plan) (parts : ℕ → Part) (n : ℕ) (low : (i : ℕ) → i < n → NamesLower i (parts i))
+    (v : ℕ) (fits : (i : ℕ) → i < n → ComparisonFits v (parts i)) (mark : ℕ → ℕ → Bool) (witness : ℕ → ℕ) where
+  module _ (i : ℕ) (l : i < n) (lower : (a : ℕ) → a < i → TrueAt plan parts n mark a × T (witnessInOrder (startRows plan) (cycleRows plan) mark (parts a) a (witness a))) where
+    first-fault : FirstFault parts n plan mark witness i
+    unfolding PartWitnessed
+    first-fault = record {
+      present = l;
+      lower = λ a q. record {
+        settled = true-settled plan hC parts n mark a (lower a q .0);
+        marks = true-marks plan hC parts n mark a (lower a q .0);
+        witnessed = lower a q .1;
+      };
+    }
+
+    untrue : (r : Refusal) → equationOutcome plan mark (parts i) i ≡ Refused r → ¬ PartMarksTrue parts plan i mark
+    unfolding PartMarksTrue Truth
+    untrue r e =
+        rw (formula-made parts n low i l)
+        (equation-untrue plan mark (formulaOf parts) hC i (λ a q. lower a q .0) (parts i) (low i l) (λ c. judged-part plan hC v (parts i) (fits i l) c (formulaOf parts)) r e)
+
+    opened : equationOutcome plan mark (parts i) i ≡ Clear → (r : Refusal) → closingOutcome plan mark (parts i) i ≡ Refused r → Open plan (Truth parts plan i) (parts i) i r
+    unfolding Truth
+    opened met r e =
+        rw (formula-made parts n low i l)
+        (closing-open plan mark (formulaOf parts) hC i (λ a q. lower a q .0) (parts i) (low i l) (λ c. judged-part plan hC v (parts i) (fits i l) c (formulaOf parts))
+        (equation-clear plan mark (parts i) i .0 met) r e)
+
+    equation-means : (r : Refusal) → equationOutcome plan mark (parts i) i ≡ Refused r → Means plan parts n mark witness r
+    unfolding Means
+    equation-means r e =
+        let s = equation-row plan mark (parts i) i r e in
+        subst (Means plan parts n mark witness) (s .1) (record { fault = first-fault; row-there = s .2; not-true = untrue r e })
+
+    closing-means : equationOutcome plan mark (parts i) i ≡ Clear → (r : Refusal) → closingOutcome plan mark (parts i) i ≡ Refused r → Means plan parts n mark witness r
+    unfolding Means DiffersOn SettledOn
+    closing-means met r e =
+        let s = opened met r e in
+        subst (Means plan parts n mark witness) (s .1) (record { fault = first-fault; in-cycle = (s .2, s .3); differs = s .4; lowest = s .5 })
+
+    witness-means : (r : Refusal) → witnessOutcome plan mark (parts i) i (witness i) ≡ Refused r → Means plan parts n mark witness r
+    unfolding Means witnessOutcome PartWitnessed
+    witness-means r e =
+        let test = witnessInOrder (startRows plan) (cycleRows plan) mark (parts i) i (witness i) in
+        subst (Means plan parts n mark witness) (unless-refused test (Witness i) r e .1)
+        (record { fault = first-fault; not-in-order = λ ok. clear-refused (sym e ∙ unless-clear-T test (Witness i) .1 ok) })
+
+    part-means : (r : Refusal) → partOutcome plan mark (parts i) i (witness i) ≡ Refused r → Means plan parts n mark witness r
+    unfolding partOutcome
+    part-means r e =
+        ⊎-elim (equation-means r)
+        (λ h. ⊎-elim (closing-means (h .0) r) (λ k. witness-means r (k .1))
+        (orElse-refused (closingOutcome plan mark (parts i) i) (witnessOutcome plan mark (parts i) i (witness i)) r (h .1)))
+        (orElse-refused (equationOutcome plan mark (parts i) i) (closingOutcome plan mark (parts i) i orElse witnessOutcome plan mark (parts i) i (witness i)) r e)
+
+  -- A table that is refused: the first part at fault says so, and every lower one is right.
+  pub refused-means : (r : Refusal) → inTurn (λ i. partOutcome plan mark (parts i) i (witness i)) n ≡ Refused r → Means plan parts n mark witness r
+  refused-means r e =
+      let p = inTurn-refused (λ i. partOutcome plan mark (parts i) i (witness i)) n r e in
+      let l = p .1 in
+      part-means (p .0) l (below plan hC parts n low v fits mark witness (p .0) (omega arith) (p .2)) r (p .3)
