@@ -8,6 +8,9 @@ use mathlib.Core.Logic.{_↔_, Iff·trans}
 use lib.Dec.{T}
 use Rattle.refusal.specs.declared.Outcome.{Outcome}
 use Rattle.refusal.specs.declared.Outcome.the-variants.{Clear, Refused}
+use Rattle.refusal.specs.declared.Refusal.{Refusal}
+use Rattle.refusal.specs.declared.Refusal.the-variants.{Equation, Closing, Witness}
+use Rattle.refusal.specs.Report.{reportOf}
 use Rattle.refusal.specs.First.{_orElse_, inTurn}
 use Rattle.refusal.proofs.First.{orElse-clear}
 use Rattle.rule.specs.Layout.{partCount, channelCount}
@@ -20,10 +23,12 @@ use Rattle.plan.proofs.Outcomes.{cleared}
 use Rattle.marks.specs.Layout.{tableOutcome}
 use Rattle.marks.specs.Parts.{partOutcome}
 use Rattle.marks.proofs.Accepted.{accepted-means, true-accepted, accepted-verdict}
+use Rattle.marks.proofs.RefusalMeans.{Means, refused-means}
 use Rattle.acceptance.specs.declared.Checked.{Checked}
 use Rattle.acceptance.specs.declared.Checked.the-variants as C
 use Rattle.acceptance.specs.Check.{markOf, witnessAt, partsOutcome, checkOutcome, answered, checkOf}
-use Rattle.acceptance.specs.Promise.{Cleared, RuleTruth, TableRight, CheckPromise}
+use Rattle.acceptance.specs.Promise.{Cleared, RuleTruth, TableRight, EquationMeans, ClosingMeans, WitnessMeans, CheckPromise}
+use Rattle.acceptance.proofs.CheckNames.{parts-refused, refused-outcome}
 
 module _ (rule plan table : List ℕ) where
   -- accepted exactly where no test refuses
@@ -77,9 +82,18 @@ module _ (rule plan table : List ℕ) where
         accepted-verdict plan some-cycle (partsOf rule) (partCount rule) (cleared-lower rule (c .sheet)) (channelCount rule) (cleared-terms rule (c .sheet))
         (markOf rule plan table) (witnessAt rule plan table) (cleared-counts rule (c .sheet) .0) e
 
+  -- what a refusal of a part says
+  refused-says : (r : Refusal) → 9 ≤ reportOf r .number → checkOutcome rule plan table ≡ Refused r
+      → Means plan (partsOf rule) (partCount rule) (markOf rule plan table) (witnessAt rule plan table) r
+  unfolding partsOutcome
+  refused-says r high e =
+      let p = parts-refused rule plan table r high e in
+      refused-means plan (cleared (channelCount rule) plan (p .1) .0 .a-cycle) (partsOf rule) (partCount rule) (cleared-lower rule (p .0)) (channelCount rule)
+      (cleared-terms rule (p .0)) (markOf rule plan table) (witnessAt rule plan table) r (p .2)
+
   -- THE CHECK KEEPS ITS PROMISE, whatever the bytes.
   pub check-promise : {answer : Checked} → answer ≡ checkOf rule plan table → CheckPromise rule plan table answer
-  unfolding checkOf
+  unfolding checkOf Means EquationMeans ClosingMeans WitnessMeans
   check-promise {answer} e = record {
     isCheck = e;
     accepts = λ c. (
@@ -90,4 +104,7 @@ module _ (rule plan table : List ℕ) where
         let a = accepted-clear (checkOutcome rule plan table) v (sym e ∙ q) in
         let b = all-clear (a .0) in
         subst (λ (x : Bool). T x ↔ RuleTruth rule plan (partCount rule - 1) 0) (a .1) (verdict-true (b .0) (b .1));
+    equation = λ i row q. refused-says (Equation i row) (omega arith) (refused-outcome rule plan table (checkOutcome rule plan table) (Equation i row) (sym e ∙ q));
+    closing = λ i row q. refused-says (Closing i row) (omega arith) (refused-outcome rule plan table (checkOutcome rule plan table) (Closing i row) (sym e ∙ q));
+    witness = λ i q. refused-says (Witness i) (omega arith) (refused-outcome rule plan table (checkOutcome rule plan table) (Witness i) (sym e ∙ q));
   }

@@ -6,6 +6,7 @@ use mathlib.Core.Bool.{Bool}
 use mathlib.Core.Logic.{_↔_}
 use lib.Dec.{T}
 use Rattle.refusal.specs.declared.Outcome.the-variants.{Clear}
+use Rattle.refusal.specs.declared.Refusal.the-variants.{Equation, Closing, Witness}
 use Rattle.rule.specs.Layout.{partCount, channelCount}
 use Rattle.rule.specs.Take.{partsOf}
 use Rattle.rule.specs.Sheet.{sheetOutcome}
@@ -13,6 +14,7 @@ use Rattle.plan.specs.Layout.{rows}
 use Rattle.plan.specs.Refusals.{planOutcome}
 use Rattle.marks.specs.Layout.{tableOutcome}
 use Rattle.marks.specs.Meaning.{Truth, Settled, MarksTrue, WitnessesInOrder}
+use Rattle.marks.specs.Refusals as refusals
 use Rattle.acceptance.specs.declared.Checked.{Checked}
 use Rattle.acceptance.specs.declared.Checked.the-variants as C
 use Rattle.acceptance.specs.Check.{markOf, witnessAt, checkOf}
@@ -35,6 +37,17 @@ module _ (rule plan table : List ℕ) where
     pub marks : MarksTrue (partsOf rule) (partCount rule) plan (markOf rule plan table)
     pub witnesses : WitnessesInOrder (partsOf rule) (partCount rule) plan (markOf rule plan table) (witnessAt rule plan table)
 
+  -- What refusals 9, 10 and 11 say of the published truth: every lower part is right; on 9 the marks of part i are not all
+  -- true; on 10 its truth is not the same on all passes of the row; on 11 its witness is not in order.
+  unfoldable pub EquationMeans : ℕ → ℕ → Type 0
+  EquationMeans i row = refusals.EquationMeans (partsOf rule) (partCount rule) plan (markOf rule plan table) (witnessAt rule plan table) i row
+
+  unfoldable pub ClosingMeans : ℕ → ℕ → Type 0
+  ClosingMeans i row = refusals.ClosingMeans (partsOf rule) (partCount rule) plan (markOf rule plan table) (witnessAt rule plan table) i row
+
+  unfoldable pub WitnessMeans : ℕ → Type 0
+  WitnessMeans i = refusals.WitnessMeans (partsOf rule) (partCount rule) plan (markOf rule plan table) (witnessAt rule plan table) i
+
   pub record CheckPromise (answer : Checked) : Type 0 where
     -- the answer is the first refusal that applies, or the acceptance, of document 01's list
     pub isCheck : answer ≡ checkOf rule plan table
@@ -42,3 +55,7 @@ module _ (rule plan table : List ℕ) where
     pub accepts : Cleared → ((v : Bool) × (answer ≡ C.Accepted v)) ↔ TableRight
     -- its verdict is the published truth of the whole rule at position 0
     pub verdict : (v : Bool) → answer ≡ C.Accepted v → T v ↔ RuleTruth rule plan (partCount rule - 1) 0
+    -- what a refusal of part i says
+    pub equation : (i row : ℕ) → answer ≡ C.Refused (Equation i row) → EquationMeans i row
+    pub closing : (i row : ℕ) → answer ≡ C.Refused (Closing i row) → ClosingMeans i row
+    pub witness : (i : ℕ) → answer ≡ C.Refused (Witness i) → WitnessMeans i
