@@ -58,6 +58,9 @@
  * Time. Both functions always return. The time is bounded by the sizes N, V
  * and W, and does not grow with the pass on which a comparison changes.
  *
+ * Platform. The library is compiled for x86-64 Linux, with the usual calling
+ * convention of C there.
+ *
  * Answers. An answer is one number:
  *
  *   accepted, judged    the value itself, below 2^32
@@ -65,7 +68,8 @@
  *
  * where the refusal's number is one of enum endless_run_refusal, and part and
  * row are 0 where the refusal names none. The functions at the end of this
- * file take an answer apart.
+ * file take an answer apart and put it into words. They are inline and need no
+ * library.
  */
 #ifndef ENDLESS_RUN_H
 #define ENDLESS_RUN_H
@@ -76,6 +80,63 @@
 #ifdef __cplusplus
 extern "C" {
 #endif
+
+/*
+ * The version of this interface: of the layouts, of the answers and of what is
+ * declared here. It is raised by 1 with each change of a layout, of the meaning
+ * of an answer or of the interface that a caller could notice.
+ */
+#define ENDLESS_RUN_VERSION 1
+
+/* The kind byte of a part. The comments give its operand: two terms, one part,
+   or two parts a and b in this order. */
+enum endless_run_kind {
+    ENDLESS_RUN_KIND_LESS = 1,            /* two terms: left < right */
+    ENDLESS_RUN_KIND_EQUAL = 2,           /* two terms: left = right */
+    ENDLESS_RUN_KIND_NOT = 3,             /* one part */
+    ENDLESS_RUN_KIND_AND = 4,             /* two parts */
+    ENDLESS_RUN_KIND_OR = 5,              /* two parts */
+    ENDLESS_RUN_KIND_NEXT = 6,            /* one part: X a */
+    ENDLESS_RUN_KIND_UNTIL = 7,           /* two parts: a U b */
+    ENDLESS_RUN_KIND_RELEASE = 8,         /* two parts: a R b */
+    ENDLESS_RUN_KIND_YESTERDAY = 9,       /* one part: Y a */
+    ENDLESS_RUN_KIND_WEAK_YESTERDAY = 10, /* one part: Z a */
+    ENDLESS_RUN_KIND_SINCE = 11,          /* two parts: a S b */
+    ENDLESS_RUN_KIND_TRIGGER = 12         /* two parts: a T b */
+};
+
+/* The form byte of a term. */
+enum endless_run_form {
+    ENDLESS_RUN_FORM_CONSTANT = 0, /* the number is the constant */
+    ENDLESS_RUN_FORM_READING = 1   /* the number is the channel that is read */
+};
+
+/* The shift code of a reading at its own position, and of every constant. The
+   code of a shift is ENDLESS_RUN_NO_SHIFT + shift, for -4 to 4 positions. */
+#define ENDLESS_RUN_NO_SHIFT 4
+
+/* The witness of a part that is asked for none. */
+#define ENDLESS_RUN_NO_WITNESS 65535
+
+/* The largest sizes: N, V, and W = P + C. */
+#define ENDLESS_RUN_MOST_PARTS 64
+#define ENDLESS_RUN_MOST_CHANNELS 8
+#define ENDLESS_RUN_MOST_ROWS 256
+
+/* The length in bytes, of type size_t, that a rule, a plan or a mark table has
+   by its sizes N, V and W. Constant where the sizes are. Each size is taken
+   once and is not held against its range. */
+#define ENDLESS_RUN_RULE_LENGTH(parts) (4 + 13 * (size_t)(parts))
+#define ENDLESS_RUN_PLAN_LENGTH(channels, rows) (6 + 8 * (size_t)(channels) * (size_t)(rows))
+#define ENDLESS_RUN_MARKS_LENGTH(parts, rows) \
+    (4 + (size_t)(parts) * (size_t)(rows) + 2 * (size_t)(parts))
+
+/* The largest lengths in bytes: 836, 16390 and 16516. A longer rule, plan or
+   mark table is always refused. */
+#define ENDLESS_RUN_LONGEST_RULE (4 + 13 * ENDLESS_RUN_MOST_PARTS)
+#define ENDLESS_RUN_LONGEST_PLAN (6 + 8 * ENDLESS_RUN_MOST_CHANNELS * ENDLESS_RUN_MOST_ROWS)
+#define ENDLESS_RUN_LONGEST_MARKS \
+    (4 + ENDLESS_RUN_MOST_PARTS * ENDLESS_RUN_MOST_ROWS + 2 * ENDLESS_RUN_MOST_PARTS)
 
 /*
  * The refusals, in the order in which they are looked for: an answer carries
@@ -115,8 +176,13 @@ enum endless_run_refusal {
        lowest such row of that part. */
     ENDLESS_RUN_MARK_BYTE = 8,
 
-    /* A mark breaks its equation, the one that ties it to the marks of the
-       parts that it names. Part; row: the lowest row whose mark does. */
+    /* A mark breaks its equation. The equation of a comparison is its truth at
+       pass 0; that of any other part ties the mark to the marks of the parts
+       that it names, on this row or on the row beside it, and for U, R, S and
+       T also to the part's own mark on the row beside it. Part; row: the
+       lowest row on which mark and equation differ. That mark is false, but
+       for U and R the false one may instead be the part's own mark on the row
+       after. */
     ENDLESS_RUN_EQUATION = 9,
 
     /* A part does not close: its truth on the rows does not carry over to the
@@ -225,6 +291,83 @@ static inline unsigned endless_run_row(uint64_t answer)
 static inline int endless_run_verdict(uint64_t answer)
 {
     return answer == 1;
+}
+
+/* The finding in an answer of endless_run_judge(): one of enum
+   endless_run_judged; -1 if the answer is a refusal, or no answer at all. */
+static inline int endless_run_finding(uint64_t answer)
+{
+    return answer <= ENDLESS_RUN_CHANGES ? (int)answer : -1;
+}
+
+/* What endless_run_message() and endless_run_judge_message() say of a refusal,
+   by its number; of any other number, that it is no answer. */
+static inline const char *endless_run_refusal_message(unsigned number)
+{
+    switch (number) {
+    case ENDLESS_RUN_RULE_SIZES:
+        return "the rule's sizes or its length are wrong";
+    case ENDLESS_RUN_KIND:
+        return "a kind byte of the rule is not 1 to 12";
+    case ENDLESS_RUN_OPERAND:
+        return "an operand of the rule breaks the layout";
+    case ENDLESS_RUN_PLAN_SIZES:
+        return "the plan's sizes or its length are wrong";
+    case ENDLESS_RUN_CHANNELS:
+        return "the plan has not as many channels as the rule";
+    case ENDLESS_RUN_START_DRIFT:
+        return "a start row of the plan has a drift";
+    case ENDLESS_RUN_MARK_SIZES:
+        return "the mark table's sizes or its length are wrong";
+    case ENDLESS_RUN_MARK_BYTE:
+        return "a mark byte is above 1";
+    case ENDLESS_RUN_EQUATION:
+        return "a mark breaks its equation";
+    case ENDLESS_RUN_CLOSING:
+        return "a part's truth on a cycle row is not the same on all passes";
+    case ENDLESS_RUN_WITNESS:
+        return "a witness is not in order";
+    case ENDLESS_RUN_ABSENT:
+        return "there is no such part or row, or the part is no comparison";
+    default:
+        return "not an answer of the checker";
+    }
+}
+
+/*
+ * A short English text for an answer of endless_run_check(), and for a refusal
+ * of either function.
+ *
+ * Takes every number and never returns null. The text is a string literal: it
+ * lasts as long as the program and is not to be freed or written. It begins in
+ * lower case, has no full stop or line end, and names no part and no row: each
+ * refusal has one text, chosen by its number alone. A number that is neither 0
+ * or 1 nor a refusal of number 1 to 12 gets a text that says that it is no
+ * answer. The wording may change without a new version.
+ */
+static inline const char *endless_run_message(uint64_t answer)
+{
+    if (answer == 0)
+        return "accepted: the marks are right, and the rule is false at position 0";
+    if (answer == 1)
+        return "accepted: the marks are right, and the rule is true at position 0";
+    return endless_run_refusal_message(endless_run_number(answer));
+}
+
+/* The same for an answer of endless_run_judge(), where 0, 1 and 2 have another
+   meaning. The texts of the refusals are those of endless_run_message(). */
+static inline const char *endless_run_judge_message(uint64_t answer)
+{
+    switch (endless_run_finding(answer)) {
+    case ENDLESS_RUN_ALWAYS_FALSE:
+        return "always false, on every pass of the row";
+    case ENDLESS_RUN_ALWAYS_TRUE:
+        return "always true, on every pass of the row";
+    case ENDLESS_RUN_CHANGES:
+        return "changes, true on one pass of the row and false on another";
+    default:
+        return endless_run_refusal_message(endless_run_number(answer));
+    }
 }
 
 #ifdef __cplusplus
