@@ -26,9 +26,8 @@
 
 #include <stdio.h>
 
-enum { LIMIT = 4095, PARTS = 6, CHANNELS = 2, MOST_ROWS = 8, NO_WITNESS = 65535 };
+enum { LIMIT = 4095, PARTS = 6, CHANNELS = 2, MOST_ROWS = 8 };
 enum { LOWER, AVERAGED, NOT_AVERAGED, UNTIL_LOWER, NEVER, WHOLE };
-enum { LESS = 1, EQUAL = 2, NOT = 3, UNTIL = 7, RELEASE = 8 };
 
 /* What the planner decides: rows of counts, some of them averaged. */
 struct row {
@@ -41,9 +40,10 @@ struct plan {
     struct row row[MOST_ROWS];
 };
 
+/* A rule, a plan or a mark table, of up to the largest sizes. */
 struct bytes {
     size_t len;
-    uint8_t at[512];
+    uint8_t at[ENDLESS_RUN_LONGEST_MARKS];
 };
 
 /* ---- Writing fields ---- */
@@ -69,15 +69,15 @@ static void put4(struct bytes *b, int32_t n)
 
 static void put_constant(struct bytes *b, int32_t number)
 {
-    put1(b, 0); /* form: a constant */
-    put1(b, 4); /* shift code: none */
+    put1(b, ENDLESS_RUN_FORM_CONSTANT);
+    put1(b, ENDLESS_RUN_NO_SHIFT);
     put4(b, number);
 }
 
 static void put_channel(struct bytes *b, int channel)
 {
-    put1(b, 1); /* form: a reading */
-    put1(b, 4); /* shift code: this row */
+    put1(b, ENDLESS_RUN_FORM_READING);
+    put1(b, ENDLESS_RUN_NO_SHIFT);
     put4(b, channel);
 }
 
@@ -91,7 +91,11 @@ static void put_names(struct bytes *b, unsigned first, unsigned second)
 
 static struct bytes make_rule(void)
 {
-    static const uint8_t kinds[PARTS] = { LESS, EQUAL, NOT, UNTIL, LESS, RELEASE };
+    static const uint8_t kinds[PARTS] = {
+        [LOWER] = ENDLESS_RUN_KIND_LESS,       [AVERAGED] = ENDLESS_RUN_KIND_EQUAL,
+        [NOT_AVERAGED] = ENDLESS_RUN_KIND_NOT, [UNTIL_LOWER] = ENDLESS_RUN_KIND_UNTIL,
+        [NEVER] = ENDLESS_RUN_KIND_LESS,       [WHOLE] = ENDLESS_RUN_KIND_RELEASE,
+    };
     struct bytes b = { 0, { 0 } };
     put2(&b, PARTS);
     put2(&b, CHANNELS);
@@ -159,7 +163,7 @@ static unsigned witness(int mark[PARTS][MOST_ROWS], const struct plan *plan, int
     for (int i = plan->start; i < plan->start + plan->cycle; i++)
         if (mark[part][i] == value)
             return (unsigned)i;
-    return NO_WITNESS;
+    return ENDLESS_RUN_NO_WITNESS;
 }
 
 static struct bytes make_marks(const struct plan *plan)
@@ -181,56 +185,24 @@ static struct bytes make_marks(const struct plan *plan)
         for (int i = 0; i < rows; i++)
             put1(&b, (unsigned)mark[part][i]);
     for (int part = 0; part < PARTS; part++)
-        put2(&b, part == UNTIL_LOWER && mark[part][rows - 1] ? witness(mark, plan, LOWER, 1)
-                 : part == WHOLE && !mark[part][rows - 1]    ? witness(mark, plan, UNTIL_LOWER, 0)
-                                                             : NO_WITNESS);
+        if (part == UNTIL_LOWER && mark[part][rows - 1] == 1)
+            put2(&b, witness(mark, plan, LOWER, 1));
+        else if (part == WHOLE && mark[part][rows - 1] == 0)
+            put2(&b, witness(mark, plan, UNTIL_LOWER, 0));
+        else
+            put2(&b, ENDLESS_RUN_NO_WITNESS);
     return b;
 }
 
 /* ---- Answers in words ---- */
 
-static const char *meaning(unsigned number)
-{
-    switch (number) {
-    case ENDLESS_RUN_RULE_SIZES:
-        return "the rule's sizes or length are wrong";
-    case ENDLESS_RUN_KIND:
-        return "a kind byte is unknown";
-    case ENDLESS_RUN_OPERAND:
-        return "an operand breaks the layout";
-    case ENDLESS_RUN_PLAN_SIZES:
-        return "the plan's sizes or length are wrong";
-    case ENDLESS_RUN_CHANNELS:
-        return "the plan and the rule differ in channels";
-    case ENDLESS_RUN_START_DRIFT:
-        return "a start row has a drift";
-    case ENDLESS_RUN_MARK_SIZES:
-        return "the mark table's sizes or length are wrong";
-    case ENDLESS_RUN_MARK_BYTE:
-        return "a mark byte is above 1";
-    case ENDLESS_RUN_EQUATION:
-        return "a mark is not what the plan and the other marks give";
-    case ENDLESS_RUN_CLOSING:
-        return "the part's truth on this row is not the same on all passes";
-    case ENDLESS_RUN_WITNESS:
-        return "a witness is not in order";
-    case ENDLESS_RUN_ABSENT:
-        return "there is no such comparison or row";
-    default:
-        return "unknown";
-    }
-}
-
 static void show(uint64_t answer)
 {
     if (endless_run_is_refusal(answer))
         printf("  refused %u, part %u, row %u: %s\n", endless_run_number(answer),
-               endless_run_part(answer), endless_run_row(answer),
-               meaning(endless_run_number(answer)));
+               endless_run_part(answer), endless_run_row(answer), endless_run_message(answer));
     else
-        printf("  accepted %d: the marks are right on every pass, and the rule %s\n",
-               endless_run_verdict(answer),
-               endless_run_verdict(answer) ? "holds" : "does not hold");
+        printf("  %s\n", endless_run_message(answer));
 }
 
 static uint64_t check(const struct bytes *rule, const struct bytes *plan, const struct bytes *marks)
@@ -285,8 +257,8 @@ int main(void)
     marks = make_marks(&rising);
     show(check(&rule, &plan, &marks));
     uint64_t judged = endless_run_judge(rule.at, rule.len, plan.at, plan.len, LOWER, 3);
-    if (judged == ENDLESS_RUN_CHANGES)
-        printf("  judged: count < %d on row 3 changes, as the count is %d on pass %d\n", LIMIT,
-               LIMIT, LIMIT - rising.row[3].count);
+    printf("  part %d judged on row 3: %s\n", LOWER, endless_run_judge_message(judged));
+    if (endless_run_finding(judged) == ENDLESS_RUN_CHANGES)
+        printf("  the count is %d on pass %d\n", LIMIT, LIMIT - rising.row[3].count);
     return 0;
 }
