@@ -62,8 +62,10 @@ static bool unpacks(uint64_t answer)
     uint64_t packed = number * ((uint64_t)1 << 32) + endless_run_part(answer) * 65536u +
                       endless_run_row(answer);
     if (endless_run_is_refusal(answer))
-        return number >= 1 && number <= 12 && packed == answer && endless_run_verdict(answer) == 0;
-    return packed == 0 && answer <= 2 && endless_run_verdict(answer) == (answer == 1);
+        return number >= 1 && number <= 12 && packed == answer &&
+               endless_run_verdict(answer) == 0 && endless_run_finding(answer) == -1;
+    return packed == 0 && answer <= 2 && endless_run_verdict(answer) == (answer == 1) &&
+           endless_run_finding(answer) == (int)answer;
 }
 
 static const char *fault_in_answer(struct asked asked, uint64_t second, uint64_t answer)

@@ -27,6 +27,7 @@ bool expect_judge(const char *name, const struct sheet *rule, const struct sheet
 void test_examples(void);
 void test_neighbours(void);
 void test_vectors(void);
+void test_header(void);
 void test_random(uint64_t seed, unsigned long cases);
 
 #endif

@@ -5,9 +5,9 @@
  *   random [SEED [CASES]]
  *
  * The worked examples, the neighbours of each refusal, worked vectors from the
- * papers, then random cases against the second evaluator. The same seed gives
- * the same cases. The last line is 'N passed, M failed'; the exit status is 0
- * only if M is 0.
+ * papers, the header's constants and functions, then random cases against the
+ * second evaluator. The same seed gives the same cases. The last line is 'N
+ * passed, M failed'; the exit status is 0 only if M is 0.
  */
 #include "expect.h"
 
@@ -29,6 +29,7 @@ int main(int argc, char **argv)
     run_group("worked examples", test_examples);
     run_group("neighbours of the refusals", test_neighbours);
     run_group("worked vectors", test_vectors);
+    run_group("header", test_header);
     test_random(seed, cases);
     printf("%lu passed, %lu failed\n", passed, failed);
     return failed == 0 ? 0 : 1;

@@ -1,0 +1,241 @@
+/*
+ * header.c: the constants of include/endless_run.h against what the library
+ * accepts, and the header's own functions.
+ */
+#include "expect.h"
+
+#include "../../include/endless_run.h"
+
+#include <string.h>
+
+static struct sheet rule, plan, marks;
+
+/* ---- Kinds, forms and witnesses ---- */
+
+/* Part 2 of a rule whose part 0 is x < 5 and whose part 1 is y = 7, on a plan of
+   five start rows and one cycle row. It closes whatever its kind, and no two
+   kinds have the same marks. */
+enum { PARTS = 3, CHANNELS = 2, START = 5, CYCLE = 1, ROWS = START + CYCLE, OPERATORS = 10 };
+static const int32_t x[ROWS] = { 9, 9, 1, 9, 1, 1 }, y[ROWS] = { 7, 0, 0, 7, 7, 0 };
+static const char *const less_marks = "001011", *const equal_marks = "100110";
+
+static const struct operator {
+    const char *name;
+    enum endless_run_kind kind;
+    bool names_two;
+    unsigned witness;
+    const char *marks;
+} operators[OPERATORS] = {
+    { "not", ENDLESS_RUN_KIND_NOT, false, ENDLESS_RUN_NO_WITNESS, "110100" },
+    { "and", ENDLESS_RUN_KIND_AND, true, ENDLESS_RUN_NO_WITNESS, "000010" },
+    { "or", ENDLESS_RUN_KIND_OR, true, ENDLESS_RUN_NO_WITNESS, "101111" },
+    { "X", ENDLESS_RUN_KIND_NEXT, false, ENDLESS_RUN_NO_WITNESS, "010111" },
+    { "U", ENDLESS_RUN_KIND_UNTIL, true, ENDLESS_RUN_NO_WITNESS, "101110" },
+    { "R", ENDLESS_RUN_KIND_RELEASE, true, 5, "000110" },
+    { "Y", ENDLESS_RUN_KIND_YESTERDAY, false, ENDLESS_RUN_NO_WITNESS, "000101" },
+    { "Z", ENDLESS_RUN_KIND_WEAK_YESTERDAY, false, ENDLESS_RUN_NO_WITNESS, "100101" },
+    { "S", ENDLESS_RUN_KIND_SINCE, true, ENDLESS_RUN_NO_WITNESS, "100111" },
+    { "T", ENDLESS_RUN_KIND_TRIGGER, true, ENDLESS_RUN_NO_WITNESS, "100010" },
+};
+
+static void put_term(uint8_t *at, enum endless_run_form form, int shift, int32_t number)
+{
+    at[0] = (uint8_t)form;
+    at[1] = (uint8_t)(ENDLESS_RUN_NO_SHIFT + shift);
+    put4(at + 2, number);
+}
+
+/* The comparison of a channel, read at a shift, with a constant. */
+static void put_comparison(int part, enum endless_run_kind kind, int channel, int shift,
+                           int32_t number)
+{
+    *kind_byte(&rule, part) = (uint8_t)kind;
+    put_term(operand_bytes(&rule, part), ENDLESS_RUN_FORM_READING, shift, channel);
+    put_term(operand_bytes(&rule, part) + 6, ENDLESS_RUN_FORM_CONSTANT, 0, number);
+}
+
+static void put_operator(const struct operator *o)
+{
+    start_rule(&rule, PARTS, CHANNELS);
+    put_comparison(0, ENDLESS_RUN_KIND_LESS, 0, 0, 5);
+    put_comparison(1, ENDLESS_RUN_KIND_EQUAL, 1, 0, 7);
+    *kind_byte(&rule, 2) = (uint8_t)o->kind;
+    memset(operand_bytes(&rule, 2), 0, 12);
+    if (o->names_two)
+        put2(operand_bytes(&rule, 2) + 2, 1);
+}
+
+static void put_readings(void)
+{
+    start_plan(&plan, CHANNELS, START, CYCLE);
+    for (int row = 0; row < ROWS; row++) {
+        write_reading(&plan, row, 0, x[row]);
+        write_reading(&plan, row, 1, y[row]);
+    }
+}
+
+static void put_marks(int part, const char *of_rows, unsigned witness)
+{
+    for (int row = 0; row < ROWS; row++)
+        *mark_byte(&marks, part, row) = of_rows[row] == '1';
+    put2(witness_bytes(&marks, part), witness);
+}
+
+/* Whatever the kind, its own marks are accepted and those of the others are not. */
+static void kinds(void)
+{
+    put_readings();
+    for (int k = 0; k < OPERATORS; k++) {
+        const struct operator *o = &operators[k];
+        put_operator(o);
+        start_marks(&marks, PARTS, ROWS);
+        put_marks(0, less_marks, ENDLESS_RUN_NO_WITNESS);
+        put_marks(1, equal_marks, ENDLESS_RUN_NO_WITNESS);
+        put_marks(2, o->marks, o->witness);
+        expect_check(o->name, &rule, &plan, &marks, o->marks[0] == '1');
+        put2(witness_bytes(&marks, 2), ENDLESS_RUN_NO_WITNESS - 1);
+        expect_check("65534 is no witness", &rule, &plan, &marks, refusal(11, 2, 0));
+        for (int other = 0; other < OPERATORS; other++) {
+            if (other == k)
+                continue;
+            put_marks(2, operators[other].marks, o->witness);
+            uint64_t answer =
+                endless_run_check(rule.at, rule.len, plan.at, plan.len, marks.at, marks.len);
+            expect("marks of another kind",
+                   endless_run_is_refusal(answer) && endless_run_part(answer) == 2);
+        }
+    }
+}
+
+/* ---- Shifts and findings ---- */
+
+/* x < 5 read one position back, judged on each row: before the run on row 0. */
+static void shifts(void)
+{
+    static const int shifted[ROWS] = { 0, 0, 0, 1, 0, 1 };
+    put_readings();
+    start_rule(&rule, 1, CHANNELS);
+    put_comparison(0, ENDLESS_RUN_KIND_LESS, 0, -1, 5);
+    for (int row = 0; row < ROWS; row++) {
+        uint64_t answer =
+            endless_run_judge(rule.at, rule.len, plan.at, plan.len, 0, (uint64_t)row);
+        expect("finding on a row", endless_run_finding(answer) == shifted[row]);
+    }
+    write_drift(&plan, ROWS - 1, 0, 1);
+    uint64_t changes = endless_run_judge(rule.at, rule.len, plan.at, plan.len, 0, ROWS - 1);
+    expect("finding: changes", endless_run_finding(changes) == ENDLESS_RUN_CHANGES);
+    uint64_t absent = endless_run_judge(rule.at, rule.len, plan.at, plan.len, 0, ROWS);
+    expect("finding: none in a refusal", endless_run_finding(absent) == -1 &&
+                                             endless_run_number(absent) == ENDLESS_RUN_ABSENT);
+    expect("finding: none in other numbers",
+           endless_run_finding(3) == -1 && endless_run_finding(UINT32_MAX) == -1 &&
+               endless_run_finding(UINT64_MAX) == -1);
+}
+
+/* ---- Sizes and lengths ---- */
+
+static void start_all(int parts, int channels, int rows)
+{
+    start_rule(&rule, parts, channels);
+    start_plan(&plan, channels, 0, rows);
+    start_marks(&marks, parts, rows);
+}
+
+/* All parts are "0 < 0" and all marks 0: the largest sizes are accepted, and
+   neither one more nor one byte more or less is. */
+static void largest(void)
+{
+    static const int parts = ENDLESS_RUN_MOST_PARTS, channels = ENDLESS_RUN_MOST_CHANNELS;
+    static const int rows = ENDLESS_RUN_MOST_ROWS;
+    start_all(parts, channels, rows);
+    expect("longest rule", rule.len == ENDLESS_RUN_LONGEST_RULE);
+    expect("longest plan", plan.len == ENDLESS_RUN_LONGEST_PLAN);
+    expect("longest marks", marks.len == ENDLESS_RUN_LONGEST_MARKS);
+    expect_check("largest sizes", &rule, &plan, &marks, 0);
+    start_all(parts + 1, channels, rows);
+    expect_check("one part more", &rule, &plan, &marks, refusal(1, 0, 0));
+    start_all(parts, channels + 1, rows);
+    expect_check("one channel more", &rule, &plan, &marks, refusal(1, 0, 0));
+    start_all(parts, channels, rows + 1);
+    expect_check("one row more", &rule, &plan, &marks, refusal(4, 0, 0));
+}
+
+static void length_off_by(int more)
+{
+    start_all(PARTS, CHANNELS, ROWS);
+    resize(&marks, ENDLESS_RUN_MARKS_LENGTH(PARTS, START + CYCLE) + (size_t)more);
+    expect_check("length of marks", &rule, &plan, &marks, more ? refusal(7, 0, 0) : 0);
+    resize(&plan, ENDLESS_RUN_PLAN_LENGTH(1 + 1, START + CYCLE) + (size_t)more);
+    expect_check("length of a plan", &rule, &plan, &marks, more ? refusal(4, 0, 0) : 0);
+    resize(&rule, ENDLESS_RUN_RULE_LENGTH(1 + 2) + (size_t)more);
+    expect_check("length of a rule", &rule, &plan, &marks, more ? refusal(1, 0, 0) : 0);
+}
+
+static void sizes(void)
+{
+    largest();
+    length_off_by(0);
+    length_off_by(1);
+    length_off_by(-1);
+}
+
+/* ---- Messages ---- */
+
+/* A word of each refusal's text. */
+static const char *const words[13] = {
+    "",           "rule's",    "kind",     "operand", "plan's",  "channels",   "start row",
+    "mark table", "mark byte", "equation", "passes",  "witness", "comparison",
+};
+
+static bool says(const char *text, const char *word)
+{
+    return text != NULL && strstr(text, word) != NULL;
+}
+
+static bool same_text(const char *a, const char *b)
+{
+    return a != NULL && b != NULL && strcmp(a, b) == 0;
+}
+
+/* Texts that tell apart what they are for. */
+static void messages(void)
+{
+    static const uint64_t no_answer[] = { 3, UINT32_MAX, (uint64_t)13 << 32, UINT64_MAX };
+    const char *texts[18];
+    int count = 0;
+    for (int number = 1; number <= 12; number++) {
+        const char *text = endless_run_message(refusal(number, 0, 0));
+        expect("message of a refusal", says(text, words[number]));
+        expect("message by the number alone",
+               same_text(text, endless_run_message(refusal(number, 63, 255))));
+        expect("judge's message of a refusal",
+               same_text(text, endless_run_judge_message(refusal(number, 63, 255))));
+        texts[count++] = text;
+    }
+    texts[count++] = endless_run_message(0);
+    texts[count++] = endless_run_message(1);
+    texts[count++] = endless_run_message(2); /* of judge alone */
+    for (uint64_t judged = 0; judged <= 2; judged++)
+        texts[count++] = endless_run_judge_message(judged);
+    expect("message: false", says(texts[12], "accepted") && says(texts[12], "false"));
+    expect("message: true", says(texts[13], "accepted") && says(texts[13], "true"));
+    expect("message: no answer", says(texts[14], "not an answer"));
+    expect("message: always false", says(texts[15], "always false"));
+    expect("message: always true", says(texts[16], "always true"));
+    expect("message: changes", says(texts[17], "changes"));
+    for (int i = 0; i < count; i++)
+        for (int k = 0; k < i; k++)
+            expect("two messages", texts[i] != NULL && !same_text(texts[i], texts[k]));
+    for (size_t i = 0; i < sizeof no_answer / sizeof no_answer[0]; i++)
+        expect("message of no answer",
+               same_text(texts[14], endless_run_message(no_answer[i])) &&
+                   same_text(texts[14], endless_run_judge_message(no_answer[i])));
+}
+
+void test_header(void)
+{
+    kinds();
+    shifts();
+    sizes();
+    messages();
+}
