@@ -124,12 +124,11 @@ enum endless_run_form {
 #define ENDLESS_RUN_MOST_ROWS 256
 
 /* The length in bytes, of type size_t, that a rule, a plan or a mark table has
-   by its sizes N, V and W. Constant where the sizes are. Each size is taken
-   once and is not held against its range. */
+   by its sizes N, V and W = P + C. A constant expression where the sizes are.
+   Each size is evaluated once, and is not held against its range. */
 #define ENDLESS_RUN_RULE_LENGTH(parts) (4 + 13 * (size_t)(parts))
 #define ENDLESS_RUN_PLAN_LENGTH(channels, rows) (6 + 8 * (size_t)(channels) * (size_t)(rows))
-#define ENDLESS_RUN_MARKS_LENGTH(parts, rows) \
-    (4 + (size_t)(parts) * (size_t)(rows) + 2 * (size_t)(parts))
+#define ENDLESS_RUN_MARKS_LENGTH(parts, rows) (4 + (size_t)(parts) * ((size_t)(rows) + 2))
 
 /* The largest lengths in bytes: 836, 16390 and 16516. A longer rule, plan or
    mark table is always refused. */
