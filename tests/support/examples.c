@@ -1,6 +1,7 @@
 /*
- * examples.c: the worked examples E1 to E11. E12 is about full sizes, and is
- * tried where sizes are (neighbours.c).
+ * examples.c: the worked examples E1 to E11, and the worked tables of
+ * docs/FORMATS.md in its order. E12 is about full sizes, and is tried where sizes
+ * are (neighbours.c).
  */
 #include "examples.h"
 
@@ -12,10 +13,14 @@
 #define NEXT_X "01 05 00 00 00 00 "
 #define YESTERDAY_X "01 03 00 00 00 00 "
 #define C_0 "00 04 00 00 00 00 "
+#define C_1 "00 04 01 00 00 00 "
 #define C_3 "00 04 03 00 00 00 "
+#define C_5 "00 04 05 00 00 00 "
 #define C_9 "00 04 09 00 00 00 "
 #define C_10 "00 04 0A 00 00 00 "
+#define C_20 "00 04 14 00 00 00 "
 #define C_25 "00 04 19 00 00 00 "
+#define C_31 "00 04 1F 00 00 00 "
 #define C_4093 "00 04 FD 0F 00 00 "
 #define C_4095 "00 04 FF 0F 00 00 "
 #define C_4096 "00 04 00 10 00 00 "
@@ -27,8 +32,17 @@
 #define NAMES_0_1 "00 00 01 00 00 00 00 00 00 00 00 00 "
 #define X_BELOW_25 ONE_PART "01 " X C_25
 #define Y_OF_IT "02 00 01 00 01 09 " X C_25 NAMES_0
+#define Z_OF_IT "02 00 01 00 01 0A " X C_25 NAMES_0
 #define X_OF_IT "02 00 01 00 01 06 " X C_25 NAMES_0
 #define IT_UNTIL_NOT_IT "03 00 01 00 01 03 07 " X C_25 NAMES_0 NAMES_0_1
+#define RULE_OF_3 "03 00 01 00 "
+#define BELOW_25_SINCE_10 RULE_OF_3 "01 02 0B " X C_25 X C_10 NAMES_0_1
+#define ABOVE_25_TRIGGER_ABOVE_10 RULE_OF_3 "01 01 0C " C_25 X C_10 X NAMES_0_1
+#define ABOVE_10_UNTIL_20 RULE_OF_3 "01 02 07 " C_10 X X C_20 NAMES_0_1
+#define BELOW_25_UNTIL_10 RULE_OF_3 "01 02 07 " X C_25 X C_10 NAMES_0_1
+#define BELOW_31_UNTIL_BELOW_5 RULE_OF_3 "01 01 07 " X C_31 X C_5 NAMES_0_1
+#define IS_10_RELEASE_BELOW_25 RULE_OF_3 "02 01 08 " X C_10 X C_25 NAMES_0_1
+#define ALWAYS_ABOVE_5 RULE_OF_3 "01 01 08 " C_1 C_0 C_5 X NAMES_0_1
 #define BELOW_9_UNTIL_BELOW_3 "03 00 01 00 01 01 07 " X C_9 X C_3 NAMES_0_1
 
 /* ---- Plans: V, P, C, readings, drifts ---- */
@@ -36,6 +50,10 @@
 #define PLAN_A                                                                                     \
     "01 00 01 00 02 00 0A 00 00 00 14 00 00 00 1E 00 00 00 "                                       \
     "00 00 00 00 00 00 00 00 00 00 00 00"
+#define PLAN_L                                                                                     \
+    "01 00 03 00 02 00 0A 00 00 00 14 00 00 00 1E 00 00 00 14 00 00 00 1E 00 00 00 "               \
+    "00 00 00 00 00 00 00 00 00 00 00 00 00 00 00 00 00 00 00 00"
+#define PLAN_M "01 00 00 00 02 00 14 00 00 00 1E 00 00 00 00 00 00 00 00 00 00 00"
 #define ONE_ROW "01 00 00 00 01 00 "
 #define PLAN_B ONE_ROW "FE 0F 00 00 01 00 00 00"
 #define FROM_0_BY_3 ONE_ROW "00 00 00 00 03 00 00 00"
@@ -43,6 +61,9 @@
 #define FROM_TOP_BY_1 ONE_ROW "FF FF FF 7F 01 00 00 00"
 
 #define REFUSED(number, part, row) ((uint64_t)(number) << 32 | (part) << 16 | (row))
+#define NONE "FF FF "
+#define NO_2 NONE NONE
+#define NO_3 NONE NONE NONE
 #define E10_MARKED_1 "03 00 01 00 01 00 01 FF FF FF FF "
 
 const struct example examples[] = {
@@ -78,6 +99,40 @@ const struct example examples[] = {
       "03 00 01 00 01 00 00 FF FF FF FF FF FF", 0, 0 },
     { "E11 x < 0", ONE_PART "01 " X C_0, FROM_TOP_BY_1, 0, 0, ALWAYS_FALSE },
     { "E11 checked", ONE_PART "01 " X C_0, FROM_TOP_BY_1, "01 00 01 00 00 FF FF", 0, 0 },
+
+    { "x < X x on A", ONE_PART "01 " X NEXT_X, PLAN_A, "01 00 03 00 01 01 00 " NONE, 0, 1 },
+    { "Y x < x on A", ONE_PART "01 " YESTERDAY_X X, PLAN_A, "01 00 03 00 00 01 01 " NONE, 0,
+      REFUSED(10, 0, 1) },
+    { "Y x < x on L", ONE_PART "01 " YESTERDAY_X X, PLAN_L, "01 00 05 00 00 01 01 00 01 " NONE, 0,
+      0 },
+    { "Y on L", Y_OF_IT, PLAN_L, "02 00 05 00 01 01 00 01 00 00 01 01 00 01 " NO_2, 0, 0 },
+    { "Y on M", Y_OF_IT, PLAN_M, "02 00 02 00 01 00 00 01 " NO_2, 0, 0 },
+    { "Z on A", Z_OF_IT, PLAN_A, "02 00 03 00 01 01 00 01 01 01 " NO_2, 0, REFUSED(10, 1, 1) },
+    { "Z on L", Z_OF_IT, PLAN_L, "02 00 05 00 01 01 00 01 00 01 01 01 00 01 " NO_2, 0, 1 },
+    { "Z on M", Z_OF_IT, PLAN_M, "02 00 02 00 01 00 01 01 " NO_2, 0, REFUSED(10, 1, 0) },
+    { "S on A", BELOW_25_SINCE_10, PLAN_A, "03 00 03 00 01 01 00 01 00 00 01 01 00 " NO_3, 0,
+      REFUSED(10, 2, 1) },
+    { "S on L", BELOW_25_SINCE_10, PLAN_L,
+      "03 00 05 00 01 01 00 01 00 01 00 00 00 00 01 01 00 00 00 " NO_3, 0, 1 },
+    { "T on A", ABOVE_25_TRIGGER_ABOVE_10, PLAN_A,
+      "03 00 03 00 00 00 01 00 01 01 00 00 01 " NO_3, 0, REFUSED(10, 2, 1) },
+    { "T on L", ABOVE_25_TRIGGER_ABOVE_10, PLAN_L,
+      "03 00 05 00 00 00 01 00 01 00 01 01 01 01 00 00 01 01 01 " NO_3, 0, 0 },
+    { "E4 marked 1 1 0", IT_UNTIL_NOT_IT, PLAN_A,
+      "03 00 03 00 01 01 00 00 00 01 01 01 00 " NO_3, 0, REFUSED(9, 2, 1) },
+    { "U over the end of the cycle", ABOVE_10_UNTIL_20, PLAN_A,
+      "03 00 03 00 00 01 01 00 01 00 00 01 01 " NO_2 "01 00", 0, 0 },
+    { "U on a start row", BELOW_25_UNTIL_10, PLAN_A,
+      "03 00 03 00 01 01 00 01 00 00 01 00 00 " NO_3, 0, 1 },
+    { "U never", BELOW_31_UNTIL_BELOW_5, PLAN_A, "03 00 03 00 01 01 01 00 00 00 00 00 00 " NO_3, 0,
+      0 },
+    { "U never, marked 1", BELOW_31_UNTIL_BELOW_5, PLAN_A,
+      "03 00 03 00 01 01 01 00 00 00 01 01 01 " NO_2 "01 00", 0, REFUSED(11, 2, 0) },
+    { "R with a witness", IS_10_RELEASE_BELOW_25, PLAN_A,
+      "03 00 03 00 01 00 00 01 01 00 01 00 00 " NO_2 "02 00", 0, 1 },
+    { "R always", ALWAYS_ABOVE_5, PLAN_A, "03 00 03 00 00 00 00 01 01 01 01 01 01 " NO_3, 0, 1 },
+    { "R always, marked 0", ALWAYS_ABOVE_5, PLAN_A,
+      "03 00 03 00 00 00 00 01 01 01 00 00 00 " NO_2 "01 00", 0, REFUSED(11, 2, 0) },
 };
 const size_t example_count = sizeof examples / sizeof examples[0];
 

@@ -1,5 +1,6 @@
 /*
- * examples.h: the worked examples E1 to E11 as bytes, questions and answers.
+ * examples.h: the worked examples E1 to E11 and the worked tables of
+ * docs/FORMATS.md as bytes, questions and answers.
  */
 #ifndef EXAMPLES_H
 #define EXAMPLES_H
