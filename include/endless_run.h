@@ -313,7 +313,7 @@ static inline const char *endless_run_refusal_message(unsigned number)
     case ENDLESS_RUN_PLAN_SIZES:
         return "the plan's sizes or its length are wrong";
     case ENDLESS_RUN_CHANNELS:
-        return "the plan has not as many channels as the rule";
+        return "the plan's number of channels is not the rule's";
     case ENDLESS_RUN_START_DRIFT:
         return "a start row of the plan has a drift";
     case ENDLESS_RUN_MARK_SIZES:

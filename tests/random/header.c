@@ -162,8 +162,9 @@ static void largest(void)
 
 static void length_off_by(int more)
 {
+    int rows = ROWS;
     start_all(PARTS, CHANNELS, ROWS);
-    resize(&marks, ENDLESS_RUN_MARKS_LENGTH(PARTS, START + CYCLE) + (size_t)more);
+    resize(&marks, ENDLESS_RUN_MARKS_LENGTH(1 + 2, rows > 0 ? rows : 1) + (size_t)more);
     expect_check("length of marks", &rule, &plan, &marks, more ? refusal(7, 0, 0) : 0);
     resize(&plan, ENDLESS_RUN_PLAN_LENGTH(1 + 1, START + CYCLE) + (size_t)more);
     expect_check("length of a plan", &rule, &plan, &marks, more ? refusal(4, 0, 0) : 0);
@@ -171,9 +172,23 @@ static void length_off_by(int more)
     expect_check("length of a rule", &rule, &plan, &marks, more ? refusal(1, 0, 0) : 0);
 }
 
+static void evaluated_once(void)
+{
+    int parts = PARTS, channels = CHANNELS, rows = ROWS;
+    size_t of_rule = ENDLESS_RUN_RULE_LENGTH(parts++);
+    size_t of_plan = ENDLESS_RUN_PLAN_LENGTH(channels++, rows++);
+    size_t of_marks = ENDLESS_RUN_MARKS_LENGTH(parts++, rows++);
+    expect("each size of a length is evaluated once",
+           parts == PARTS + 2 && channels == CHANNELS + 1 && rows == ROWS + 2);
+    expect("lengths of sizes counted up", of_rule == ENDLESS_RUN_RULE_LENGTH(PARTS) &&
+                                       of_plan == ENDLESS_RUN_PLAN_LENGTH(CHANNELS, ROWS) &&
+                                       of_marks == ENDLESS_RUN_MARKS_LENGTH(PARTS + 1, ROWS + 1));
+}
+
 static void sizes(void)
 {
     largest();
+    evaluated_once();
     length_off_by(0);
     length_off_by(1);
     length_off_by(-1);
