@@ -1,8 +1,9 @@
--- An answer as one number of 64 bits. Assumes nothing.
-use Prim.Native.Nat.{ℕ, _+_, _*_}
+-- An answer as one number of 64 bits, and a number taken apart. Assumes nothing.
+use Prim.Native.Nat.{ℕ, _+_, _*_, _/_, _%_}
 use mathlib.Core.Bool.{Bool, true, false}
 use Rattle.refusal.specs.declared.Refusal.{Refusal}
-use Rattle.refusal.specs.Report.{reportOf}
+use Rattle.refusal.specs.declared.Report.{Report}
+use Rattle.refusal.specs.Report.{report, reportOf}
 use Rattle.judge.specs.declared.Verdict.{Verdict}
 use Rattle.judge.specs.declared.Verdict.the-variants.{AlwaysTrue, AlwaysFalse, Changes}
 use Rattle.judge.specs.declared.Judged.{Judged}
@@ -13,6 +14,10 @@ use Rattle.acceptance.specs.declared.Checked.the-variants as C
 -- refused: number × 2^32 + part × 2^16 + row
 unfoldable pub refusalWord : Refusal → ℕ
 refusalWord r = reportOf r .number * 4294967296 + reportOf r .part * 65536 + reportOf r .row
+
+-- taken apart as C does: the number, and the lowest four bytes as part and row
+unfoldable pub unpacked : ℕ → Report
+unpacked word = report (word / 4294967296) (word / 65536 % 65536) (word % 65536)
 
 -- accepted: the verdict, 0 or 1
 abbrev pub verdictBit : Bool → ℕ

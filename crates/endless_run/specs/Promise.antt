@@ -10,10 +10,14 @@ use Rattle.rule.specs.Take.{partsOf}
 use Rattle.plan.specs.Layout.{startRows, cycleRows}
 use Rattle.plan.specs.Positions.{rowOf}
 use Rattle.plan.specs.Run.{runOf}
+use Rattle.refusal.specs.declared.Refusal.{Refusal}
+use Rattle.refusal.specs.Report.{report, reportOf}
+use Rattle.judge.specs.declared.Judged.the-variants as J
 use Rattle.judge.specs.Judge.{judgeOf}
+use Rattle.acceptance.specs.declared.Checked.the-variants as C
 use Rattle.acceptance.specs.Check.{checkOf}
-use Rattle.acceptance.specs.Promise.{Cleared, RuleTruth, TableRight}
-use Rattle.endless_run.specs.Packing.{checkWord, judgeWord}
+use Rattle.acceptance.specs.Promise.{Cleared, RuleTruth, TableRight, EquationMeans, ClosingMeans, WitnessMeans}
+use Rattle.endless_run.specs.Packing.{unpacked, checkWord, judgeWord}
 
 -- endless_run_check
 pub record CheckWordPromise (rule plan table : List ℕ) (word : ℕ) : Type 0 where
@@ -22,6 +26,12 @@ pub record CheckWordPromise (rule plan table : List ℕ) (word : ℕ) : Type 0 w
   pub accepts : Cleared rule plan table → (word < 2) ↔ TableRight rule plan table
   -- 1 where the whole rule holds at position 0, 0 where it does not
   pub holds : word < 2 → (word ≡ 1) ↔ RuleTruth rule plan (partCount rule - 1) 0
+  -- a refusal, taken apart, is the document's number, part and row
+  pub reports : (r : Refusal) → checkOf rule plan table ≡ C.Refused r → unpacked word ≡ reportOf r
+  -- what 9, 10 and 11 of part i say of the published truth
+  pub equation : (i row : ℕ) → unpacked word ≡ report 9 i row → EquationMeans rule plan table i row
+  pub closing : (i row : ℕ) → unpacked word ≡ report 10 i row → ClosingMeans rule plan table i row
+  pub witness : (i : ℕ) → unpacked word ≡ report 11 i 0 → WitnessMeans rule plan table i
 
 -- endless_run_judge: of the published truth of the part at every position that lies on the row, that is, on every pass
 pub record JudgeWordPromise (rule plan : List ℕ) (part row word : ℕ) : Type 0 where
@@ -30,3 +40,5 @@ pub record JudgeWordPromise (rule plan : List ℕ) (part row word : ℕ) : Type 
   pub alwaysTrue : word < 3 → (word ≡ 1) ↔ ((t : ℕ) → rowOf (startRows plan) (cycleRows plan) t ≡ row → Holds (runOf plan) (formulaOf (partsOf rule) part) t)
   pub changes : word < 3 → (word ≡ 2) ↔ (((t : ℕ) × (rowOf (startRows plan) (cycleRows plan) t ≡ row) × Holds (runOf plan) (formulaOf (partsOf rule) part) t)
       × ((t : ℕ) × (rowOf (startRows plan) (cycleRows plan) t ≡ row) × (¬ Holds (runOf plan) (formulaOf (partsOf rule) part) t)))
+  -- a refusal, taken apart, is the document's number, part and row
+  pub reports : (r : Refusal) → judgeOf rule plan part row ≡ J.Refused r → unpacked word ≡ reportOf r

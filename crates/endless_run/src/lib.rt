@@ -2,12 +2,13 @@
 ghost use mathlib.Core.Path.{_≡_};
 ghost use Prim.Native.Nat.{_<_};
 ghost use Rattle.refusal.specs.Report.{reportOf};
-ghost use Rattle.endless_run.specs.Packing.{refusalWord, verdictWord};
+ghost use Rattle.endless_run.specs.Packing.{refusalWord, unpacked, verdictWord};
 ghost use Rattle.endless_run.specs.Promise.{CheckWordPromise, JudgeWordPromise};
 use acceptance::Checked;
 use judge::Judged;
 use judge::Verdict;
 use refusal::Refusal;
+use refusal::Report;
 
 // A refusal as one number: number × 2^32 + part × 2^16 + row.
 fn refusal_word(refusal: Refusal) -> u64
@@ -19,6 +20,17 @@ fn refusal_word(refusal: Refusal) -> u64
     let part = report.part;
     let row = report.row;
     (number as u64) * 4294967296 + (part as u64) * 65536 + (row as u64)
+}
+
+// The number, part and row of a refusal that was returned as one number, for programs in Rattle: taken apart as the header does.
+pub fn report_in(word: u64) -> Report
+    ensures { λ r. ⌜ r ≡ unpacked word ⌝ }
+{
+    Report {
+        number: (word / 4294967296) as usize,
+        part: (word / 65536 % 65536) as usize,
+        row: (word % 65536) as usize,
+    }
 }
 
 fn verdict_word(verdict: Verdict) -> u64
