@@ -33,7 +33,7 @@ use Rattle.plan.specs.Layout as plan
 use Rattle.marks.specs.Layout as marks
 use Rattle.acceptance.specs.declared.Checked.the-variants as C
 use Rattle.acceptance.specs.Promise.{Cleared}
-use Rattle.worked_examples.specs.Questions.{All}
+use Rattle.worked_examples.specs.Rows.{All}
 use Rattle.worked_examples.specs.Table.{ruleE10, planE10, marksE10-1, examples}
 use Rattle.worked_examples.proofs.Said.{Right}
 use Rattle.worked_examples.proofs.Unwitnessed.{unwitnessed}

@@ -11,7 +11,8 @@ use Rattle.acceptance.specs.declared.Checked.the-variants as C
 use Rattle.acceptance.specs.Check.{checkOf}
 use Rattle.acceptance.specs.Promise.{Cleared, CheckPromise}
 use Rattle.acceptance.proofs.Promised.{check-promise}
-use Rattle.worked_examples.specs.Questions.{Question, checks, judges, CheckedMeans, JudgedMeans, Says, All}
+use Rattle.worked_examples.specs.Questions.{Question, checks, judges, CheckedMeans, JudgedMeans, Says}
+use Rattle.worked_examples.specs.Rows.{All}
 
 -- The answer is the one that the definition gives: the check's on bytes that clear refusals 1 to 8, and judge's a verdict.
 unfoldable pub Right : Question → Type 0

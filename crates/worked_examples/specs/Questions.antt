@@ -1,6 +1,6 @@
 -- A question put to the check or to judge, with its answer, and what the answer says of the published truth. Assumes nothing.
-use Prim.Native.Nat.{ℕ, zero, suc, _-_}
-use mathlib.Core.List.{List, [], _∷_}
+use Prim.Native.Nat.{ℕ, _-_}
+use mathlib.Core.List.{List}
 use mathlib.Core.Logic.{_↔_}
 use lib.Dec.{T}
 use Rattle.cltlb.specs.Truth.{Holds}
@@ -49,12 +49,3 @@ pub record JudgeSaid (rule plan : List ℕ) (part row : ℕ) (answer : Judged) :
 unfoldable pub Says : Question → Type 0
 Says (checks rule plan marks answer) = CheckSaid rule plan marks answer
 Says (judges rule plan part row answer) = JudgeSaid rule plan part row answer
-
--- a statement about every question of a list
-unfoldable pub All : (Question → Type 0) → List Question → Type 0
-All P [] = Unit {0}
-All P (q ∷ qs) = P q × All P qs
-
-unfoldable pub number : List Question → ℕ
-number [] = zero
-number (q ∷ qs) = suc (number qs)

@@ -1,13 +1,15 @@
-// The worked examples E1 to E10: specs/ has their bytes and answers as one table and what each row says, proofs/ the one
-// statement that all of them hold.
+// The worked examples: specs/ has their bytes and answers as tables and what each row says; that every row holds is what the
+// two functions here promise.
 ghost use Prim.Native.Nat.{ℕ};
 ghost use mathlib.Core.Path.{_≡_};
-ghost use Rattle.worked_examples.specs.Questions.{number};
+ghost use lib.ListN.{length};
+ghost use Rattle.worked_examples.specs.Rows.{All};
+ghost use Rattle.worked_examples.specs.Questions.{Says};
 ghost use Rattle.worked_examples.specs.Table.{examples};
 
-// How many rows the table has, whatever E10's witness.
+// E1 to E10: how many rows the table has, and every row says a fact of the published truth, whatever E10's witness.
 pub fn count() -> usize
-    ensures { λ r. ⌜ ((lo hi : ℕ) → r ≡ number (examples lo hi)) ⌝ }
+    ensures { λ r. ⌜ ((lo hi : ℕ) → (r ≡ length (examples lo hi)) × All Says (examples lo hi)) ⌝ }
 {
     15
 }
