@@ -1,3 +1,11 @@
 pub mod Rows
 pub mod Questions
 pub mod Table
+pub mod Calls
+pub mod MoreSheets
+pub mod MorePlans
+pub mod MoreMarks
+pub mod SheetsRead
+pub mod PlansRead
+pub mod InBytes
+pub mod More

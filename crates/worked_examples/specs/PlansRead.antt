@@ -1,0 +1,65 @@
+-- What the plans of the examples read as: their sizes, and their runs at some positions. Assumes nothing.
+use Prim.Native.Nat.{ℕ, zero, suc}
+use mathlib.Core.Path.{_≡_}
+use mathlib.Core.List.{List, [], _∷_}
+use lib.IntN.{ℤ, pos, negℤ}
+use Rattle.cltlb.specs.Run.{Seen, number, beforeRun}
+use Rattle.plan.specs.Layout.{channels, startRows, cycleRows}
+use Rattle.plan.specs.Run.{runOf}
+use Rattle.worked_examples.specs.Table.{planA, planB, planE9, planE10}
+use Rattle.worked_examples.specs.MorePlans.{planThree, planStartDrift, planNoCycle}
+
+-- a plan with its V, P and C
+pub data PlanRow : Type 0 where
+  sized : (plan : List ℕ) (v p c : ℕ) → PlanRow
+
+unfoldable pub SizedAs : PlanRow → Type 0
+SizedAs (sized plan v p c) = (channels plan ≡ v) × (startRows plan ≡ p) × (cycleRows plan ≡ c)
+
+unfoldable pub plans : List PlanRow
+plans =
+    sized planA 1 1 2
+    ∷ sized planB 1 0 1
+    ∷ sized planE9 1 0 1
+    ∷ sized planE10 1 0 1
+    ∷ sized planThree 3 2 3
+    ∷ sized planStartDrift 1 2 1
+    ∷ sized planNoCycle 1 1 0
+    ∷ []
+
+-- what is seen of n channels from channel k on, at a position
+unfoldable pub seenFrom : List ℕ → ℤ → ℕ → ℕ → List Seen
+seenFrom plan position k zero = []
+seenFrom plan position k (suc n) = runOf plan k position ∷ seenFrom plan position (suc k) n
+
+-- a plan's run at a position: what is seen of each channel there, in the order of the channels
+pub data Sight : Type 0 where
+  sees : (plan : List ℕ) (position : ℤ) (seen : List Seen) → Sight
+
+unfoldable pub SeesAs : Sight → Type 0
+SeesAs (sees plan position seen) = seenFrom plan position 0 (channels plan) ≡ seen
+
+-- planThree: before the run, the start rows, the cycle rows on passes 0 and 1, and two of them on pass 2.
+unfoldable pub sights : List Sight
+sights =
+    sees planA (pos 0) (number (pos 10) ∷ [])
+    ∷ sees planA (pos 1) (number (pos 20) ∷ [])
+    ∷ sees planA (pos 2) (number (pos 30) ∷ [])
+    ∷ sees planA (pos 3) (number (pos 20) ∷ [])
+    ∷ sees planB (pos 0) (number (pos 4094) ∷ [])
+    ∷ sees planB (pos 2) (number (pos 4096) ∷ [])
+    ∷ sees planE9 (pos 3) (number (pos 9) ∷ [])
+    ∷ sees planE10 (pos 7) (number (pos 5) ∷ [])
+    ∷ sees planThree (negℤ (pos 4)) (beforeRun ∷ beforeRun ∷ beforeRun ∷ [])
+    ∷ sees planThree (negℤ (pos 1)) (beforeRun ∷ beforeRun ∷ beforeRun ∷ [])
+    ∷ sees planThree (pos 0) (number (negℤ (pos 2)) ∷ number (negℤ (pos 1)) ∷ number (negℤ (pos 3)) ∷ [])
+    ∷ sees planThree (pos 1) (number (pos 7) ∷ number (negℤ (pos 7)) ∷ number (pos 6) ∷ [])
+    ∷ sees planThree (pos 2) (number (negℤ (pos 70000)) ∷ number (negℤ (pos 1)) ∷ number (negℤ (pos 4)) ∷ [])
+    ∷ sees planThree (pos 3) (number (pos 300) ∷ number (pos 299) ∷ number (negℤ (pos 3)) ∷ [])
+    ∷ sees planThree (pos 4) (number (pos 2) ∷ number (pos 3) ∷ number (pos 10) ∷ [])
+    ∷ sees planThree (pos 5) (number (negℤ (pos 70256)) ∷ number (negℤ (pos 257)) ∷ number (negℤ (pos 9)) ∷ [])
+    ∷ sees planThree (pos 6) (number (pos 301) ∷ number (pos 299) ∷ number (negℤ (pos 3)) ∷ [])
+    ∷ sees planThree (pos 7) (number (pos 102) ∷ number (pos 103) ∷ number (pos 12) ∷ [])
+    ∷ sees planThree (pos 8) (number (negℤ (pos 70512)) ∷ number (negℤ (pos 513)) ∷ number (negℤ (pos 14)) ∷ [])
+    ∷ sees planThree (pos 10) (number (pos 202) ∷ number (pos 203) ∷ number (pos 14) ∷ [])
+    ∷ []

@@ -1,0 +1,76 @@
+-- What the rule sheets of the examples read as: V, and the parts. Assumes nothing.
+use Prim.Native.Nat.{ℕ, zero, suc}
+use mathlib.Core.Path.{_≡_}
+use mathlib.Core.List.{List, [], _∷_}
+use lib.IntN.{pos, negℤ}
+use Rattle.cltlb.specs.declared.Term.{Term}
+use Rattle.cltlb.specs.declared.Term.the-variants.{Constant, Reading}
+use Rattle.cltlb.specs.declared.Part.{Part}
+use Rattle.cltlb.specs.declared.Part.the-variants.{Less, Equal, Not, And, Or, Next, Until, Release, Yesterday, WeakYesterday, Since, Trigger}
+use Rattle.rule.specs.Layout.{partCount, channelCount}
+use Rattle.rule.specs.Take.{partsOf}
+use Rattle.worked_examples.specs.Table.{ruleE1, ruleE2, ruleE3, ruleE4, ruleE5, ruleE6-4096, ruleE6-4093, ruleE7, ruleE8, ruleE9-10, ruleE9-9, ruleE9-0, ruleE10}
+use Rattle.worked_examples.specs.MoreSheets.{ruleKinds, ruleRelease, rulePast, ruleLimit, ruleMet, ruleReach}
+
+-- the n parts of a sheet from part k on
+unfoldable pub partsFrom : List ℕ → ℕ → ℕ → List Part
+partsFrom sheet k zero = []
+partsFrom sheet k (suc n) = partsOf sheet k ∷ partsFrom sheet (suc k) n
+
+-- all parts of a sheet, in their order
+unfoldable pub allParts : List ℕ → List Part
+allParts sheet = partsFrom sheet 0 (partCount sheet)
+
+-- a sheet with its V and its parts
+pub data SheetRow : Type 0 where
+  reads : (sheet : List ℕ) (channels : ℕ) (parts : List Part) → SheetRow
+
+unfoldable pub ReadsAs : SheetRow → Type 0
+ReadsAs (reads sheet channels parts) = (channelCount sheet ≡ channels) × (allParts sheet ≡ parts)
+
+-- the readings of channels 0, 1 and 2 at the present position
+abbrev pub x : Term
+x = Reading 0 (pos 0)
+
+abbrev pub y : Term
+y = Reading 1 (pos 0)
+
+abbrev pub z : Term
+z = Reading 2 (pos 0)
+
+-- E1 to E10, then the sheets of more examples.
+unfoldable pub sheets : List SheetRow
+sheets =
+    reads ruleE1 1 (Less x (Constant (pos 25)) ∷ [])
+    ∷ reads ruleE2 1 (Less x (Constant (pos 25)) ∷ Yesterday 0 ∷ [])
+    ∷ reads ruleE3 1 (Less x (Constant (pos 25)) ∷ Next 0 ∷ [])
+    ∷ reads ruleE4 1 (Less x (Constant (pos 25)) ∷ Not 0 ∷ Until 0 1 ∷ [])
+    ∷ reads ruleE5 1 (Less x (Constant (pos 4095)) ∷ [])
+    ∷ reads ruleE6-4096 1 (Equal x (Constant (pos 4096)) ∷ [])
+    ∷ reads ruleE6-4093 1 (Equal x (Constant (pos 4093)) ∷ [])
+    ∷ reads ruleE7 1 (Less x (Reading 0 (pos 1)) ∷ [])
+    ∷ reads ruleE8 1 (Less (Reading 0 (negℤ (pos 1))) x ∷ [])
+    ∷ reads ruleE9-10 1 (Equal x (Constant (pos 10)) ∷ [])
+    ∷ reads ruleE9-9 1 (Equal x (Constant (pos 9)) ∷ [])
+    ∷ reads ruleE9-0 1 (Equal x (Constant (pos 0)) ∷ [])
+    ∷ reads ruleE10 1 (Less x (Constant (pos 9)) ∷ Less x (Constant (pos 3)) ∷ Until 0 1 ∷ [])
+    ∷ reads ruleKinds 3
+      (Less x y
+      ∷ Equal (Reading 2 (negℤ (pos 1))) (Constant (negℤ (pos 3)))
+      ∷ Not 0
+      ∷ And 0 1
+      ∷ Or 0 1
+      ∷ Next 0
+      ∷ Until 4 2
+      ∷ Release 4 2
+      ∷ Yesterday 1
+      ∷ WeakYesterday 1
+      ∷ Since 0 1
+      ∷ Trigger 0 1
+      ∷ [])
+    ∷ reads ruleRelease 1 (Less x (Constant (pos 9)) ∷ Less x (Constant (pos 3)) ∷ Release 1 0 ∷ [])
+    ∷ reads rulePast 3 (Less x y ∷ Yesterday 0 ∷ [])
+    ∷ reads ruleLimit 3 (Less x y ∷ Less x (Constant (pos 301)) ∷ [])
+    ∷ reads ruleMet 3 (Equal x (Constant (negℤ (pos 70512))) ∷ [])
+    ∷ reads ruleReach 1 (Less (Reading 0 (negℤ (pos 4))) (Reading 0 (pos 4)) ∷ [])
+    ∷ []
