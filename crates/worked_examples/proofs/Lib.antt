@@ -5,3 +5,6 @@ pub mod Examples
 pub mod Counted
 pub mod EveryRow
 pub mod Words
+pub mod Readings
+pub mod Bytes
+pub mod More

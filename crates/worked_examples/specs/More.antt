@@ -20,46 +20,46 @@ more =
     checks ruleKinds planThree marksKinds 0
     -- R with its dual cases: marked 1, a false 0, and a witness that is not needed
     ∷ checks ruleRelease planE10 marksRelease-1 1
-    ∷ checks ruleRelease planE10 marksRelease-0 47244771328 -- 11, 2, 0
-    ∷ checks ruleRelease planE10 marksRelease-spare 47244771328 -- 11, 2, 0
+    ∷ checks ruleRelease planE10 marksRelease-0 47244771328  -- 11, 2, 0
+    ∷ checks ruleRelease planE10 marksRelease-spare 47244771328  -- 11, 2, 0
     -- 1, in front of all others
-    ∷ checks [] [] [] 4294967296 -- 1, 0, 0
-    ∷ checks ruleNoParts planA marksE1 4294967296 -- 1, 0, 0
-    ∷ checks ruleNineChannels planA marksE1 4294967296 -- 1, 0, 0
+    ∷ checks [] [] [] 4294967296  -- 1, 0, 0
+    ∷ checks ruleNoParts planA marksE1 4294967296  -- 1, 0, 0
+    ∷ checks ruleNineChannels planA marksE1 4294967296  -- 1, 0, 0
     -- 2, in front of 3
-    ∷ checks ruleKind0 planA marksE1 8589934592 -- 2, 0, 0
-    ∷ checks ruleKind13 planA marksE1 8590000128 -- 2, 1, 0
+    ∷ checks ruleKind0 planA marksE1 8589934592  -- 2, 0, 0
+    ∷ checks ruleKind13 planA marksE1 8590000128  -- 2, 1, 0
     -- 3
-    ∷ checks ruleShiftedConstant planA marksE1 12884901888 -- 3, 0, 0
-    ∷ checks ruleShiftCode9 planA marksE1 12884901888 -- 3, 0, 0
-    ∷ checks ruleForm2 planA marksE1 12884901888 -- 3, 0, 0
-    ∷ checks ruleChannel1 planA marksE1 12884901888 -- 3, 0, 0
-    ∷ checks ruleNamesItself planA marksE1 12884967424 -- 3, 1, 0
-    ∷ checks ruleSpareByte planA marksE1 12884967424 -- 3, 1, 0
+    ∷ checks ruleShiftedConstant planA marksE1 12884901888  -- 3, 0, 0
+    ∷ checks ruleShiftCode9 planA marksE1 12884901888  -- 3, 0, 0
+    ∷ checks ruleForm2 planA marksE1 12884901888  -- 3, 0, 0
+    ∷ checks ruleChannel1 planA marksE1 12884901888  -- 3, 0, 0
+    ∷ checks ruleNamesItself planA marksE1 12884967424  -- 3, 1, 0
+    ∷ checks ruleSpareByte planA marksE1 12884967424  -- 3, 1, 0
     -- 4
-    ∷ checks ruleE1 [] [] 17179869184 -- 4, 0, 0
-    ∷ checks ruleE1 planNoCycle marksE1 17179869184 -- 4, 0, 0
+    ∷ checks ruleE1 [] [] 17179869184  -- 4, 0, 0
+    ∷ checks ruleE1 planNoCycle marksE1 17179869184  -- 4, 0, 0
     -- 5, in front of 6
-    ∷ checks ruleE1 planThree marksE1 21474836480 -- 5, 0, 0
-    ∷ checks rulePast planStartDrift marksE1 21474836480 -- 5, 0, 0
+    ∷ checks ruleE1 planThree marksE1 21474836480  -- 5, 0, 0
+    ∷ checks rulePast planStartDrift marksE1 21474836480  -- 5, 0, 0
     -- 6
-    ∷ checks ruleE1 planStartDrift [] 25769803777 -- 6, 0, 1
+    ∷ checks ruleE1 planStartDrift [] 25769803777  -- 6, 0, 1
     -- 7
-    ∷ checks ruleE1 planA [] 30064771072 -- 7, 0, 0
-    ∷ checks ruleE2 planA marksE1 30064771072 -- 7, 0, 0
+    ∷ checks ruleE1 planA [] 30064771072  -- 7, 0, 0
+    ∷ checks ruleE2 planA marksE1 30064771072  -- 7, 0, 0
     -- 8
-    ∷ checks ruleE2 planA marksByte2 34359803906 -- 8, 1, 2
+    ∷ checks ruleE2 planA marksByte2 34359803906  -- 8, 1, 2
     -- 9
-    ∷ checks ruleE4 planA marksBroken 38654836737 -- 9, 2, 1
+    ∷ checks ruleE4 planA marksBroken 38654836737  -- 9, 2, 1
     -- 10
-    ∷ checks rulePast planThree marksPast 42949738498 -- 10, 1, 2
-    ∷ checks ruleLimit planThree marksLimit 42949738499 -- 10, 1, 3
+    ∷ checks rulePast planThree marksPast 42949738498  -- 10, 1, 2
+    ∷ checks ruleLimit planThree marksLimit 42949738499  -- 10, 1, 3
     -- 11
-    ∷ checks ruleE4 planA marksSpare 47244705792 -- 11, 1, 0
+    ∷ checks ruleE4 planA marksSpare 47244705792  -- 11, 1, 0
     -- order
-    ∷ checks ruleLimit planThree marksLimitBroken 38654771204 -- 9, 1, 4
-    ∷ checks ruleLimit planThree marksLimitSpare 42949738499 -- 10, 1, 3
-    ∷ checks ruleE4 planA marksSpareBroken 47244705792 -- 11, 1, 0
+    ∷ checks ruleLimit planThree marksLimitBroken 38654771204  -- 9, 1, 4
+    ∷ checks ruleLimit planThree marksLimitSpare 42949738499  -- 10, 1, 3
+    ∷ checks ruleE4 planA marksSpareBroken 47244705792  -- 11, 1, 0
     -- judge
     ∷ judges ruleE1 planA 0 2 0
     ∷ judges ruleE1 planA 0 1 1
@@ -71,10 +71,10 @@ more =
     ∷ judges ruleLimit planThree 1 3 2
     ∷ judges ruleMet planThree 0 2 2
     -- judge: 12
-    ∷ judges ruleE1 planA 1 0 51539607552 -- 12, 0, 0
-    ∷ judges ruleE1 planA 0 3 51539607552 -- 12, 0, 0
-    ∷ judges ruleE2 planA 1 0 51539607552 -- 12, 0, 0
-    ∷ judges ruleE1 planStartDrift 9 9 25769803777 -- 6, 0, 1
+    ∷ judges ruleE1 planA 1 0 51539607552  -- 12, 0, 0
+    ∷ judges ruleE1 planA 0 3 51539607552  -- 12, 0, 0
+    ∷ judges ruleE2 planA 1 0 51539607552  -- 12, 0, 0
+    ∷ judges ruleE1 planStartDrift 9 9 25769803777  -- 6, 0, 1
     ∷ []
 
 -- What is said of the examples beyond `Says`.

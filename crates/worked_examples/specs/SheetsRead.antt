@@ -55,19 +55,19 @@ sheets =
     ∷ reads ruleE9-0 1 (Equal x (Constant (pos 0)) ∷ [])
     ∷ reads ruleE10 1 (Less x (Constant (pos 9)) ∷ Less x (Constant (pos 3)) ∷ Until 0 1 ∷ [])
     ∷ reads ruleKinds 3
-      (Less x y
-      ∷ Equal (Reading 2 (negℤ (pos 1))) (Constant (negℤ (pos 3)))
-      ∷ Not 0
-      ∷ And 0 1
-      ∷ Or 0 1
-      ∷ Next 0
-      ∷ Until 4 2
-      ∷ Release 4 2
-      ∷ Yesterday 1
-      ∷ WeakYesterday 1
-      ∷ Since 0 1
-      ∷ Trigger 0 1
-      ∷ [])
+    (Less x y
+    ∷ Equal (Reading 2 (negℤ (pos 1))) (Constant (negℤ (pos 3)))
+    ∷ Not 0
+    ∷ And 0 1
+    ∷ Or 0 1
+    ∷ Next 0
+    ∷ Until 4 2
+    ∷ Release 4 2
+    ∷ Yesterday 1
+    ∷ WeakYesterday 1
+    ∷ Since 0 1
+    ∷ Trigger 0 1
+    ∷ [])
     ∷ reads ruleRelease 1 (Less x (Constant (pos 9)) ∷ Less x (Constant (pos 3)) ∷ Release 1 0 ∷ [])
     ∷ reads rulePast 3 (Less x y ∷ Yesterday 0 ∷ [])
     ∷ reads ruleLimit 3 (Less x y ∷ Less x (Constant (pos 301)) ∷ [])

@@ -1,0 +1,17 @@
+-- MORE EXAMPLES: all that is said of them. Assumes nothing.
+use Rattle.worked_examples.specs.More.{MoreSaid}
+use Rattle.worked_examples.proofs.Words.{words}
+use Rattle.worked_examples.proofs.Readings.{sheets-read, plans-read, sights-seen}
+use Rattle.worked_examples.proofs.Bytes.{asked-bytes, called-bytes, within, beyond}
+
+pub more-said : MoreSaid
+more-said = record {
+  words = words;
+  sheets-read = sheets-read;
+  plans-read = plans-read;
+  runs = sights-seen;
+  called-bytes = called-bytes;
+  asked-bytes = asked-bytes;
+  within = within;
+  beyond = beyond;
+}
