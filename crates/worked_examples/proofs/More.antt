@@ -2,7 +2,7 @@
 use Rattle.worked_examples.specs.More.{MoreSaid}
 use Rattle.worked_examples.proofs.Words.{words}
 use Rattle.worked_examples.proofs.Readings.{sheets-read, plans-read, sights-seen}
-use Rattle.worked_examples.proofs.Bytes.{asked-bytes, called-bytes, within, beyond}
+use Rattle.worked_examples.proofs.Bytes.{example-bytes, more-bytes, within, beyond}
 
 pub more-said : MoreSaid
 more-said = record {
@@ -10,8 +10,8 @@ more-said = record {
   sheets-read = sheets-read;
   plans-read = plans-read;
   runs = sights-seen;
-  called-bytes = called-bytes;
-  asked-bytes = asked-bytes;
+  example-bytes = example-bytes;
+  more-bytes = more-bytes;
   within = within;
   beyond = beyond;
 }

@@ -21,10 +21,10 @@ use Rattle.worked_examples.specs.PlansRead.{PlanRow, sized, SizedAs, pla
 use Rattle.worked_examples.proofs.EveryRow.{all-same}
 
 -- what is read of a row's bytes, and what the row states
-unfoldable pub sheetRead : SheetRow → ℕ × List Part
+unfoldable sheetRead : SheetRow → ℕ × List Part
 sheetRead (reads sheet v parts) = (channelCount sheet, allParts sheet)
 
-unfoldable pub sheetStated : SheetRow → ℕ × List Part
+unfoldable sheetStated : SheetRow → ℕ × List Part
 sheetStated (reads sheet v parts) = (v, parts)
 
 sheet-read : (row : SheetRow) → sheetRead row ≡ sheetStated row → ReadsAs row
@@ -38,10 +38,10 @@ sheets-computed = refl
 pub sheets-read : All ReadsAs sheets
 sheets-read = all-same sheetRead sheetStated ReadsAs sheet-read sheets sheets-computed
 
-unfoldable pub planRead : PlanRow → ℕ × ℕ × ℕ
+unfoldable planRead : PlanRow → ℕ × ℕ × ℕ
 planRead (sized plan v p c) = (channels plan, startRows plan, cycleRows plan)
 
-unfoldable pub planStated : PlanRow → ℕ × ℕ × ℕ
+unfoldable planStated : PlanRow → ℕ × ℕ × ℕ
 planStated (sized plan v p c) = (v, p, c)
 
 plan-read : (row : PlanRow) → planRead row ≡ planStated row → SizedAs row
@@ -55,10 +55,10 @@ plans-computed = refl
 pub plans-read : All SizedAs plans
 plans-read = all-same planRead planStated SizedAs plan-read plans plans-computed
 
-unfoldable pub sightSeen : Sight → List Seen
+unfoldable sightSeen : Sight → List Seen
 sightSeen (sees plan position seen) = seenFrom plan position 0 (channels plan)
 
-unfoldable pub sightStated : Sight → List Seen
+unfoldable sightStated : Sight → List Seen
 sightStated (sees plan position seen) = seen
 
 sight-seen : (row : Sight) → sightSeen row ≡ sightStated row → SeesAs row

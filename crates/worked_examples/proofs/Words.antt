@@ -38,11 +38,11 @@ use Rattle.worked_examples.specs.More.{more}
 use Rattle.worked_examples.proofs.EveryRow.{all-same}
 
 -- the number that a row states, and the one that the definitions give
-unfoldable pub stated : Call → ℕ
+unfoldable stated : Call → ℕ
 stated (checks rule plan marks word) = word
 stated (judges rule plan part row word) = word
 
-unfoldable pub defined : Call → ℕ
+unfoldable defined : Call → ℕ
 defined (checks rule plan marks word) = checkWord (checkOf rule plan marks)
 defined (judges rule plan part row word) = judgeWord (judgeOf rule plan part row)
 

@@ -7,5 +7,5 @@ pub mod MorePlans
 pub mod MoreMarks
 pub mod SheetsRead
 pub mod PlansRead
-pub mod InBytes
+pub mod Handed
 pub mod More

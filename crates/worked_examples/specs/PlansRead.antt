@@ -7,7 +7,7 @@ use Rattle.cltlb.specs.Run.{Seen, number, beforeRun}
 use Rattle.plan.specs.Layout.{channels, startRows, cycleRows}
 use Rattle.plan.specs.Run.{runOf}
 use Rattle.worked_examples.specs.Table.{planA, planB, planE9, planE10}
-use Rattle.worked_examples.specs.MorePlans.{planThree, planStartDrift, planNoCycle}
+use Rattle.worked_examples.specs.MorePlans.{planThree, planStartDrift, planNoCycle, planLong}
 
 -- a plan with its V, P and C
 pub data PlanRow : Type 0 where
@@ -23,8 +23,9 @@ plans =
     ∷ sized planE9 1 0 1
     ∷ sized planE10 1 0 1
     ∷ sized planThree 3 2 3
-    ∷ sized planStartDrift 1 2 1
+    ∷ sized planStartDrift 1 3 1
     ∷ sized planNoCycle 1 1 0
+    ∷ sized planLong 1 0 1
     ∷ []
 
 -- what is seen of n channels from channel k on, at a position
@@ -39,7 +40,7 @@ pub data Sight : Type 0 where
 unfoldable pub SeesAs : Sight → Type 0
 SeesAs (sees plan position seen) = seenFrom plan position 0 (channels plan) ≡ seen
 
--- planThree: before the run, the start rows, the cycle rows on passes 0 and 1, and two of them on pass 2.
+-- planThree: before the run, the start rows, the cycle rows on passes 0 and 1, two of them on pass 2, and one on pass 100.
 unfoldable pub sights : List Sight
 sights =
     sees planA (pos 0) (number (pos 10) ∷ [])
@@ -62,4 +63,5 @@ sights =
     ∷ sees planThree (pos 7) (number (pos 102) ∷ number (pos 103) ∷ number (pos 12) ∷ [])
     ∷ sees planThree (pos 8) (number (negℤ (pos 70512)) ∷ number (negℤ (pos 513)) ∷ number (negℤ (pos 14)) ∷ [])
     ∷ sees planThree (pos 10) (number (pos 202) ∷ number (pos 203) ∷ number (pos 14) ∷ [])
+    ∷ sees planThree (pos 302) (number (negℤ (pos 95600)) ∷ number (negℤ (pos 25601)) ∷ number (negℤ (pos 504)) ∷ [])
     ∷ []

@@ -10,7 +10,7 @@ use Rattle.cltlb.specs.declared.Part.the-variants.{Less, Equal, Not, And, Or, N
 use Rattle.rule.specs.Layout.{partCount, channelCount}
 use Rattle.rule.specs.Take.{partsOf}
 use Rattle.worked_examples.specs.Table.{ruleE1, ruleE2, ruleE3, ruleE4, ruleE5, ruleE6-4096, ruleE6-4093, ruleE7, ruleE8, ruleE9-10, ruleE9-9, ruleE9-0, ruleE10}
-use Rattle.worked_examples.specs.MoreSheets.{ruleKinds, ruleRelease, rulePast, ruleLimit, ruleMet, ruleReach}
+use Rattle.worked_examples.specs.MoreSheets.{ruleKinds, ruleRelease, rulePast, ruleLimit, ruleMet, ruleReach, ruleEightChannels}
 
 -- the n parts of a sheet from part k on
 unfoldable pub partsFrom : List ℕ → ℕ → ℕ → List Part
@@ -28,15 +28,12 @@ pub data SheetRow : Type 0 where
 unfoldable pub ReadsAs : SheetRow → Type 0
 ReadsAs (reads sheet channels parts) = (channelCount sheet ≡ channels) × (allParts sheet ≡ parts)
 
--- the readings of channels 0, 1 and 2 at the present position
+-- the readings of channels 0 and 1 at the present position
 abbrev pub x : Term
 x = Reading 0 (pos 0)
 
 abbrev pub y : Term
 y = Reading 1 (pos 0)
-
-abbrev pub z : Term
-z = Reading 2 (pos 0)
 
 -- E1 to E10, then the sheets of more examples.
 unfoldable pub sheets : List SheetRow
@@ -73,4 +70,5 @@ sheets =
     ∷ reads ruleLimit 3 (Less x y ∷ Less x (Constant (pos 301)) ∷ [])
     ∷ reads ruleMet 3 (Equal x (Constant (negℤ (pos 70512))) ∷ [])
     ∷ reads ruleReach 1 (Less (Reading 0 (negℤ (pos 4))) (Reading 0 (pos 4)) ∷ [])
+    ∷ reads ruleEightChannels 8 (Less (Reading 7 (pos 0)) (Constant (pos 25)) ∷ [])
     ∷ []
