@@ -42,7 +42,7 @@ marksRelease-1 =
     ∷ 0xFF ∷ 0xFF
     ∷ 0xFF ∷ 0xFF ∷ []
 
--- R is marked 0, with witness 0, where x < 9 is marked 1
+-- of ruleRelease on planE10: R is marked 0, with witness 0, where x < 9 is marked 1
 abbrev pub marksRelease-0 : List ℕ
 marksRelease-0 =
     0x03 ∷ 0x00 ∷ 0x01 ∷ 0x00
@@ -53,7 +53,7 @@ marksRelease-0 =
     ∷ 0xFF ∷ 0xFF
     ∷ 0x00 ∷ 0x00 ∷ []
 
--- R is marked 1, with witness 0
+-- of ruleRelease on planE10: R is marked 1, with witness 0
 abbrev pub marksRelease-spare : List ℕ
 marksRelease-spare =
     0x03 ∷ 0x00 ∷ 0x01 ∷ 0x00
@@ -81,7 +81,7 @@ marksByte2 =
     ∷ 0xFF ∷ 0xFF
     ∷ 0xFF ∷ 0xFF ∷ []
 
--- part 0's bytes on rows 1 and 2 are 2, and part 1's on row 0
+-- of ruleE2 on planA: part 0's bytes on rows 1 and 2 are 2, and part 1's on row 0
 abbrev pub marksBytes2 : List ℕ
 marksBytes2 =
     0x02 ∷ 0x00 ∷ 0x03 ∷ 0x00
@@ -101,7 +101,7 @@ marksBroken =
     ∷ 0xFF ∷ 0xFF
     ∷ 0xFF ∷ 0xFF ∷ []
 
--- part 1, which needs no witness, has witness 2
+-- of ruleE4 on planA: as marksE4-2, but part 1, which needs no witness, has witness 2
 abbrev pub marksSpare : List ℕ
 marksSpare =
     0x03 ∷ 0x00 ∷ 0x03 ∷ 0x00
@@ -112,7 +112,7 @@ marksSpare =
     ∷ 0x02 ∷ 0x00
     ∷ 0x02 ∷ 0x00 ∷ []
 
--- part 1 has witness 2, and the whole rule is marked 1, 1, 0
+-- of ruleE4 on planA: part 1 has witness 2, and the whole rule is marked 1, 1, 0
 abbrev pub marksSpareBroken : List ℕ
 marksSpareBroken =
     0x03 ∷ 0x00 ∷ 0x03 ∷ 0x00
@@ -141,7 +141,7 @@ marksLimit =
     ∷ 0xFF ∷ 0xFF
     ∷ 0xFF ∷ 0xFF ∷ []
 
--- part 1 is marked 0 on row 4
+-- of ruleLimit on planThree: part 1 is marked 0 on row 4, where it is true at pass 0
 abbrev pub marksLimitBroken : List ℕ
 marksLimitBroken =
     0x02 ∷ 0x00 ∷ 0x05 ∷ 0x00
@@ -150,7 +150,7 @@ marksLimitBroken =
     ∷ 0xFF ∷ 0xFF
     ∷ 0xFF ∷ 0xFF ∷ []
 
--- part 1 has witness 4
+-- of ruleLimit on planThree: the truth at pass 0, and part 1 has witness 4
 abbrev pub marksLimitSpare : List ℕ
 marksLimitSpare =
     0x02 ∷ 0x00 ∷ 0x05 ∷ 0x00

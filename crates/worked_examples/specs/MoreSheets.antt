@@ -4,7 +4,7 @@ use mathlib.Core.List.{List, [], _∷_}
 
 -- Sheets that are read. Channels 0, 1 and 2 are x, y and z.
 
--- V 3, every kind once: x < y, Y z = -3, and over them not, and, or, X, U, R, Y, Z, S, T
+-- V 3, every kind once, part k having kind k + 1: x < y, Y z = -3, and over them not, and, or, X, U, R, Y, Z, S, T
 abbrev pub ruleKinds : List ℕ
 ruleKinds =
     0x0C ∷ 0x00 ∷ 0x03 ∷ 0x00

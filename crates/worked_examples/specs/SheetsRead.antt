@@ -35,6 +35,23 @@ x = Reading 0 (pos 0)
 abbrev pub y : Term
 y = Reading 1 (pos 0)
 
+-- part k has kind k + 1
+abbrev pub everyKind : List Part
+everyKind =
+    Less x y
+    ∷ Equal (Reading 2 (negℤ (pos 1))) (Constant (negℤ (pos 3)))
+    ∷ Not 0
+    ∷ And 0 1
+    ∷ Or 0 1
+    ∷ Next 0
+    ∷ Until 4 2
+    ∷ Release 4 2
+    ∷ Yesterday 1
+    ∷ WeakYesterday 1
+    ∷ Since 0 1
+    ∷ Trigger 0 1
+    ∷ []
+
 -- E1 to E10, then the sheets of more examples.
 unfoldable pub sheets : List SheetRow
 sheets =
@@ -51,20 +68,7 @@ sheets =
     ∷ reads ruleE9-9 1 (Equal x (Constant (pos 9)) ∷ [])
     ∷ reads ruleE9-0 1 (Equal x (Constant (pos 0)) ∷ [])
     ∷ reads ruleE10 1 (Less x (Constant (pos 9)) ∷ Less x (Constant (pos 3)) ∷ Until 0 1 ∷ [])
-    ∷ reads ruleKinds 3
-    (Less x y
-    ∷ Equal (Reading 2 (negℤ (pos 1))) (Constant (negℤ (pos 3)))
-    ∷ Not 0
-    ∷ And 0 1
-    ∷ Or 0 1
-    ∷ Next 0
-    ∷ Until 4 2
-    ∷ Release 4 2
-    ∷ Yesterday 1
-    ∷ WeakYesterday 1
-    ∷ Since 0 1
-    ∷ Trigger 0 1
-    ∷ [])
+    ∷ reads ruleKinds 3 everyKind
     ∷ reads ruleRelease 1 (Less x (Constant (pos 9)) ∷ Less x (Constant (pos 3)) ∷ Release 1 0 ∷ [])
     ∷ reads rulePast 3 (Less x y ∷ Yesterday 0 ∷ [])
     ∷ reads ruleLimit 3 (Less x y ∷ Less x (Constant (pos 301)) ∷ [])
