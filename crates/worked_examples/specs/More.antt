@@ -39,7 +39,7 @@ more =
     ∷ checks ruleE1 [] [] 17179869184  -- 4, 0, 0
     ∷ checks ruleE1 planNoCycle [] 17179869184  -- 4, 0, 0
     ∷ checks ruleE1 planLong [] 17179869184  -- 4, 0, 0
-    -- 5: before 6.
+    -- 5: another V, 8 being allowed. It comes before 6.
     ∷ checks ruleEightChannels planA [] 21474836480  -- 5, 0, 0
     ∷ checks rulePast planStartDrift [] 21474836480  -- 5, 0, 0
     -- 6: the lowest such row.
@@ -63,7 +63,7 @@ more =
     ∷ checks ruleRelease planE10 marksRelease-spare 47244771328  -- 11, 2, 0
     ∷ checks ruleRelease planE10 marksRelease-0 47244771328  -- 11, 2, 0
     ∷ checks ruleE4 planA marksSpareBroken 47244705792  -- 11, 1, 0
-    -- Judged on a start row and on cycle rows: 0 always false, 1 always true, 2 changes.
+    -- Judged on start rows and on cycle rows: 0 always false, 1 always true, 2 changes.
     ∷ judges ruleKinds planThree 0 0 1
     ∷ judges ruleKinds planThree 0 1 0
     ∷ judges ruleKinds planThree 1 3 0
