@@ -35,7 +35,7 @@ module _ (rule plan table : List ℕ) where
       orElse tableOutcome (partCount rule) (rows plan) table
       orElse partsOutcome
 
-  -- accepted with the last part's mark on row 0, or the first refusal
+  -- accepted with the last part's mark on row 0, the verdict, which says whether the run satisfies the rule; or the first refusal
   unfoldable pub answered : Outcome → Checked
   answered Clear = C.Accepted (markOf (partCount rule - 1) 0)
   answered (Refused r) = C.Refused r

@@ -3,13 +3,15 @@
 ghost use mathlib.Core.Path.{_≡_};
 ghost use Rattle.cltlb.specs.Parts.{isComparison};
 
-// A term is a constant, or the reading of a channel at the present position plus a shift.
+// A term (the field's arithmetic temporal term) is a constant, or the reading of a channel, which is a variable, at the present
+// position plus a shift.
 pub enum Term {
     Constant(i32),
     Reading { channel: usize, shift: i32 },
 }
 
-// A part of a rule: a comparison of two terms, or an operator over parts that are named by their numbers.
+// A part of a rule, that is, a subformula of its formula: a comparison of two terms (an atomic constraint), or an operator over
+// parts that are named by their numbers.
 pub enum Part {
     Less(Term, Term),
     Equal(Term, Term),

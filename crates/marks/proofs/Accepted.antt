@@ -21,7 +21,7 @@ use Rattle.plan.specs.Positions.{passOf}
 use Rattle.plan.specs.Run.{runOf}
 use Rattle.cltlb.specs.inner.Fits.{ComparisonFits}
 use Rattle.marks.specs.Parts.{witnessInOrder, partOutcome}
-use Rattle.marks.specs.Meaning.{Truth, SettledOn, PartSettled, PartMarksTrue, PartWitnessed, Settled, MarksTrue, WitnessesInOrder}
+use Rattle.marks.specs.Meaning.{Truth, SettledOn, PartSettled, MarkTrue, PartMarksTrue, PartWitnessed, Settled, MarksTrue, WitnessesInOrder}
 use Rattle.marks.proofs.Tests.{T-path, T-ext}
 use Rattle.marks.proofs.Rows.{rowAt, first-position, start-row, from-start, is-row, row-0, again, row-and-pass}
 use Rattle.marks.proofs.Endless.{Agrees, markAt}
@@ -49,11 +49,11 @@ module _ (plan : List ℕ) (hC : 1 ≤ cycleRows plan) (parts : ℕ → Part) (n
       Iff·trans (Iff·symm (h row)) (Iff·trans (T-path (ap (mark i) (sym (again plan hC row k low)))) (h (row + k * cycleRows plan)))
 
   pub true-marks : (i : ℕ) → TrueAt plan parts n mark i → PartMarksTrue parts plan i mark
-  unfolding PartMarksTrue
+  unfolding PartMarksTrue MarkTrue
   true-marks i h row high = Iff·trans (T-path (ap (mark i) (sym (first-position plan row high)))) (h row)
 
   settled-everywhere : Settled parts n plan → MarksTrue parts n plan mark → TrueEverywhere plan parts n mark
-  unfolding Settled PartSettled SettledOn MarksTrue PartMarksTrue
+  unfolding Settled PartSettled SettledOn MarksTrue PartMarksTrue MarkTrue
   settled-everywhere settled marks i l t =
       Iff·trans (marks i l row (is-row plan hC t)) (by-cases (decLt t (startRows plan)) start (λ q. cycle (omega arith)))
     where
@@ -116,7 +116,7 @@ module _ (plan : List ℕ) (hC : 1 ≤ cycleRows plan) (parts : ℕ → Part) (n
 
     -- The mark of the last part on row 0 is the whole rule's truth at position 0.
     pub accepted-verdict : 1 ≤ n → Accepted plan parts n mark witness → T (mark (n - 1) 0) ↔ Truth parts plan (n - 1) 0
-    unfolding MarksTrue PartMarksTrue
+    unfolding MarksTrue PartMarksTrue MarkTrue
     accepted-verdict some h = accepted-means h .1 (n - 1) (omega arith) 0 (row-0 plan hC)
 
   -- Every table of true marks is accepted with some witnesses.
@@ -147,6 +147,6 @@ module _ (plan : List ℕ) (hC : 1 ≤ cycleRows plan) (parts : ℕ → Part) (n
   -- The accepted table is unique but for witnesses.
   pub accepted-unique : (mark other : ℕ → ℕ → Bool) (witness others : ℕ → ℕ) → Accepted plan parts n mark witness → Accepted plan parts n other others
       → (i row : ℕ) → i < n → row < rows plan → mark i row ≡ other i row
-  unfolding MarksTrue PartMarksTrue
+  unfolding MarksTrue PartMarksTrue MarkTrue
   accepted-unique mark other witness others h k i row l q =
       T-ext (mark i row) (other i row) (Iff·trans (accepted-means mark witness h .1 i l row q) (Iff·symm (accepted-means other others k .1 i l row q)))

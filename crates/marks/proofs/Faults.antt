@@ -3,7 +3,7 @@
 use mathlib.Core.Path.{_≡_, refl, sym, ap, _∙_, subst, subst₂}
 use mathlib.Core.Bool.{Bool, true, false, not, Bool·beq, true≢false}
 use mathlib.Core.List.{List}
-use mathlib.Core.Logic.{_↔_, Iff·symm, Iff·trans, _⊎_, inl, inr, by-cases}
+use mathlib.Core.Logic.{_↔_, Iff·rfl, Iff·symm, Iff·trans, _⊎_, inl, inr, by-cases}
 use Prim.Native.Nat.{ℕ, suc, _+_, _*_, _≤_, _<_}
 use native.Mathlib.Decide.{decLt}
 use native.Mathlib.Omega.{arith}
@@ -19,33 +19,25 @@ use Rattle.refusal.specs.declared.Outcome.the-variants.{Clear, Refused}
 use Rattle.refusal.proofs.Lowest.{from-some}
 use Rattle.refusal.proofs.First.{clear-refused, unless-refused, refusedAt-refused}
 use Rattle.plan.specs.Layout.{startRows, cycleRows, rows}
-use Rattle.plan.specs.Positions.{passOf}
+use Rattle.plan.specs.Positions.{passOf, after}
 use Rattle.judge.specs.declared.Verdict.{Verdict}
 use Rattle.judge.specs.declared.Verdict.the-variants.{AlwaysTrue, AlwaysFalse, Changes}
 use Rattle.judge.specs.Meaning.{VerdictMeans}
 use Rattle.judge.specs.Rows.{verdictOf}
 use Rattle.marks.specs.Equations.{byRowBefore}
 use Rattle.marks.specs.Parts.{isChanges, breaks, wraps, equationOutcome, steadyOutcome, wrapOutcome, closingOutcome}
-use Rattle.marks.proofs.Tests.{T-path, T-ext, beq-differs}
-use Rattle.marks.proofs.Rows.{lastRow, rowAt, first-position, last-is-row, again, once-more, second-pass, on-cycle-row, after-last-row}
+use Rattle.marks.proofs.Tests.{T-path, T-ext, beq-false, beq-true, beq-differs}
+use Rattle.marks.proofs.Rows.{lastRow, rowAt, first-position, last-is-row, again, once-more, after-row, second-pass, on-cycle-row, after-last-row}
 use Rattle.marks.proofs.Endless.{markAt, due}
 use Rattle.marks.proofs.Operators.{agrees-below}
 use Rattle.marks.proofs.Comparisons.{Judged, same-truth}
-use Rattle.marks.proofs.Unrolled.{OnRows, expectedOn, Unrolls, compares, ahead, back, equation-clear, unrolls, expected-due}
-use Rattle.marks.proofs.Parts.{Right, This, Due, byEarlier, byLater, is-due}
+use Rattle.marks.proofs.Unrolled.{OnRows, expectedOn, Unrolls, compares, ahead, back, unrolls, expected-due}
+use Rattle.marks.proofs.Parts.{Right, This, Ahead, Due, byEarlier, byLater, is-due}
 
 is-changes : (v : Verdict) → isChanges v ≡ true → v ≡ Changes
 is-changes AlwaysTrue e = absurd (true≢false (sym e))
 is-changes AlwaysFalse e = absurd (true≢false (sym e))
 is-changes Changes e = refl
-
--- 9 names the part and one of its rows.
-pub equation-row : (plan : List ℕ) (mark : ℕ → ℕ → Bool) (p : Part) (i : ℕ) (r : Refusal) → equationOutcome plan mark p i ≡ Refused r → (row : ℕ) × (Equation i row ≡ r) × (row < rows plan)
-unfolding equationOutcome atLowest lowest
-equation-row plan mark p i r e =
-    let s = refusedAt-refused (Equation i) (lowestFrom (breaks plan mark p i) 0 (rows plan)) r e in
-    let l = from-some (breaks plan mark p i) 0 (rows plan) (s .0) .0 (s .1) .1 in
-    (s .0, s .2, omega arith)
 
 module _ (plan : List ℕ) (F : ℕ → Type 0) where
   -- a statement's truth on the passes of a row: on one pass it holds and on another it does not
@@ -67,39 +59,71 @@ module _ (plan : List ℕ) (mark : ℕ → ℕ → Bool) (f : ℕ → Formula) (
   abbrev F : ℕ → Type 0
   F = This plan mark f p
 
-  -- The marks of the part are true at the first positions of their rows.
-  abbrev pub OwnTrue : Type 0
-  OwnTrue = (row : ℕ) → row < rows plan → T (mark i row) ↔ F row
+  -- The mark on a row is the truth at the row's first position.
+  abbrev pub TrueOn : ℕ → Type 0
+  TrueOn row = T (mark i row) ↔ F row
 
-  module _ (own : OwnTrue) where
-    own-at : (t : ℕ) → t < rows plan → T (markAt plan mark i t) ↔ F t
-    own-at t l = Iff·trans (T-path (ap (mark i) (first-position plan t l))) (own t l)
+  -- Of every kind but U and R: where the equation is met on the rows below m, the marks there are true.
+  true-below : ((t : ℕ) → ((k : ℕ) → k < t → T (markAt plan mark i k) ↔ F k) → T (due plan mark p i t) ↔ F t)
+      → (m : ℕ) → m ≤ rows plan → ((k : ℕ) → k < m → mark i k ≡ expectedOn plan mark p i k) → (k : ℕ) → k < m → T (markAt plan mark i k) ↔ F k
+  true-below by m few met =
+      agrees-below F (markAt plan mark i) (due plan mark p i) by m
+      (λ t l. ap (mark i) (first-position plan t (omega arith)) ∙ met t l ∙ expected-due plan mark hC p i t (omega arith))
 
-    -- the position after a row: the next row, or where there is none, row P on pass 1
-    own-after : ((t : ℕ) → startRows plan ≤ t → F t ↔ F (t + cycleRows plan)) → (row : ℕ) → row < rows plan → T (markAt plan mark i (suc row)) ↔ F (suc row)
-    unfolding rows
-    own-after later row l =
-        by-cases (decLt (suc row) (startRows plan + cycleRows plan)) (own-at (suc row))
-        (λ q.
-        let end : startRows plan + cycleRows plan ≡ suc row = omega arith in
-        subst (λ (t : ℕ). T (markAt plan mark i t) ↔ F t) end
-        (Iff·trans (T-path (ap (mark i) (once-more plan hC (startRows plan) (omega arith))))
-        (Iff·trans (own-at (startRows plan) (omega arith)) (later (startRows plan) (omega arith)))))
+  -- Of U and R: where the mark on the row after is true there, it is true at the next position.
+  true-after : ((t : ℕ) → startRows plan ≤ t → F t ↔ F (t + cycleRows plan)) → (row : ℕ) → row < rows plan
+      → TrueOn (after (startRows plan) (cycleRows plan) row) → T (markAt plan mark i (suc row)) ↔ F (suc row)
+  unfolding rows
+  true-after later row l h =
+      Iff·trans (T-path (ap (mark i) (sym next))) (Iff·trans h (by-cases (decLt (suc row) (startRows plan + cycleRows plan)) inside outside))
+    where
+      next : after (startRows plan) (cycleRows plan) row ≡ rowAt plan (suc row)
+      next = after-row plan hC row l
 
-    -- what is due on a row is the truth there
-    own-due : Due plan mark f p i → (row : ℕ) → row < rows plan → T (due plan mark p i row) ↔ F row
-    own-due (byEarlier by) row l = by row (λ k q. own-at k (omega arith))
-    own-due (byLater by later closes decides) row l = by row (own-after later row l)
+      inside : suc row < startRows plan + cycleRows plan → F (after (startRows plan) (cycleRows plan) row) ↔ F (suc row)
+      inside q = subst (λ (x : ℕ). F x ↔ F (suc row)) (sym (next ∙ first-position plan (suc row) q)) Iff·rfl
 
-    -- True marks meet the equation on every row.
-    true-meets : OnRows plan mark p i
-    true-meets row l =
-        T-ext (mark i row) (expectedOn plan mark p i row)
-        (Iff·trans (own row l) (Iff·trans (Iff·symm (own-due (is-due plan mark f hC i named p low judged) row l)) (T-path (sym (expected-due plan mark hC p i row l)))))
+      outside : ¬ (suc row < startRows plan + cycleRows plan) → F (after (startRows plan) (cycleRows plan) row) ↔ F (suc row)
+      outside q =
+          let end : startRows plan + cycleRows plan ≡ suc row = omega arith in
+          let start : rowAt plan (suc row) ≡ startRows plan =
+          ap (rowAt plan) (sym end) ∙ once-more plan hC (startRows plan) (omega arith) ∙ first-position plan (startRows plan) (omega arith) in
+          subst₂ (λ (x y : ℕ). F x ↔ F y) (sym (next ∙ start)) end (later (startRows plan) (omega arith))
 
-  -- 9: the marks are not all true.
-  pub equation-untrue : (r : Refusal) → equationOutcome plan mark p i ≡ Refused r → ¬ OwnTrue
-  equation-untrue r e own = clear-refused (sym e ∙ equation-clear plan mark p i .1 (true-meets own))
+  -- A mark that breaks its equation, the lower ones meeting it.
+  module _ (row : ℕ) (l : row < rows plan) (lower : (k : ℕ) → k < row → mark i k ≡ expectedOn plan mark p i k) (broken : mark i row ≡ expectedOn plan mark p i row → ⊥) where
+    -- it is not the truth, if what is due there is
+    not-due : T (due plan mark p i row) ↔ F row → ¬ TrueOn row
+    not-due d h =
+        broken (T-ext (mark i row) (expectedOn plan mark p i row)
+        (Iff·trans h (Iff·trans (Iff·symm d) (T-path (sym (expected-due plan mark hC p i row l))))))
+
+    false-here : Due plan mark f p i → ¬ Ahead plan mark f p → ¬ TrueOn row
+    false-here (byEarlier by) other = not-due (by row (true-below by row (omega arith) lower))
+    false-here (byLater kind by later closes decides) other = absurd (other kind)
+
+    false-beside : Due plan mark f p i → ¬ (TrueOn row × TrueOn (after (startRows plan) (cycleRows plan) row))
+    false-beside (byEarlier by) h = not-due (by row (true-below by row (omega arith) lower)) (h .0)
+    false-beside (byLater kind by later closes decides) h = not-due (by row (true-after later row l (h .1))) (h .0)
+
+  -- What a refusal 9 says of the part.
+  abbrev pub Broken : Refusal → Type 0
+  Broken r =
+      (row : ℕ) × (Equation i row ≡ r) × (row < rows plan) × (¬ Ahead plan mark f p → ¬ TrueOn row)
+      × (¬ (TrueOn row × TrueOn (after (startRows plan) (cycleRows plan) row)))
+
+  pub equation-broken : (r : Refusal) → equationOutcome plan mark p i ≡ Refused r → Broken r
+  unfolding equationOutcome atLowest lowest breaks
+  equation-broken r e =
+      let s = refusedAt-refused (Equation i) (lowestFrom (breaks plan mark p i) 0 (rows plan)) r e in
+      let at = from-some (breaks plan mark p i) 0 (rows plan) (s .0) .0 (s .1) in
+      let high = at .1 in
+      let l : s .0 < rows plan = omega arith in
+      let lower : (k : ℕ) → k < s .0 → mark i k ≡ expectedOn plan mark p i k =
+      λ k q. beq-false (mark i k) (expectedOn plan mark p i k) .0 (at .3 k (omega arith) q) in
+      let broken = beq-true (mark i (s .0)) (expectedOn plan mark p i (s .0)) (at .2) in
+      let kind = is-due plan mark f hC i named p low judged in
+      (s .0, s .2, l, false-here (s .0) l lower broken kind, false-beside (s .0) l lower broken kind)
 
   -- the verdict on a cycle row
   means : isComparison p ≡ true → (row : ℕ) → startRows plan ≤ row → row < rows plan → VerdictMeans (startRows plan) (cycleRows plan) row F (verdictOf plan p row)
@@ -133,9 +157,7 @@ module _ (plan : List ℕ) (mark : ℕ → ℕ → Bool) (f : ℕ → Formula) (
   -- row P on pass 1; the two differ.
   module _ (by : (t : ℕ) → ((k : ℕ) → k < t → T (markAt plan mark i k) ↔ F k) → T (due plan mark p i t) ↔ F t) (met : OnRows plan mark p i) where
     first-pass : (t : ℕ) → t < rows plan → T (markAt plan mark i t) ↔ F t
-    first-pass =
-        agrees-below F (markAt plan mark i) (due plan mark p i) by (rows plan)
-        (λ t l. ap (mark i) (first-position plan t l) ∙ met t l ∙ expected-due plan mark hC p i t l)
+    first-pass = true-below by (rows plan) (omega arith) met
 
     on-pass-0 : T (mark i (startRows plan)) ↔ F (startRows plan + 0 * cycleRows plan)
     unfolding rows
@@ -174,4 +196,4 @@ module _ (plan : List ℕ) (mark : ℕ → ℕ → Bool) (f : ℕ → Formula) (
       go (compares c x d k) _ = changing c r (sym k ∙ e)
       go (ahead x k) _ = absurd (clear-refused (sym e ∙ k))
       go (back z s b k) (byEarlier by) = turning by met (b (lastRow plan)) r (sym k ∙ e)
-      go (back z s b k) (byLater by later closes decides) = absurd (clear-refused (sym e ∙ closes))
+      go (back z s b k) (byLater kind by later closes decides) = absurd (clear-refused (sym e ∙ closes))

@@ -3,7 +3,7 @@
 use mathlib.Core.Path.{_≡_, refl, sym, ap}
 use mathlib.Core.Bool.{Bool, true}
 use mathlib.Core.List.{List}
-use mathlib.Core.Logic.{_↔_, Iff·rfl, Iff·symm, Iff·trans, Iff·and}
+use mathlib.Core.Logic.{_↔_, Iff·rfl, Iff·symm, Iff·trans, Iff·and, _⊎_, inl, inr}
 use Prim.Native.Nat.{ℕ, suc, _+_, _≤_, _<_}
 use native.Mathlib.Omega.{arith}
 use lib.Dec.{T}
@@ -37,13 +37,18 @@ module _ (plan : List ℕ) (mark : ℕ → ℕ → Bool) (f : ℕ → Formula) w
   abbrev pub This : Part → ℕ → Type 0
   This p = Holds (runOf plan) (formulaFrom p f)
 
+  -- U and R
+  abbrev pub Ahead : Part → Type 0
+  Ahead p = ((a b : ℕ) × (p ≡ Until a b)) ⊎ ((a b : ℕ) × (p ≡ Release a b))
+
   -- The two ways in which what is due of a part at a position is the truth there.
   pub data Due (p : Part) (i : ℕ) : Type 0 where
     -- every kind but U and R: where the part's own earlier marks are true
     byEarlier : ((t : ℕ) → ((k : ℕ) → k < t → T (markAt plan mark i k) ↔ This p k) → T (due plan mark p i t) ↔ This p t) → Due p i
     -- U and R: where its next mark is true. Their truth in the cycle is the same on every pass, they close by their equation,
     -- and a witness in order makes marks that meet it true.
-    byLater : ((t : ℕ) → T (markAt plan mark i (suc t)) ↔ This p (suc t) → T (due plan mark p i t) ↔ This p t)
+    byLater : Ahead p
+        → ((t : ℕ) → T (markAt plan mark i (suc t)) ↔ This p (suc t) → T (due plan mark p i t) ↔ This p t)
         → Repeats (This p) (cycleRows plan) (startRows plan)
         → closingOutcome plan mark p i ≡ Clear
         → ((w : ℕ) → T (witnessInOrder (startRows plan) (cycleRows plan) mark p i w) → Meets plan mark p i → Right i (formulaFrom p f))
@@ -79,6 +84,7 @@ module _ (plan : List ℕ) (mark : ℕ → ℕ → Bool) (f : ℕ → Formula) w
         let ha = named a (low .0) in
         let hb = named b (low .1) in
         byLater
+        (inl (a, b, refl))
         (until-by (Of a) (Of b) (at a) (at b) (at i) ha hb)
         (λ t h. until-shift (Of a) (Of b) (cycleRows plan) t (repeats a (low .0) t h) (repeats b (low .1) t h))
         refl
@@ -87,6 +93,7 @@ module _ (plan : List ℕ) (mark : ℕ → ℕ → Bool) (f : ℕ → Formula) w
         let ha = named a (low .0) in
         let hb = named b (low .1) in
         byLater
+        (inr (a, b, refl))
         (release-by (Of a) (Of b) (at a) (at b) (at i) ha hb)
         (λ t h. release-shift (Of a) (Of b) (cycleRows plan) t (repeats a (low .0) t h) (repeats b (low .1) t h))
         refl
@@ -100,7 +107,7 @@ module _ (plan : List ℕ) (mark : ℕ → ℕ → Bool) (f : ℕ → Formula) w
     meets-right : (p : Part) (w : ℕ) → Due p i → T (witnessInOrder (startRows plan) (cycleRows plan) mark p i w)
         → Meets plan mark p i ↔ Right i (formulaFrom p f)
     meets-right p w (byEarlier by) ok = meets-agrees (This p) (markAt plan mark i) (due plan mark p i) by
-    meets-right p w (byLater by later closes decides) ok = (
+    meets-right p w (byLater kind by later closes decides) ok = (
       decides w ok,
       λ right t. T-ext (markAt plan mark i t) (due plan mark p i t) (Iff·trans (right t) (Iff·symm (by t (right (suc t))))),
     )

@@ -16,13 +16,15 @@ use Rattle.refusal.specs.declared.Refusal.the-variants.{RuleSizes, Kind, Operan
 use Rattle.refusal.specs.declared.Outcome.the-variants.{Clear, Refused}
 use Rattle.refusal.proofs.First.{unless-refused, unless-clear-T, orElse-refused, inTurn-refused, clear-refused}
 use Rattle.plan.specs.Layout.{startRows, cycleRows, rows}
+use Rattle.plan.specs.Positions.{after}
 use Rattle.marks.specs.Parts.{witnessInOrder, equationOutcome, closingOutcome, witnessOutcome, partOutcome}
-use Rattle.marks.specs.Meaning.{Truth, SettledOn, DiffersOn, PartMarksTrue, PartWitnessed}
+use Rattle.marks.specs.Meaning.{Truth, SettledOn, DiffersOn, MarkTrue, PartMarksTrue, PartWitnessed}
 use Rattle.marks.specs.Refusals.{FirstFault, EquationMeans, ClosingMeans, WitnessMeans}
+use Rattle.marks.proofs.Rows.{after-is-row}
 use Rattle.marks.proofs.Comparisons.{judged-part}
 use Rattle.marks.proofs.Unrolled.{equation-clear}
-use Rattle.marks.proofs.Parts.{This}
-use Rattle.marks.proofs.Faults.{Open, equation-untrue, equation-row, closing-open}
+use Rattle.marks.proofs.Parts.{Ahead}
+use Rattle.marks.proofs.Faults.{Open, equation-broken, closing-open}
 use Rattle.marks.proofs.Accepted.{TrueAt, true-settled, true-marks, below}
 
 module _ (plan : List ℕ) (parts : ℕ → Part) (n : ℕ) (mark : ℕ → ℕ → Bool) (witness : ℕ → ℕ) where
@@ -55,11 +57,13 @@ module _ (plan : List ℕ) (hC : 1 ≤ cycleRows plan) (parts : ℕ → Part) (n
       };
     }
 
-    untrue : (r : Refusal) → equationOutcome plan mark (parts i) i ≡ Refused r → ¬ PartMarksTrue parts plan i mark
-    unfolding PartMarksTrue Truth
-    untrue r e =
+    broken : (r : Refusal) → equationOutcome plan mark (parts i) i ≡ Refused r
+        → (row : ℕ) × (Equation i row ≡ r) × (row < rows plan) × (¬ Ahead plan mark (formulaOf parts) (parts i) → ¬ MarkTrue parts plan i mark row)
+        × (¬ (MarkTrue parts plan i mark row × MarkTrue parts plan i mark (after (startRows plan) (cycleRows plan) row)))
+    unfolding MarkTrue Truth
+    broken r e =
         rw (formula-made parts n low i l)
-        (equation-untrue plan mark (formulaOf parts) hC i (λ a q. lower a q .0) (parts i) (low i l) (λ c. judged-part plan hC v (parts i) (fits i l) c (formulaOf parts)) r e)
+        (equation-broken plan mark (formulaOf parts) hC i (λ a q. lower a q .0) (parts i) (low i l) (λ c. judged-part plan hC v (parts i) (fits i l) c (formulaOf parts)) r e)
 
     opened : equationOutcome plan mark (parts i) i ≡ Clear → (r : Refusal) → closingOutcome plan mark (parts i) i ≡ Refused r → Open plan (Truth parts plan i) (parts i) i r
     unfolding Truth
@@ -69,10 +73,17 @@ module _ (plan : List ℕ) (hC : 1 ≤ cycleRows plan) (parts : ℕ → Part) (n
         (equation-clear plan mark (parts i) i .0 met) r e)
 
     equation-means : (r : Refusal) → equationOutcome plan mark (parts i) i ≡ Refused r → Means plan parts n mark witness r
-    unfolding Means
+    unfolding Means PartMarksTrue
     equation-means r e =
-        let s = equation-row plan mark (parts i) i r e in
-        subst (Means plan parts n mark witness) (s .1) (record { fault = first-fault; row-there = s .2; not-true = untrue r e })
+        let s = broken r e in
+        let here = s .2 in
+        subst (Means plan parts n mark witness) (s .1) (record {
+          fault = first-fault;
+          row-there = here;
+          not-true = λ all. s .4 (all (s .0) here, all (after (startRows plan) (cycleRows plan) (s .0)) (after-is-row plan hC (s .0) here));
+          false-here = λ no-until no-release. s .3 (⊎-elim (λ u. no-until (u .0) (u .1) (u .2)) (λ u. no-release (u .0) (u .1) (u .2)));
+          false-beside = s .4;
+        })
 
     closing-means : equationOutcome plan mark (parts i) i ≡ Clear → (r : Refusal) → closingOutcome plan mark (parts i) i ≡ Refused r → Means plan parts n mark witness r
     unfolding Means DiffersOn SettledOn

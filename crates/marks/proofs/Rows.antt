@@ -1,5 +1,5 @@
 -- The rows of a plan's table and the positions that lie on them. Assumes nothing.
-use mathlib.Core.Path.{_≡_, sym, ap, _∙_}
+use mathlib.Core.Path.{_≡_, sym, ap, _∙_, subst}
 use mathlib.Core.List.{List}
 use mathlib.Core.Logic.{_⊎_, inl, inr, by-cases}
 use Prim.Native.Nat.{ℕ, suc, _+_, _*_, _≤_, _<_}
@@ -75,6 +75,13 @@ module _ (plan : List ℕ) where
 
     pub row-after : (t : ℕ) → after (startRows plan) (cycleRows plan) (rowAt plan t) ≡ rowAt plan (suc t)
     row-after t = sym (row-suc (startRows plan) (cycleRows plan) hC t)
+
+    -- The row after a row is that of the position after its first one.
+    pub after-row : (row : ℕ) → row < rows plan → after (startRows plan) (cycleRows plan) row ≡ rowAt plan (suc row)
+    after-row row l = ap (after (startRows plan) (cycleRows plan)) (sym (first-position row l)) ∙ row-after row
+
+    pub after-is-row : (row : ℕ) → row < rows plan → after (startRows plan) (cycleRows plan) row < rows plan
+    after-is-row row l = subst (λ (x : ℕ). x < rows plan) (sym (after-row row l)) (is-row (suc row))
 
     -- The next position lies on the next row, or on row P where this one lies on row W - 1.
     pub next-position : (t : ℕ)

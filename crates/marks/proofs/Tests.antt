@@ -29,6 +29,12 @@ beq-false true false = (λ e. e, λ e. e)
 beq-false false true = (λ e. subst (λ b. b ≡ true) e refl, λ e. subst (λ b. b ≡ false) e refl)
 beq-false false false = (λ _. refl, λ _. refl)
 
+pub beq-true : (x y : Bool) → not (Bool·beq x y) ≡ true → (x ≡ y → ⊥)
+beq-true true true e d = absurd (subst⁻¹ T e tt)
+beq-true true false e d = absurd (subst T d tt)
+beq-true false true e d = absurd (subst⁻¹ T d tt)
+beq-true false false e d = absurd (subst⁻¹ T e tt)
+
 pub beq-T : (x y : Bool) → T (Bool·beq x y) ↔ (x ≡ y)
 beq-T true true = (λ _. refl, λ _. tt)
 beq-T true false = (absurd, λ e. subst T e tt)

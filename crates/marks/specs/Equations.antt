@@ -1,4 +1,5 @@
--- What the mark of a part on a row has to be (001, the tables of the encoding). Assumes nothing.
+-- What the mark of a part on a row has to be (001, the tables of the encoding): the one-step expansion of its operator.
+-- Assumes nothing.
 use Prim.Native.Nat.{ℕ, zero, suc}
 use mathlib.Core.Bool.{Bool, true, false, not, _&&_, _||_}
 use Rattle.cltlb.specs.declared.Part.{Part}

@@ -1,4 +1,5 @@
--- The mark table's layout, and refusals 7 and 8. Assumes nothing.
+-- The mark table's layout, and refusals 7 and 8. Marks are a labelling of the rows with subformulas; a witness is that of an
+-- eventuality, which a U promises and the negation of an R. Assumes nothing.
 use Prim.Native.Nat.{ℕ, _+_, _*_}
 use mathlib.Core.List.{List}
 use mathlib.Core.Bool.{Bool, _&&_}

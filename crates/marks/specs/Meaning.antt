@@ -32,9 +32,13 @@ module _ (parts : ℕ → Part) (plan : List ℕ) (i : ℕ) where
   PartSettled = (row : ℕ) → startRows plan ≤ row → row < rows plan → SettledOn row
 
   module _ (mark : ℕ → ℕ → Bool) where
-    -- every mark of it is its published truth at the first position of the mark's row
+    -- its mark on a row is its published truth at the first position of the row
+    unfoldable pub MarkTrue : ℕ → Type 0
+    MarkTrue row = T (mark i row) ↔ Truth parts plan i row
+
+    -- every mark of it is true
     unfoldable pub PartMarksTrue : Type 0
-    PartMarksTrue = (row : ℕ) → row < rows plan → T (mark i row) ↔ Truth parts plan i row
+    PartMarksTrue = (row : ℕ) → row < rows plan → MarkTrue row
 
     -- its witness is in order
     unfoldable pub PartWitnessed : (ℕ → ℕ) → Type 0

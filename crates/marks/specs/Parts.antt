@@ -1,4 +1,5 @@
--- The checks on one part, 9, 10 and 11, in that order. Assumes nothing.
+-- The checks on one part, 9, 10 and 11, in that order: equations, closing (the consistency of the loop) and witnesses (of
+-- eventualities). Assumes nothing.
 use Prim.Native.Nat.{ℕ, _+_}
 use mathlib.Core.List.{List}
 use mathlib.Core.Bool.{Bool, true, false, cond, not, _&&_, Bool·beq}

@@ -5,8 +5,10 @@ use mathlib.Core.List.{List}
 use mathlib.Core.Bool.{Bool, true}
 use Rattle.cltlb.specs.Parts.{isComparison}
 use Rattle.cltlb.specs.declared.Part.{Part}
-use Rattle.plan.specs.Layout.{startRows, rows}
-use Rattle.marks.specs.Meaning.{SettledOn, DiffersOn, PartSettled, PartMarksTrue, PartWitnessed}
+use Rattle.cltlb.specs.declared.Part.the-variants.{Until, Release}
+use Rattle.plan.specs.Layout.{startRows, cycleRows, rows}
+use Rattle.plan.specs.Positions.{after}
+use Rattle.marks.specs.Meaning.{SettledOn, DiffersOn, PartSettled, MarkTrue, PartMarksTrue, PartWitnessed}
 
 module _ (parts : ℕ → Part) (n : ℕ) (plan : List ℕ) (mark : ℕ → ℕ → Bool) (witness : ℕ → ℕ) where
   -- Part i is right: it is settled, its marks are true, its witness is in order.
@@ -20,12 +22,14 @@ module _ (parts : ℕ → Part) (n : ℕ) (plan : List ℕ) (mark : ℕ → ℕ 
     pub present : i < n
     pub lower : (j : ℕ) → j < i → PartRight j
 
-  -- 9 of part i and a row: the marks of the part are not all true. The false one may stand on another row, where the equation
-  -- looks at the part's own mark beside.
+  -- 9 of part i and a row: the marks of the part are not all true. The mark on that row is false; of U and R it is that one or
+  -- the part's own mark on the row after, which the equation looks at.
   pub record EquationMeans (i row : ℕ) : Type 0 where
     pub fault : FirstFault i
     pub row-there : row < rows plan
     pub not-true : ¬ PartMarksTrue parts plan i mark
+    pub false-here : ((a b : ℕ) → ¬ (parts i ≡ Until a b)) → ((a b : ℕ) → ¬ (parts i ≡ Release a b)) → ¬ MarkTrue parts plan i mark row
+    pub false-beside : ¬ (MarkTrue parts plan i mark row × MarkTrue parts plan i mark (after (startRows plan) (cycleRows plan) row))
 
   -- 10 of part i and a row: it is a cycle row on which the part's truth is not the same on all passes, whatever its marks say;
   -- of a comparison it is the lowest such row.

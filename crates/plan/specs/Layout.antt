@@ -1,4 +1,6 @@
--- The plan's layout: its sizes, and its two arrays, each a part that starts inside the bytes. Assumes nothing.
+-- The plan's layout: its sizes, and its two arrays, each a part that starts inside the bytes. A plan is the field's lasso, an
+-- ultimately periodic run: the start is its stem, the cycle its loop, and a drift what a reading gains on each iteration of the
+-- loop. Assumes nothing.
 use Prim.Native.Nat.{ℕ, _+_, _*_}
 use mathlib.Core.List.{List}
 use mathlib.Core.Bool.{Bool, _&&_}

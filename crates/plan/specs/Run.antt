@@ -1,4 +1,4 @@
--- The run that a plan stands for. Assumes nothing.
+-- The run that a plan stands for: ultimately periodic but for the drifts. Assumes nothing.
 use Prim.Native.Nat.{ℕ}
 use mathlib.Core.List.{List}
 use lib.IntN.{ℤ, pos, negsuc, _+ℤ_, _*ℤ_}

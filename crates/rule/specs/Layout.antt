@@ -1,4 +1,4 @@
--- The rule sheet's sizes and places. Assumes nothing.
+-- The rule sheet's sizes and places. A rule is a formula, given as its subformulas, the parts. Assumes nothing.
 use Prim.Native.Nat.{ℕ, _+_, _*_}
 use mathlib.Core.List.{List}
 use mathlib.Core.Bool.{Bool, _&&_}
