@@ -13,6 +13,7 @@ use Rattle.worked_examples.specs.Questions.{Question}
 use Rattle.worked_examples.specs.Calls.{Call}
 use Rattle.worked_examples.specs.Handed.{questionBytes, callBytes}
 use Rattle.worked_examples.specs.Table.{examples}
+use Rattle.worked_examples.specs.MoreSheets.{copies}
 use Rattle.worked_examples.specs.More.{more}
 use Rattle.worked_examples.proofs.EveryRow.{allPass, all-pass}
 
@@ -45,7 +46,7 @@ unfolding handBytes allPass areBytes questionBytes examples
 examples-pass lo hi l h = ap₂ (λ (x y : Bool). ((x && (y && true)) && true) && true) (lt-ltb lo 256 l) (lt-ltb hi 256 h)
 
 more-pass : handBytes callBytes more ≡ true
-unfolding handBytes allPass areBytes callBytes more
+unfolding handBytes allPass areBytes callBytes more copies
 more-pass = refl
 
 pub example-bytes : (lo hi : ℕ) → lo < 256 → hi < 256 → All (λ question. All Bytes (questionBytes question)) (examples lo hi)

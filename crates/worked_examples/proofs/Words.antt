@@ -34,6 +34,7 @@ use Rattle.endless_run.specs.Packing.{refusalWord, checkWord, judgeWord}
 use Rattle.endless_run.proofs.Words.{check-word, judge-word}
 use Rattle.worked_examples.specs.Rows.{All}
 use Rattle.worked_examples.specs.Calls.{Call, checks, judges, Gives}
+use Rattle.worked_examples.specs.MoreSheets.{copies}
 use Rattle.worked_examples.specs.More.{more}
 use Rattle.worked_examples.proofs.EveryRow.{all-same}
 
@@ -52,7 +53,7 @@ given (checks rule plan marks word) e = check-word rule plan marks e (check-prom
 given (judges rule plan part row word) e = judge-word rule plan part row e (judge-promise rule plan part row refl)
 
 computed : map stated more ≡ map defined more
-unfolding stated defined more refusalWord checkWord judgeWord orAfter lowestFrom lowest _orElse_ unless refusedAt atLowest inTurnFrom inTurn numberAt signedOf signedAt valueAt partCount channelCount kindPlace operandPlace kindByte shiftOf shiftFits termFits termAt operandFits allZero bothTerms operandAt shapeOf kindUnknown partOf takenOperand takeOf partTaken partsOf isRefused untakeable sheetOutcome channels startRows cycleRows rows arrayLength readings drifts cell entry readingOf driftOf rowOf passOf last after readingOn readingAt runOf isZero anyBelow driftsAt drifting planOutcome judgeLess meets judgeEqual ofComparison tested channelLine termLine joinFirst testAt judgeCycle judgeRow comparisonAt verdictOf judgeOutcome judgedAs judgeOf markByte marked witnessOf aboveOne bytesOutcome tableOutcome byRowBefore expected noWitness isCycleRow wraps witnessInOrder steadyOutcome breaks equationOutcome wrapOutcome closingOutcome witnessOutcome partOutcome markOf witnessAt partsOutcome checkOutcome answered checkOf rule.sizesFit plan.sizesFit marks.sizesFit
+unfolding stated defined more copies refusalWord checkWord judgeWord orAfter lowestFrom lowest _orElse_ unless refusedAt atLowest inTurnFrom inTurn numberAt signedOf signedAt valueAt partCount channelCount kindPlace operandPlace kindByte shiftOf shiftFits termFits termAt operandFits allZero bothTerms operandAt shapeOf kindUnknown partOf takenOperand takeOf partTaken partsOf isRefused untakeable sheetOutcome channels startRows cycleRows rows arrayLength readings drifts cell entry readingOf driftOf rowOf passOf last after readingOn readingAt runOf isZero anyBelow driftsAt drifting planOutcome judgeLess meets judgeEqual ofComparison tested channelLine termLine joinFirst testAt judgeCycle judgeRow comparisonAt verdictOf judgeOutcome judgedAs judgeOf markByte marked witnessOf aboveOne bytesOutcome tableOutcome byRowBefore expected noWitness isCycleRow wraps witnessInOrder steadyOutcome breaks equationOutcome wrapOutcome closingOutcome witnessOutcome partOutcome markOf witnessAt partsOutcome checkOutcome answered checkOf rule.sizesFit plan.sizesFit marks.sizesFit
 computed = refl
 
 pub words : All Gives more

@@ -9,8 +9,8 @@ use Rattle.worked_examples.specs.SheetsRead.{sheets, ReadsAs}
 use Rattle.worked_examples.specs.PlansRead.{plans, sights, SizedAs, SeesAs}
 use Rattle.worked_examples.specs.Handed.{questionBytes, callBytes}
 use Rattle.worked_examples.specs.Table.{examples, ruleE1, ruleE2, ruleE4, planA, planB, planE10}
-use Rattle.worked_examples.specs.MoreSheets.{ruleKinds, ruleRelease, rulePast, ruleLimit, ruleMet, ruleReach, ruleEightChannels, ruleNoParts, ruleLong, ruleNineChannels, ruleKind0, ruleKind13, ruleShiftedConstant, ruleShiftCode9, ruleForm2, ruleChannel1, ruleNamesItself, ruleSpareByte}
-use Rattle.worked_examples.specs.MorePlans.{planThree, planStartDrift, planNoCycle, planLong}
+use Rattle.worked_examples.specs.MoreSheets.{ruleKinds, ruleRelease, rulePast, ruleLimit, ruleMet, ruleReach, ruleEightChannels, ruleNoParts, ruleLong, ruleNineChannels, ruleKind0, ruleKind13, ruleShiftedConstant, ruleShiftCode9, ruleForm2, ruleChannel1, ruleNamesItself, ruleSpareByte, ruleMostParts, ruleTooManyParts}
+use Rattle.worked_examples.specs.MorePlans.{planThree, planStartDrift, planNoCycle, planLong, planMostRows, planTooManyRows, planMostChannels, planTooManyChannels}
 use Rattle.worked_examples.specs.MoreMarks.{marksKinds, marksRelease-1, marksRelease-0, marksRelease-spare, marksLong, marksByte2, marksBytes2, marksBroken, marksSpare, marksSpareBroken, marksPast, marksLimit, marksLimitBroken, marksLimitSpare}
 
 -- A refusal is number × 2^32 + part × 2^16 + row; beside it stand its number, part and row.
@@ -63,6 +63,13 @@ more =
     ∷ checks ruleRelease planE10 marksRelease-spare 47244771328  -- 11, 2, 0
     ∷ checks ruleRelease planE10 marksRelease-0 47244771328  -- 11, 2, 0
     ∷ checks ruleE4 planA marksSpareBroken 47244705792  -- 11, 1, 0
+    -- The largest sizes are allowed, so that the next string is what is refused, and larger ones are not (E12).
+    ∷ checks ruleMostParts [] [] 17179869184  -- 4, 0, 0
+    ∷ checks ruleTooManyParts [] [] 4294967296  -- 1, 0, 0
+    ∷ checks ruleE1 planMostRows [] 30064771072  -- 7, 0, 0
+    ∷ checks ruleE1 planTooManyRows [] 17179869184  -- 4, 0, 0
+    ∷ checks ruleEightChannels planMostChannels [] 30064771072  -- 7, 0, 0
+    ∷ checks ruleEightChannels planTooManyChannels [] 17179869184  -- 4, 0, 0
     -- Judged on start rows and on cycle rows: 0 always false, 1 always true, 2 changes.
     ∷ judges ruleKinds planThree 0 0 1
     ∷ judges ruleKinds planThree 0 1 0

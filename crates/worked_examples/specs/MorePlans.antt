@@ -1,6 +1,7 @@
 -- The plans of more examples: their bytes. Assumes nothing.
 use Prim.Native.Nat.{ℕ}
 use mathlib.Core.List.{List, [], _∷_}
+use lib.ListN.{replicate}
 
 -- V 3, P 2, C 3, channels x, y, z. Readings -2, -1, -3; 7, -7, 6; -70000, -1, -4; 300, 299, -3; 2, 3, 10. Drifts of the cycle
 -- rows -256, -256, -5; 1, 0, 0; 100, 100, 2
@@ -45,3 +46,21 @@ planLong =
     ∷ 0x05 ∷ 0x00 ∷ 0x00 ∷ 0x00
     ∷ 0x00 ∷ 0x00 ∷ 0x00 ∷ 0x00
     ∷ 0x00 ∷ []
+
+-- The largest sizes, and one more: all readings and drifts are 0.
+
+-- V 1, P 0, C 256
+abbrev pub planMostRows : List ℕ
+planMostRows = 0x01 ∷ 0x00 ∷ 0x00 ∷ 0x00 ∷ 0x00 ∷ 0x01 ∷ replicate 2048 0x00
+
+-- V 1, P 0, C 257
+abbrev pub planTooManyRows : List ℕ
+planTooManyRows = 0x01 ∷ 0x00 ∷ 0x00 ∷ 0x00 ∷ 0x01 ∷ 0x01 ∷ replicate 2056 0x00
+
+-- V 8, P 0, C 1
+abbrev pub planMostChannels : List ℕ
+planMostChannels = 0x08 ∷ 0x00 ∷ 0x00 ∷ 0x00 ∷ 0x01 ∷ 0x00 ∷ replicate 64 0x00
+
+-- V 9, P 0, C 1
+abbrev pub planTooManyChannels : List ℕ
+planTooManyChannels = 0x09 ∷ 0x00 ∷ 0x00 ∷ 0x00 ∷ 0x01 ∷ 0x00 ∷ replicate 72 0x00

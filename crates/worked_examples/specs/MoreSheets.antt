@@ -1,6 +1,6 @@
 -- The rule sheets of more examples: their bytes. Assumes nothing.
-use Prim.Native.Nat.{ℕ}
-use mathlib.Core.List.{List, [], _∷_}
+use Prim.Native.Nat.{ℕ, zero, suc}
+use mathlib.Core.List.{List, [], _∷_, _++_}
 
 -- Sheets that are read. Channels 0, 1 and 2 are x, y and z.
 
@@ -150,3 +150,22 @@ ruleSpareByte =
     ∷ 0x01 ∷ 0x03
     ∷ 0x01 ∷ 0x04 ∷ 0x00 ∷ 0x00 ∷ 0x00 ∷ 0x00 ∷ 0x00 ∷ 0x04 ∷ 0x19 ∷ 0x00 ∷ 0x00 ∷ 0x00
     ∷ 0x00 ∷ 0x00 ∷ 0x00 ∷ 0x00 ∷ 0x00 ∷ 0x00 ∷ 0x00 ∷ 0x00 ∷ 0x00 ∷ 0x00 ∷ 0x00 ∷ 0x01 ∷ []
+
+-- The largest number of parts, and one more.
+
+-- n copies of some bytes
+unfoldable pub copies : ℕ → List ℕ → List ℕ
+copies zero bytes = []
+copies (suc n) bytes = bytes ++ copies n bytes
+
+-- x < 25, an operand
+abbrev pub below25 : List ℕ
+below25 = 0x01 ∷ 0x04 ∷ 0x00 ∷ 0x00 ∷ 0x00 ∷ 0x00 ∷ 0x00 ∷ 0x04 ∷ 0x19 ∷ 0x00 ∷ 0x00 ∷ 0x00 ∷ []
+
+-- N 64, V 1: x < 25, 64 times
+abbrev pub ruleMostParts : List ℕ
+ruleMostParts = 0x40 ∷ 0x00 ∷ 0x01 ∷ 0x00 ∷ (copies 64 (0x01 ∷ []) ++ copies 64 below25)
+
+-- N 65
+abbrev pub ruleTooManyParts : List ℕ
+ruleTooManyParts = 0x41 ∷ 0x00 ∷ 0x01 ∷ 0x00 ∷ (copies 65 (0x01 ∷ []) ++ copies 65 below25)
