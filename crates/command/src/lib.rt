@@ -1,6 +1,7 @@
 // What the programs share: a file and an argument read, and the line of a refusal.
 ghost use mathlib.Core.Path.{_≡_};
-ghost use Prim.Native.Nat.{_≤_};
+ghost use Prim.Native.Nat.{ℕ, _≤_};
+ghost use mathlib.Core.List.{List};
 ghost use Rattle.io.specs.Counts.{Counts};
 ghost use Rattle.command.specs.Argument.{withDigit, argumentOf};
 use libc::STDOUT_FILENO;
@@ -58,8 +59,10 @@ pub fn number_of(text: &[u8]) -> u64
     n
 }
 
-// The number that an argument of the program stands for. A missing one stands for none.
-pub fn argument(i: usize) -> u64 {
+// The number that an argument of the program stands for, whatever text it is. A missing one stands for none.
+pub fn argument(i: usize) -> u64
+    ensures { λ r. ⌜ ((text : List ℕ) × (r ≡ argumentOf text)) ⌝ }
+{
     let mut text = [0u8; 32];
     let n = os::arg(i, &mut text);
     number_of(&text[..n])
