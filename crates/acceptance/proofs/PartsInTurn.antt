@@ -4,8 +4,7 @@ use native.Mathlib.Omega.{arith}
 use mathlib.Core.Path.{_≡_, refl, sym, ap, ap₂, _∙_, subst, subst₂}
 use mathlib.Core.List.{List}
 use mathlib.Core.Bool.{Bool, true, false, cond}
-use Rattle.cltlb.specs.Parts.{NamesLower}
-use Rattle.cltlb.specs.inner.Fits.{ComparisonFits}
+use Rattle.cltlb.specs.inner.Fits.{NamesLower, ComparisonFits}
 use Rattle.cltlb.specs.declared.Part.{Part}
 use Rattle.refusal.specs.Lowest.{lowestFrom}
 use Rattle.refusal.specs.First.{_orElse_, refusedAt, atLowest, inTurn}

@@ -4,7 +4,8 @@ use Prim.Native.Nat.{ℕ, zero, suc, _<_}
 use native.Mathlib.Nat.{not-suc-le-zero}
 use native.Mathlib.Omega.{arith}
 use Rattle.cltlb.specs.Truth.{Formula}
-use Rattle.cltlb.specs.Parts.{formulaFrom, formulaTo, formulaOf, NamesLower}
+use Rattle.cltlb.specs.Parts.{formulaFrom, formulaTo, formulaOf}
+use Rattle.cltlb.specs.inner.Fits.{NamesLower}
 use Rattle.cltlb.specs.declared.Part.{Part}
 use Rattle.cltlb.specs.declared.Part.the-variants.{Less, Equal, Not, And, Or, Next, Until, Release, Yesterday, WeakYesterday, Since, Trigger}
 

@@ -1,5 +1,5 @@
 -- The parts of a rule, each named by its number, and the formula that a part stands for. Assumes nothing.
-use Prim.Native.Nat.{ℕ, zero, suc, _<_}
+use Prim.Native.Nat.{ℕ, zero, suc}
 use mathlib.Core.Bool.{Bool, true, false}
 use lib.IntN.{pos}
 use Rattle.cltlb.specs.Truth.{Formula}
@@ -44,18 +44,3 @@ formulaTo parts (suc depth) i = formulaFrom (parts i) (formulaTo parts depth)
 -- The formula of part i. A named part is lower than its user, so that i + 1 deep is deep enough (proofs/Depth).
 unfoldable pub formulaOf : (ℕ → Part) → ℕ → Formula
 formulaOf parts i = formulaTo parts (suc i) i
-
--- The parts that a part with number i names are lower.
-unfoldable pub NamesLower : ℕ → Part → Type 0
-NamesLower i (Less x y) = Unit {0}
-NamesLower i (Equal x y) = Unit {0}
-NamesLower i (Not a) = a < i
-NamesLower i (And a b) = (a < i) × (b < i)
-NamesLower i (Or a b) = (a < i) × (b < i)
-NamesLower i (Next a) = a < i
-NamesLower i (Until a b) = (a < i) × (b < i)
-NamesLower i (Release a b) = (a < i) × (b < i)
-NamesLower i (Yesterday a) = a < i
-NamesLower i (WeakYesterday a) = a < i
-NamesLower i (Since a b) = (a < i) × (b < i)
-NamesLower i (Trigger a b) = (a < i) × (b < i)

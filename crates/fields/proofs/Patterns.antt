@@ -13,7 +13,8 @@ use borrow.Author.Tests.{lt-ltb, le-ltb, ltb-true, ltb-false}
 use mir.Syntax.{w32}
 use mir.Val.{SFits, toZ}
 use mir.ValLaws.{toZ-pos}
-use Rattle.fields.specs.TwosComplement.{signedOf, patternOf, SignedFits}
+use Rattle.fields.specs.TwosComplement.{signedOf, patternOf}
+use Rattle.fields.specs.inner.Ranges.{SignedFits}
 
 module _ (w n : ℕ) where
   -- the lower half of the patterns

@@ -8,7 +8,8 @@ use mathlib.Core.Path.{_≡_, refl, sym, ap, ap₂, _∙_, subst}
 use mathlib.Core.List.{List, [], _∷_, _++_, append-assoc}
 use lib.ListN.{length, getD, take, drop, length-append}
 use lib.Seq.{drop-cons, getD-at}
-use Rattle.fields.specs.LittleEndian.{numberAt, bytesOf, Bytes}
+use Rattle.fields.specs.LittleEndian.{numberAt, bytesOf}
+use Rattle.fields.specs.inner.Ranges.{Bytes}
 
 -- a number of w bytes is below 256 ^ w
 pub number-lt : (w : ℕ) (s : List ℕ) (at : ℕ) → Bytes s → numberAt w s at < 256 ^ w

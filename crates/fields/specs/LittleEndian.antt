@@ -1,5 +1,5 @@
 -- Unsigned little-endian fields of a list of bytes, of any width. Assumes nothing.
-use Prim.Native.Nat.{ℕ, zero, suc, _+_, _*_, _/_, _%_, _<_}
+use Prim.Native.Nat.{ℕ, zero, suc, _+_, _*_, _/_, _%_}
 use mathlib.Core.List.{List, [], _∷_}
 use lib.ListN.{getD}
 
@@ -12,7 +12,3 @@ numberAt (suc w) s at = getD s at 0 + 256 * numberAt w s (at + 1)
 unfoldable pub bytesOf : ℕ → ℕ → List ℕ
 bytesOf zero n = []
 bytesOf (suc w) n = (n % 256) ∷ bytesOf w (n / 256)
-
--- every element is a byte
-unfoldable pub Bytes : List ℕ → Type 0
-Bytes s = (i : ℕ) → getD s i 0 < 256

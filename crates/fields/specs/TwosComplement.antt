@@ -1,5 +1,5 @@
 -- Signed fields: two's complement in w bytes. Assumes nothing.
-use Prim.Native.Nat.{ℕ, suc, _*_, _-_, _^_, _≤_, _<_}
+use Prim.Native.Nat.{ℕ, suc, _*_, _-_, _^_}
 use mathlib.Core.Bool.{cond}
 use mathlib.Core.List.{List}
 use lib.Dec.{ltb}
@@ -14,11 +14,6 @@ signedOf w n = cond (ltb (2 * n) (256 ^ w)) (pos n) (subℕ n (256 ^ w))
 unfoldable pub patternOf : ℕ → ℤ → ℕ
 patternOf w (pos n) = n
 patternOf w (negsuc n) = 256 ^ w - suc n
-
--- the numbers that w bytes can hold
-unfoldable pub SignedFits : ℕ → ℤ → Type 0
-SignedFits w (pos n) = 2 * n < 256 ^ w
-SignedFits w (negsuc n) = 2 * suc n ≤ 256 ^ w
 
 -- the number that the w bytes from `at` on stand for
 unfoldable pub signedAt : ℕ → List ℕ → ℕ → ℤ

@@ -16,14 +16,13 @@ use Rattle.plan.specs.Layout.{startRows, cycleRows}
 use Rattle.plan.specs.Run.{runOf}
 use Rattle.fields.proofs.Differences.{sub-pos}
 use Rattle.plan.proofs.Lines.{run-later}
-use Rattle.judge.specs.Lines.{onPass}
 use Rattle.judge.specs.Comparisons.{testOf, judgeLines}
 use Rattle.judge.specs.Rows.{tested, channelLine, termLine, joinFirst, testAt, judgeCycle}
 use Rattle.cltlb.specs.inner.Fits.{ShiftFits, TermFits}
 use Rattle.judge.specs.inner.Reach.{back, reach}
 use Rattle.judge.specs.declared.Relation.{Relation}
 use Rattle.judge.proofs.Passes.{PassMeans, means-iff, means-one, first-means}
-use Rattle.judge.proofs.Decisions.{Decides, Judges, Relates, tells, judges}
+use Rattle.judge.proofs.Decisions.{onPass, Decides, Judges, Relates, tells, judges}
 
 -- No shift reaches back more than four positions.
 pub reach-le : (v : ℕ) (x : Term) → TermFits v x → reach x ≤ 4

@@ -12,13 +12,17 @@ use lib.IntN.{ℤ, pos, negsuc, subℕ, natAbs, _+ℤ_, _-ℤ_, _*ℤ_, pos-ne-n
 use lib.Signed.{_<ℤ_, ltZ}
 use borrow.Author.Tests.{lt-ltb, le-ltb, eq-eqb, ne-eqb, eqb-true, ltb-true}
 use Rattle.fields.proofs.Differences.{by-sub, sub-same, sub-pos, sub-add, sub-line, sub-negate, sub-lt, sub-eq}
-use Rattle.judge.specs.Lines.{Line, eqZ, onPass, judgeLess, meets, judgeEqual}
+use Rattle.judge.specs.Lines.{Line, eqZ, judgeLess, meets, judgeEqual}
 use Rattle.judge.specs.Comparisons.{testOf, judgeLines}
 use Rattle.judge.specs.declared.Relation.{Relation}
 use Rattle.judge.specs.declared.Relation.the-variants.{Below, Same}
 use Rattle.judge.specs.declared.Verdict.{Verdict}
 use Rattle.judge.specs.declared.Verdict.the-variants.{AlwaysTrue, AlwaysFalse, Changes}
 use Rattle.judge.proofs.Passes.{PassMeans, means-iff}
+
+-- the number of a line on the k-th pass after its first one
+unfoldable pub onPass : Line → ℕ → ℤ
+onPass x k = x .at +ℤ pos k *ℤ x .step
 
 -- ---- tests of two integers
 

@@ -9,8 +9,8 @@ use mathlib.Core.Logic.{by-cases}
 use mathlib.Core.Bool.{Bool, true, false, _&&_}
 use lib.Dec.{ltb}
 use borrow.Author.Tests.{lt-ltb, le-ltb}
-use Rattle.cltlb.specs.Parts.{isComparison, NamesLower}
-use Rattle.cltlb.specs.inner.Fits.{ComparisonFits}
+use Rattle.cltlb.specs.Parts.{isComparison}
+use Rattle.cltlb.specs.inner.Fits.{NamesLower, ComparisonFits}
 use Rattle.cltlb.specs.declared.Part.{Part}
 use Rattle.refusal.specs.declared.Refusal.{Refusal}
 use Rattle.refusal.specs.declared.Refusal.the-variants.{Absent}
@@ -22,7 +22,8 @@ use Rattle.rule.specs.inner.Sizes as ruleSizes
 use Rattle.rule.specs.declared.sizes.Sizes.the-variants as R
 use Rattle.rule.specs.declared.Taken.{Taken}
 use Rattle.rule.specs.declared.Taken.the-variants as K
-use Rattle.rule.specs.Take.{takeOf, partTaken, partsOf, refusalTaken}
+use Rattle.rule.specs.Take.{takeOf, partTaken, partsOf}
+use Rattle.rule.specs.inner.Known.{refusalTaken}
 use Rattle.rule.specs.Sheet.{sheetOutcome}
 use Rattle.rule.proofs.SizesRead.{wrong-sizes, right-sizes}
 use Rattle.rule.proofs.Taking.{take-absent}

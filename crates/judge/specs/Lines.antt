@@ -1,8 +1,8 @@
 -- The verdict on two numbers that each grow by a fixed step on every pass. Assumes nothing.
-use Prim.Native.Nat.{ℕ, _%_}
+use Prim.Native.Nat.{_%_}
 use mathlib.Core.Bool.{Bool, true, false, cond, _&&_}
 use lib.Dec.{eqb}
-use lib.IntN.{ℤ, pos, negsuc, natAbs, _+ℤ_, _-ℤ_, _*ℤ_}
+use lib.IntN.{ℤ, pos, negsuc, natAbs, _-ℤ_}
 use lib.Signed.{ltZ}
 use Rattle.judge.specs.declared.Verdict.{Verdict}
 use Rattle.judge.specs.declared.Verdict.the-variants.{AlwaysTrue, AlwaysFalse, Changes}
@@ -11,9 +11,6 @@ use Rattle.judge.specs.declared.Verdict.the-variants.{AlwaysTrue, Always
 pub record Line : Type 0 where
   pub at : ℤ
   pub step : ℤ
-
-unfoldable pub onPass : Line → ℕ → ℤ
-onPass x k = x .at +ℤ pos k *ℤ x .step
 
 abbrev pub eqZ : ℤ → ℤ → Bool
 eqZ (pos a) (pos b) = eqb a b

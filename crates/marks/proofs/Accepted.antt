@@ -10,7 +10,8 @@ use native.Mathlib.Decide.{decLt}
 use native.Mathlib.Omega.{arith}
 use lib.Dec.{T}
 use Rattle.cltlb.specs.Truth.{Formula, Holds}
-use Rattle.cltlb.specs.Parts.{formulaOf, NamesLower}
+use Rattle.cltlb.specs.Parts.{formulaOf}
+use Rattle.cltlb.specs.inner.Fits.{NamesLower, ComparisonFits}
 use Rattle.cltlb.specs.declared.Part.{Part}
 use Rattle.cltlb.proofs.Depth.{formula-made}
 use Rattle.refusal.specs.First.{inTurn}
@@ -19,7 +20,6 @@ use Rattle.refusal.proofs.First.{inTurn-clear}
 use Rattle.plan.specs.Layout.{startRows, cycleRows, rows}
 use Rattle.plan.specs.Positions.{passOf}
 use Rattle.plan.specs.Run.{runOf}
-use Rattle.cltlb.specs.inner.Fits.{ComparisonFits}
 use Rattle.marks.specs.Parts.{witnessInOrder, partOutcome}
 use Rattle.marks.specs.Meaning.{Truth, SettledOn, PartSettled, MarkTrue, PartMarksTrue, PartWitnessed, Settled, MarksTrue, WitnessesInOrder}
 use Rattle.marks.proofs.Tests.{T-path, T-ext}

@@ -9,7 +9,8 @@ use native.Mathlib.Decide.{decLt}
 use native.Mathlib.Omega.{arith}
 use lib.Dec.{T, T-not}
 use Rattle.cltlb.specs.Truth.{Formula, Holds}
-use Rattle.cltlb.specs.Parts.{isComparison, formulaFrom, NamesLower}
+use Rattle.cltlb.specs.Parts.{isComparison, formulaFrom}
+use Rattle.cltlb.specs.inner.Fits.{NamesLower}
 use Rattle.cltlb.specs.declared.Part.{Part}
 use Rattle.refusal.specs.Lowest.{lowestFrom, lowest}
 use Rattle.refusal.specs.First.{refusedAt, atLowest}

@@ -8,7 +8,8 @@ use Prim.Native.Nat.{ℕ, suc, _+_, _≤_, _<_}
 use native.Mathlib.Omega.{arith}
 use lib.Dec.{T}
 use Rattle.cltlb.specs.Truth.{Formula, Holds}
-use Rattle.cltlb.specs.Parts.{isComparison, formulaFrom, NamesLower}
+use Rattle.cltlb.specs.Parts.{isComparison, formulaFrom}
+use Rattle.cltlb.specs.inner.Fits.{NamesLower}
 use Rattle.cltlb.specs.declared.Part.{Part}
 use Rattle.cltlb.proofs.Shifted.{Repeats, until-shift, release-shift}
 use Rattle.cltlb.specs.declared.Part.the-variants.{Less, Equal, Not, And, Or, Next, Until, Release, Yesterday, WeakYesterday, Since, Trigger}

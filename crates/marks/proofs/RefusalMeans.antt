@@ -6,8 +6,8 @@ use mathlib.Core.Logic.{⊎-elim}
 use Prim.Native.Nat.{ℕ, _≤_, _<_}
 use native.Mathlib.Omega.{arith}
 use lib.Dec.{T}
-use Rattle.cltlb.specs.Parts.{isComparison, formulaOf, NamesLower}
-use Rattle.cltlb.specs.inner.Fits.{ComparisonFits}
+use Rattle.cltlb.specs.Parts.{isComparison, formulaOf}
+use Rattle.cltlb.specs.inner.Fits.{NamesLower, ComparisonFits}
 use Rattle.cltlb.specs.declared.Part.{Part}
 use Rattle.cltlb.proofs.Depth.{formula-made}
 use Rattle.refusal.specs.First.{_orElse_, inTurn}

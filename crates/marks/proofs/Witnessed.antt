@@ -8,7 +8,8 @@ use native.Mathlib.Omega.{arith}
 use lib.Dec.{T, leb, ltb, eqb, le→leb, lt→ltb, eqb-refl, T-not}
 use Rattle.cltlb.specs.Operators.{Until, Release}
 use Rattle.cltlb.specs.Truth.{Formula, Holds}
-use Rattle.cltlb.specs.Parts.{formulaFrom, NamesLower}
+use Rattle.cltlb.specs.Parts.{formulaFrom}
+use Rattle.cltlb.specs.inner.Fits.{NamesLower}
 use Rattle.cltlb.specs.declared.Part.{Part}
 use Rattle.cltlb.proofs.Duals.{somewhere}
 use Rattle.plan.specs.Layout.{startRows, cycleRows, rows}

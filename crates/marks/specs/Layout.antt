@@ -20,10 +20,11 @@ sizesFit n w table =
 unfoldable pub markByte : ℕ → List ℕ → ℕ → ℕ → ℕ
 markByte w table part row = getD table (4 + (part * w + row)) 0
 
+-- the row is labelled with the subformula
 unfoldable pub marked : ℕ → List ℕ → ℕ → ℕ → Bool
 marked w table part row = eqb (markByte w table part row) 1
 
--- and N witnesses of 2 bytes.
+-- and N witnesses, of eventualities, of 2 bytes.
 unfoldable pub witnessOf : ℕ → ℕ → List ℕ → ℕ → ℕ
 witnessOf n w table part = numberAt 2 table (4 + n * w + 2 * part)
 

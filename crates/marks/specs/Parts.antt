@@ -34,7 +34,8 @@ module _ (P C : ℕ) where
   isCycleRow row = leb P row && ltb row (P + C)
 
   module _ (mark : ℕ → ℕ → Bool) where
-    -- for Y, Z, S and T: the equation for a row above 0 also holds on row P with row W - 1 as the row before
+    -- Closing, the consistency of the loop, for Y, Z, S and T: the equation for a row above 0 also holds on row P with row W - 1
+    -- as the row before.
     unfoldable pub wraps : Part → ℕ → Bool
     wraps p i = Bool·beq (mark i P) (byRowBefore mark p i P (last P C))
 

@@ -22,21 +22,25 @@ module _ (parts : ℕ → Part) (n : ℕ) (plan : List ℕ) (mark : ℕ → ℕ 
     pub present : i < n
     pub lower : (j : ℕ) → j < i → PartRight j
 
-  -- 9 of part i and a row: the marks of the part are not all true. The mark on that row is false; of U and R it is that one or
-  -- the part's own mark on the row after, which the equation looks at.
+  -- 9 of part i and a row
   pub record EquationMeans (i row : ℕ) : Type 0 where
     pub fault : FirstFault i
     pub row-there : row < rows plan
+    -- the marks of the part are not all true:
     pub not-true : ¬ PartMarksTrue parts plan i mark
+    -- the one on that row is false;
     pub false-here : ((a b : ℕ) → ¬ (parts i ≡ Until a b)) → ((a b : ℕ) → ¬ (parts i ≡ Release a b)) → ¬ MarkTrue parts plan i mark row
+    -- of U and R, that one or the one on the row after, at which the equation looks
     pub false-beside : ¬ (MarkTrue parts plan i mark row × MarkTrue parts plan i mark (after (startRows plan) (cycleRows plan) row))
 
-  -- 10 of part i and a row: it is a cycle row on which the part's truth is not the same on all passes, whatever its marks say;
-  -- of a comparison it is the lowest such row.
+  -- 10 of part i and a row
   pub record ClosingMeans (i row : ℕ) : Type 0 where
     pub fault : FirstFault i
+    -- it is a cycle row
     pub in-cycle : (startRows plan ≤ row) × (row < rows plan)
+    -- on which the part's truth is not the same on all passes, whatever its marks say;
     pub differs : DiffersOn parts plan i row
+    -- of a comparison it is the lowest such row
     pub lowest : isComparison (parts i) ≡ true → (q : ℕ) → startRows plan ≤ q → q < row → SettledOn parts plan i q
 
   -- 11 of part i: its witness is not in order

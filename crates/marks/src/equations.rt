@@ -3,7 +3,8 @@
 ghost use mathlib.Core.Path.{_≡_};
 ghost use mathlib.Core.Bool.{true, false};
 ghost use Prim.Native.Nat.{_+_, _*_, _≤_, _<_};
-ghost use Rattle.cltlb.specs.Parts.{isComparison, NamesLower};
+ghost use Rattle.cltlb.specs.Parts.{isComparison};
+ghost use Rattle.cltlb.specs.inner.Fits.{NamesLower};
 ghost use Rattle.plan.specs.Positions.{after};
 ghost use Rattle.marks.specs.Layout.{marked};
 ghost use Rattle.marks.specs.inner.Tables.{allBelow, copiesOf, stepsOf, looksBack, meetsBeside, meetsOn, Sized};

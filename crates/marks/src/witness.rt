@@ -2,7 +2,7 @@
 ghost use mathlib.Core.Path.{_≡_};
 ghost use mathlib.Core.Bool.{_&&_};
 ghost use Prim.Native.Nat.{_+_, _≤_, _<_};
-ghost use Rattle.cltlb.specs.Parts.{NamesLower};
+ghost use Rattle.cltlb.specs.inner.Fits.{NamesLower};
 ghost use Rattle.marks.specs.Layout.{marked, witnessOf};
 ghost use Rattle.marks.specs.inner.Tables.{flipped, Sized};
 ghost use Rattle.marks.specs.Parts.{isCycleRow, witnessInOrder};

@@ -14,9 +14,11 @@ use Rattle.fields.specs.TwosComplement.{signedAt}
 unfoldable pub channels : List ℕ → ℕ
 channels plan = numberAt 2 plan 0
 
+-- the rows of the stem
 unfoldable pub startRows : List ℕ → ℕ
 startRows plan = numberAt 2 plan 2
 
+-- the rows of the loop
 unfoldable pub cycleRows : List ℕ → ℕ
 cycleRows plan = numberAt 2 plan 4
 
@@ -57,5 +59,6 @@ entry array index = signedAt 4 array (4 * index)
 unfoldable pub readingOf : List ℕ → ℕ → ℕ → ℤ
 readingOf plan row channel = entry (readings plan) (cell (channels plan) row channel)
 
+-- what the reading gains on each iteration of the loop
 unfoldable pub driftOf : List ℕ → ℕ → ℕ → ℤ
 driftOf plan row channel = entry (drifts plan) (cell (channels plan) row channel)

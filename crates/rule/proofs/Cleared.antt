@@ -9,8 +9,7 @@ use Rattle.refusal.specs.declared.Outcome.the-variants.{Clear}
 use Rattle.refusal.specs.declared.Refusal.the-variants.{RuleSizes, Kind, Operand}
 use Rattle.refusal.specs.First.{_orElse_, unless, atLowest}
 use Rattle.refusal.proofs.First.{orElse-clear, unless-clear, atLowest-clear}
-use Rattle.cltlb.specs.Parts.{NamesLower}
-use Rattle.cltlb.specs.inner.Fits.{ComparisonFits}
+use Rattle.cltlb.specs.inner.Fits.{NamesLower, ComparisonFits}
 use Rattle.rule.specs.declared.Taken.{Taken}
 use Rattle.rule.specs.declared.Taken.the-variants as K
 use Rattle.rule.specs.Layout.{partCount, channelCount, sizesFit}

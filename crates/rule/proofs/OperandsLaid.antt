@@ -9,7 +9,8 @@ use lib.Dec.{eqb}
 use lib.ListN.{length, take, drop, replicate, length-append, length-take, length-drop}
 use lib.Seq.{take-add, drop-drop}
 use borrow.Author.Tests.{eqb-true}
-use Rattle.fields.specs.LittleEndian.{numberAt, bytesOf, Bytes}
+use Rattle.fields.specs.LittleEndian.{numberAt, bytesOf}
+use Rattle.fields.specs.inner.Ranges.{Bytes}
 use Rattle.fields.proofs.Widths.{length-bytes, read-written, written-read}
 use Rattle.cltlb.specs.declared.Term.{Term}
 use Rattle.rule.specs.declared.terms.TermRead.{TermRead}

@@ -6,8 +6,7 @@ use mathlib.Core.Bool.{true, not}
 use lib.Dec.{ltb}
 use lib.IntN.{ℤ, pos, negsuc}
 use borrow.Author.Tests.{leb-true, ltb-false, not-true}
-use Rattle.cltlb.specs.Parts.{NamesLower}
-use Rattle.cltlb.specs.inner.Fits.{ShiftFits, TermFits, ComparisonFits}
+use Rattle.cltlb.specs.inner.Fits.{NamesLower, ShiftFits, TermFits, ComparisonFits}
 use Rattle.cltlb.specs.declared.Term.{Term}
 use Rattle.cltlb.specs.declared.Term.the-variants as T
 use Rattle.cltlb.specs.declared.Part.{Part}

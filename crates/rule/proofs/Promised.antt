@@ -7,7 +7,7 @@ use Rattle.refusal.specs.declared.Refusal.{Refusal}
 use Rattle.refusal.specs.declared.Outcome.{Outcome}
 use Rattle.refusal.specs.declared.Outcome.the-variants.{Clear, Refused}
 use Rattle.refusal.proofs.First.{clear-refused}
-use Rattle.fields.specs.LittleEndian.{Bytes}
+use Rattle.fields.specs.inner.Ranges.{Bytes}
 use Rattle.cltlb.specs.declared.Part.{Part}
 use Rattle.rule.specs.declared.Taken.{Taken}
 use Rattle.rule.specs.declared.Taken.the-variants as K

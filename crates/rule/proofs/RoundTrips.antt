@@ -12,7 +12,7 @@ use Rattle.refusal.specs.declared.Outcome.the-variants.{Clear}
 use Rattle.refusal.specs.declared.Refusal.the-variants.{RuleSizes, Operand, Absent}
 use Rattle.refusal.specs.First.{_orElse_, unless}
 use Rattle.refusal.proofs.First.{orElse-clear, unless-clear}
-use Rattle.fields.specs.LittleEndian.{Bytes}
+use Rattle.fields.specs.inner.Ranges.{Bytes}
 use Rattle.cltlb.specs.declared.Part.{Part}
 use Rattle.rule.specs.declared.Taken.the-variants as K
 use Rattle.rule.specs.Layout.{partCount, channelCount, kindByte, kindPlace, operandPlace, sizesFit}

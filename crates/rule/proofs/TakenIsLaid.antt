@@ -12,7 +12,7 @@ use borrow.Author.Tests.{lt-leb, leb-false, not-false}
 use Rattle.refusal.specs.declared.Refusal.{Refusal}
 use Rattle.refusal.specs.declared.Refusal.the-variants.{RuleSizes, Kind, Absent}
 use Rattle.refusal.specs.declared.Refusal.the-variants as N
-use Rattle.fields.specs.LittleEndian.{Bytes}
+use Rattle.fields.specs.inner.Ranges.{Bytes}
 use Rattle.cltlb.specs.declared.Part.{Part}
 use Rattle.rule.specs.declared.Taken.{Taken}
 use Rattle.rule.specs.declared.Taken.the-variants as K

@@ -11,8 +11,9 @@ use lib.ListN.{length, getD, take, drop, length-append}
 use lib.Seq.{drop-cons, getD-at}
 use lib.IntN.{pos, negsuc}
 use borrow.Author.Tests.{ltb-true, ltb-false, eqb-true}
-use Rattle.fields.specs.LittleEndian.{numberAt, bytesOf, Bytes}
-use Rattle.fields.specs.TwosComplement.{signedOf, signedAt, patternOf, SignedFits}
+use Rattle.fields.specs.LittleEndian.{numberAt, bytesOf}
+use Rattle.fields.specs.inner.Ranges.{Bytes, SignedFits}
+use Rattle.fields.specs.TwosComplement.{signedOf, signedAt, patternOf}
 use Rattle.fields.proofs.Widths.{number-lt, read-written, written-read}
 use Rattle.fields.proofs.Patterns.{pattern-signed, signed-pattern, pattern-lt, signed-fits}
 use Rattle.cltlb.specs.declared.Term.{Term}

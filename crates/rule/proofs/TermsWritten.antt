@@ -6,7 +6,8 @@ use mathlib.Core.List.{List, [], _∷_, _++_}
 use lib.ListN.{length, drop, set}
 use lib.IntN.{ℤ}
 use Rattle.fields.specs.LittleEndian.{bytesOf}
-use Rattle.fields.specs.TwosComplement.{patternOf, SignedFits}
+use Rattle.fields.specs.TwosComplement.{patternOf}
+use Rattle.fields.specs.inner.Ranges.{SignedFits}
 use Rattle.fields.proofs.Widths.{length-bytes}
 use Rattle.cltlb.specs.declared.Term.{Term}
 use Rattle.cltlb.specs.declared.Term.the-variants as T

@@ -22,8 +22,9 @@ use Rattle.rule.specs.Layout.{partCount, channelCount, kindByte, operand
 use Rattle.rule.specs.inner.Sizes.{sizesOf}
 use Rattle.rule.specs.Operands.{operandAt, operandFits}
 use Rattle.rule.specs.Kinds.{shapeOf, kindUnknown, partOf}
-use Rattle.rule.specs.Take.{takenOperand, takeOf, refusalTaken}
-use Rattle.rule.specs.Sheet.{isRefused, untakeable, KindsKnown, sheetOutcome}
+use Rattle.rule.specs.Take.{takenOperand, takeOf}
+use Rattle.rule.specs.inner.Known.{refusalTaken, KindsKnown}
+use Rattle.rule.specs.Sheet.{isRefused, untakeable, sheetOutcome}
 use Rattle.rule.proofs.SizesRead.{wrong-sizes, right-sizes}
 
 -- an operand that was read is refused by 3 alone

@@ -1,6 +1,5 @@
 -- The refusals of a rule sheet, 1 to 3, in the order of checking. Assumes nothing.
-use Prim.Native.Nat.{ℕ, _<_}
-use mathlib.Core.Path.{_≡_}
+use Prim.Native.Nat.{ℕ}
 use mathlib.Core.List.{List}
 use mathlib.Core.Bool.{Bool, true, false}
 use Rattle.refusal.specs.declared.Outcome.{Outcome}
@@ -11,10 +10,6 @@ use Rattle.rule.specs.declared.Taken.the-variants as K
 use Rattle.rule.specs.Layout.{partCount, sizesFit}
 use Rattle.rule.specs.Kinds.{kindUnknown}
 use Rattle.rule.specs.Take.{takeOf}
-
--- the sizes fit, and the kind bytes of the first n parts are all known
-unfoldable pub KindsKnown : List ℕ → ℕ → Type 0
-KindsKnown sheet n = (sizesFit sheet ≡ true) × (n ≡ partCount sheet) × ((i : ℕ) → i < n → kindUnknown sheet i ≡ false)
 
 -- a part that cannot be taken off the sheet
 unfoldable pub isRefused : Taken → Bool

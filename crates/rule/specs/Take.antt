@@ -4,7 +4,6 @@ use mathlib.Core.List.{List}
 use mathlib.Core.Bool.{not, cond}
 use lib.Dec.{leb}
 use lib.IntN.{pos}
-use Rattle.refusal.specs.declared.Refusal.{Refusal}
 use Rattle.refusal.specs.declared.Refusal.the-variants.{RuleSizes, Kind, Operand, Absent}
 use Rattle.cltlb.specs.declared.Term.the-variants.{Constant}
 use Rattle.cltlb.specs.declared.Part.{Part}
@@ -38,8 +37,3 @@ partTaken (K.Refused r) = Less (Constant (pos 0)) (Constant (pos 0))
 
 unfoldable pub partsOf : List ℕ → ℕ → Part
 partsOf sheet n = partTaken (takeOf sheet n)
-
--- the refusal of an answer that has no part
-abbrev pub refusalTaken : Taken → Refusal
-refusalTaken (K.Part p) = Absent
-refusalTaken (K.Refused r) = r

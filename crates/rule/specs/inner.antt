@@ -1,3 +1,4 @@
 -- What only the contracts of inner functions cite: no promise of an entry point leans on it.
 pub mod Sizes
 pub mod Laid
+pub mod Known

@@ -1,8 +1,8 @@
 // The rule sheet: one part of it taken and put, and the whole of it checked.
 ghost use mathlib.Core.Path.{_≡_};
-ghost use Rattle.rule.specs.Take.{refusalTaken};
+ghost use Rattle.rule.specs.inner.Known.{refusalTaken, KindsKnown};
 ghost use Rattle.rule.specs.Promise.{TakePromise, PutPromise};
-ghost use Rattle.rule.specs.Sheet.{untakeable, KindsKnown, sheetOutcome};
+ghost use Rattle.rule.specs.Sheet.{untakeable, sheetOutcome};
 ghost use Rattle.rule.specs.Kinds.{kindUnknown};
 ghost use Rattle.refusal.specs.First.{atLowest};
 ghost use Prim.Native.Nat.{_+_, _≤_};

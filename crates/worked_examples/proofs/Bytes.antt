@@ -6,7 +6,7 @@ use mathlib.Core.Bool.{Bool, true, _&&_}
 use mathlib.Core.List.{List, [], _∷_}
 use lib.Dec.{ltb, ltb→lt}
 use borrow.Author.Tests.{lt-ltb}
-use Rattle.fields.specs.LittleEndian.{Bytes}
+use Rattle.fields.specs.inner.Ranges.{Bytes}
 use Rattle.marks.proofs.AllBelow.{and-true}
 use Rattle.worked_examples.specs.Rows.{All}
 use Rattle.worked_examples.specs.Questions.{Question}

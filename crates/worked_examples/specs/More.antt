@@ -2,7 +2,7 @@
 -- that is said of the bytes of both tables. Assumes nothing.
 use Prim.Native.Nat.{ℕ, _<_}
 use mathlib.Core.List.{List, [], _∷_}
-use Rattle.fields.specs.LittleEndian.{Bytes}
+use Rattle.fields.specs.inner.Ranges.{Bytes}
 use Rattle.worked_examples.specs.Rows.{All}
 use Rattle.worked_examples.specs.Calls.{Call, checks, judges, Gives}
 use Rattle.worked_examples.specs.SheetsRead.{sheets, ReadsAs}

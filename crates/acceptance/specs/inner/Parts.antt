@@ -3,8 +3,7 @@ use Prim.Native.Nat.{ℕ, _+_, _<_}
 use mathlib.Core.Path.{_≡_}
 use mathlib.Core.List.{List}
 use mathlib.Core.Bool.{Bool, false, not}
-use Rattle.cltlb.specs.Parts.{NamesLower}
-use Rattle.cltlb.specs.inner.Fits.{ComparisonFits}
+use Rattle.cltlb.specs.inner.Fits.{NamesLower, ComparisonFits}
 use Rattle.cltlb.specs.declared.Part.{Part}
 use Rattle.refusal.specs.declared.Outcome.the-variants.{Clear}
 use Rattle.rule.specs.Layout.{partCount, channelCount}

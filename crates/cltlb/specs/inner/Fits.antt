@@ -1,4 +1,5 @@
--- Terms that fit a number of channels: a shift is -4 to 4, and a channel is below their number. Assumes nothing.
+-- Parts that clear refusal 3: shifts are -4 to 4, channels are below their number, and the parts that are named are lower.
+-- Assumes nothing.
 use Prim.Native.Nat.{ℕ, _≤_, _<_}
 use lib.IntN.{ℤ, pos, negsuc}
 use Rattle.cltlb.specs.declared.Term.{Term}
@@ -30,3 +31,18 @@ ComparisonFits v (Yesterday a) = Unit {0}
 ComparisonFits v (WeakYesterday a) = Unit {0}
 ComparisonFits v (Since a b) = Unit {0}
 ComparisonFits v (Trigger a b) = Unit {0}
+
+-- The parts that a part with number i names are lower.
+unfoldable pub NamesLower : ℕ → Part → Type 0
+NamesLower i (Less x y) = Unit {0}
+NamesLower i (Equal x y) = Unit {0}
+NamesLower i (Not a) = a < i
+NamesLower i (And a b) = (a < i) × (b < i)
+NamesLower i (Or a b) = (a < i) × (b < i)
+NamesLower i (Next a) = a < i
+NamesLower i (Until a b) = (a < i) × (b < i)
+NamesLower i (Release a b) = (a < i) × (b < i)
+NamesLower i (Yesterday a) = a < i
+NamesLower i (WeakYesterday a) = a < i
+NamesLower i (Since a b) = (a < i) × (b < i)
+NamesLower i (Trigger a b) = (a < i) × (b < i)

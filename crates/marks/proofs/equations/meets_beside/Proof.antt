@@ -2,7 +2,8 @@
 use mathlib.Core.Path.{sym, ap, subst, _∙_}
 use mathlib.Core.Bool.{true≢false}
 use native.Mathlib.Omega.{arith}
-use Rattle.cltlb.specs.Parts.{isComparison, NamesLower}
+use Rattle.cltlb.specs.Parts.{isComparison}
+use Rattle.cltlb.specs.inner.Fits.{NamesLower}
 use Rattle.marks.proofs.Beside.{not-met, and-met, or-met, next-met, until-met, release-met, yesterday-met, weak-met, since-met, trigger-met}
 use borrow.Author.Needs.{needs}
 use Rattle.marks.proofs.equations.meets_beside.Statement.{statement}

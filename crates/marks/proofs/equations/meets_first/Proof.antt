@@ -1,7 +1,7 @@
 -- `marks::equations::meets_first` meets its contract. Assumes nothing.
 use mathlib.Core.Path.{subst}
 use native.Mathlib.Omega.{arith}
-use Rattle.cltlb.specs.Parts.{NamesLower}
+use Rattle.cltlb.specs.inner.Fits.{NamesLower}
 use Rattle.marks.proofs.ByKind.{yesterday-first, weak-first, since-first, trigger-first, none-back}
 use borrow.Author.Needs.{needs}
 use Rattle.marks.proofs.equations.meets_first.Statement.{statement}

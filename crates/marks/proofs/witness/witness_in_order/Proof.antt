@@ -1,7 +1,7 @@
 -- `marks::witness::witness_in_order` meets its contract. Assumes nothing.
 use mathlib.Core.Path.{subst}
 use native.Mathlib.Omega.{arith}
-use Rattle.cltlb.specs.Parts.{NamesLower}
+use Rattle.cltlb.specs.inner.Fits.{NamesLower}
 use Rattle.marks.proofs.ByKind.{until-named, until-none, release-none, release-named, none-named}
 use borrow.Author.Needs.{needs}
 use Rattle.marks.proofs.witness.witness_in_order.Statement.{statement}
