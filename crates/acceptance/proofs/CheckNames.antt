@@ -4,7 +4,6 @@ use native.Mathlib.Omega.{arith}
 use mathlib.Core.Path.{_≡_, sym, _∙_}
 use mathlib.Core.List.{List}
 use mathlib.Core.Bool.{Bool}
-use mathlib.Core.Logic.{_⊎_, inl, inr}
 use lib.Dec.{ltb}
 use Rattle.cltlb.specs.declared.Part.{Part}
 use Rattle.cltlb.specs.declared.Part.the-variants.{Less, Equal, Not, And, Or, Next, Until, Release, Yesterday, WeakYesterday, Since, Trigger}
@@ -14,8 +13,7 @@ use Rattle.refusal.specs.declared.Outcome.{Outcome}
 use Rattle.refusal.specs.declared.Outcome.the-variants.{Clear, Refused}
 use Rattle.refusal.specs.Report.{reportOf}
 use Rattle.refusal.specs.First.{_orElse_, unless, atLowest, inTurn}
-use Rattle.refusal.proofs.First.{orElse-refused}
-use Rattle.refusal.proofs.Named.{Small, Within, Names, refused-names, orElse-names, unless-names, search-names, atLowest-names, inTurn-names, names-more}
+use Rattle.refusal.proofs.RefusesOnly.{Small, Within, RefusesOnly, refused-only, orElse-only, unless-only, search-only, atLowest-only, inTurn-only, orElse-second, within-small}
 use Rattle.rule.specs.Layout.{partCount, channelCount}
 use Rattle.rule.specs.Take.{partsOf}
 use Rattle.rule.specs.Sheet.{sheetOutcome}
@@ -34,25 +32,25 @@ use Rattle.acceptance.specs.Check.{markOf, witnessAt, partsOutcome, chec
 
 -- with at most 64 parts and 256 rows
 module _ (plan : List ℕ) (few : startRows plan + cycleRows plan ≤ 256) (n : ℕ) (parts : n ≤ 64) where
-  table-within : (table : List ℕ) → Names (Within 7 8) (tableOutcome n (rows plan) table)
+  table-within : (table : List ℕ) → RefusesOnly (Within 7 8) (tableOutcome n (rows plan) table)
   unfolding tableOutcome bytesOutcome aboveOne rows
   table-within table =
-      orElse-names (Within 7 8) (unless (sizesFit n (rows plan) table) MarkSizes) (inTurn (λ part. atLowest (λ row. ltb 1 (markByte (rows plan) table part row)) (rows plan) (MarkByte part)) n)
-      (unless-names (Within 7 8) (sizesFit n (rows plan) table) MarkSizes (omega arith))
-      (λ _. inTurn-names (Within 7 8) (λ part. atLowest (λ row. ltb 1 (markByte (rows plan) table part row)) (rows plan) (MarkByte part)) n
-      (λ i h. atLowest-names (Within 7 8) (λ row. ltb 1 (markByte (rows plan) table i row)) (rows plan) (MarkByte i) (λ j k. omega arith)))
+      orElse-only (Within 7 8) (unless (sizesFit n (rows plan) table) MarkSizes) (inTurn (λ part. atLowest (λ row. ltb 1 (markByte (rows plan) table part row)) (rows plan) (MarkByte part)) n)
+      (unless-only (Within 7 8) (sizesFit n (rows plan) table) MarkSizes (omega arith))
+      (λ _. inTurn-only (Within 7 8) (λ part. atLowest (λ row. ltb 1 (markByte (rows plan) table part row)) (rows plan) (MarkByte part)) n
+      (λ i h. atLowest-only (Within 7 8) (λ row. ltb 1 (markByte (rows plan) table i row)) (rows plan) (MarkByte i) (λ j k. omega arith)))
 
   module _ (mark : ℕ → ℕ → Bool) (i : ℕ) (low : i < n) where
-    steady-small : (p : Part) → Names Small (steadyOutcome plan p i)
+    steady-small : (p : Part) → RefusesOnly Small (steadyOutcome plan p i)
     unfolding steadyOutcome
-    steady-small p = search-names Small (λ row. isChanges (verdictOf plan p row)) (startRows plan) (cycleRows plan) (Closing i) (λ j a b. omega arith)
+    steady-small p = search-only Small (λ row. isChanges (verdictOf plan p row)) (startRows plan) (cycleRows plan) (Closing i) (λ j a b. omega arith)
 
-    wrap-small : (p : Part) → Names Small (wrapOutcome plan mark p i)
+    wrap-small : (p : Part) → RefusesOnly Small (wrapOutcome plan mark p i)
     unfolding wrapOutcome
-    wrap-small p = unless-names Small (wraps (startRows plan) (cycleRows plan) mark p i) (Closing i (startRows plan)) (omega arith)
+    wrap-small p = unless-only Small (wraps (startRows plan) (cycleRows plan) mark p i) (Closing i (startRows plan)) (omega arith)
 
-    closing-small : (p : Part) → Names Small (closingOutcome plan mark p i)
-    unfolding closingOutcome Names
+    closing-small : (p : Part) → RefusesOnly Small (closingOutcome plan mark p i)
+    unfolding closingOutcome RefusesOnly
     closing-small (Less x y) = steady-small (Less x y)
     closing-small (Equal x y) = steady-small (Equal x y)
     closing-small (Not a) = tt
@@ -66,57 +64,40 @@ module _ (plan : List ℕ) (few : startRows plan + cycleRows plan ≤ 256) (n : 
     closing-small (Since a b) = wrap-small (Since a b)
     closing-small (Trigger a b) = wrap-small (Trigger a b)
 
-    part-small : (p : Part) (w : ℕ) → Names Small (partOutcome plan mark p i w)
+    part-small : (p : Part) (w : ℕ) → RefusesOnly Small (partOutcome plan mark p i w)
     unfolding partOutcome equationOutcome witnessOutcome rows
     part-small p w =
-        orElse-names Small (equationOutcome plan mark p i) (closingOutcome plan mark p i orElse witnessOutcome plan mark p i w)
-        (atLowest-names Small (breaks plan mark p i) (rows plan) (Equation i) (λ j h. omega arith))
-        (λ _. orElse-names Small (closingOutcome plan mark p i) (witnessOutcome plan mark p i w) (closing-small p)
-        (λ _. unless-names Small (witnessInOrder (startRows plan) (cycleRows plan) mark p i w) (Witness i) (omega arith)))
+        orElse-only Small (equationOutcome plan mark p i) (closingOutcome plan mark p i orElse witnessOutcome plan mark p i w)
+        (atLowest-only Small (breaks plan mark p i) (rows plan) (Equation i) (λ j h. omega arith))
+        (λ _. orElse-only Small (closingOutcome plan mark p i) (witnessOutcome plan mark p i w) (closing-small p)
+        (λ _. unless-only Small (witnessInOrder (startRows plan) (cycleRows plan) mark p i w) (Witness i) (omega arith)))
 
 module _ (rule plan table : List ℕ) where
-  small : (lo hi : ℕ) (o : Outcome) → Names (Within lo hi) o → Names Small o
-  small lo hi = names-more (Within lo hi) Small (λ r h. (h .2, h .3))
-
-  check-small : Names Small (checkOutcome rule plan table)
+  check-small : RefusesOnly Small (checkOutcome rule plan table)
   unfolding checkOutcome partsOutcome
   check-small =
-      orElse-names Small (sheetOutcome rule) (planOutcome (channelCount rule) plan orElse tableOutcome (partCount rule) (rows plan) table orElse partsOutcome rule plan table) (small 1 3 (sheetOutcome rule) (sheet-within rule))
-      (λ s. orElse-names Small (planOutcome (channelCount rule) plan) (tableOutcome (partCount rule) (rows plan) table orElse partsOutcome rule plan table) (small 4 6 (planOutcome (channelCount rule) plan) (plan-within (channelCount rule) plan))
+      orElse-only Small (sheetOutcome rule) (planOutcome (channelCount rule) plan orElse tableOutcome (partCount rule) (rows plan) table orElse partsOutcome rule plan table) (within-small 1 3 (sheetOutcome rule) (sheet-within rule))
+      (λ s. orElse-only Small (planOutcome (channelCount rule) plan) (tableOutcome (partCount rule) (rows plan) table orElse partsOutcome rule plan table) (within-small 4 6 (planOutcome (channelCount rule) plan) (plan-within (channelCount rule) plan))
       (λ p.
       let few = cleared (channelCount rule) plan p .0 .few-rows in
       let parts = cleared-counts rule s .1 in
-      orElse-names Small (tableOutcome (partCount rule) (rows plan) table) (partsOutcome rule plan table) (small 7 8 (tableOutcome (partCount rule) (rows plan) table) (table-within plan few (partCount rule) parts table))
-      (λ _. inTurn-names Small (λ i. partOutcome plan (markOf rule plan table) (partsOf rule i) i (witnessAt rule plan table i)) (partCount rule)
+      orElse-only Small (tableOutcome (partCount rule) (rows plan) table) (partsOutcome rule plan table) (within-small 7 8 (tableOutcome (partCount rule) (rows plan) table) (table-within plan few (partCount rule) parts table))
+      (λ _. inTurn-only Small (λ i. partOutcome plan (markOf rule plan table) (partsOf rule i) i (witnessAt rule plan table i)) (partCount rule)
       (λ i h. part-small plan few (partCount rule) parts (markOf rule plan table) i h (partsOf rule i) (witnessAt rule plan table i)))))
-
-  not-within : (o : Outcome) (lo hi : ℕ) (r : Refusal) → Names (Within lo hi) o → hi < reportOf r .number → o ≡ Refused r → ⊥
-  not-within o lo hi r h k e = let p = refused-names (Within lo hi) o h r e .1 in omega arith
 
   -- A refusal numbered 9 or more is one of the parts, and 1 to 8 are cleared.
   pub parts-refused : (r : Refusal) → 9 ≤ reportOf r .number → checkOutcome rule plan table ≡ Refused r
       → (sheetOutcome rule ≡ Clear) × (planOutcome (channelCount rule) plan ≡ Clear) × (partsOutcome rule plan table ≡ Refused r)
   unfolding checkOutcome
-  parts-refused r high e = past-sheet (orElse-refused (sheetOutcome rule) (planOutcome (channelCount rule) plan orElse tableOutcome (partCount rule) (rows plan) table orElse partsOutcome rule plan table) r e)
-    where
-      past-table : sheetOutcome rule ≡ Clear → planOutcome (channelCount rule) plan ≡ Clear
-          → (tableOutcome (partCount rule) (rows plan) table ≡ Refused r) ⊎ ((tableOutcome (partCount rule) (rows plan) table ≡ Clear) × (partsOutcome rule plan table ≡ Refused r))
-          → (sheetOutcome rule ≡ Clear) × (planOutcome (channelCount rule) plan ≡ Clear) × (partsOutcome rule plan table ≡ Refused r)
-      past-table s p (inl h) =
-          absurd (not-within (tableOutcome (partCount rule) (rows plan) table) 7 8 r
-          (table-within plan (cleared (channelCount rule) plan p .0 .few-rows) (partCount rule) (cleared-counts rule s .1) table) (omega arith) h)
-      past-table s p (inr h) = (s, p, h .1)
-
-      past-plan : sheetOutcome rule ≡ Clear
-          → (planOutcome (channelCount rule) plan ≡ Refused r) ⊎ ((planOutcome (channelCount rule) plan ≡ Clear) × (tableOutcome (partCount rule) (rows plan) table orElse partsOutcome rule plan table ≡ Refused r))
-          → (sheetOutcome rule ≡ Clear) × (planOutcome (channelCount rule) plan ≡ Clear) × (partsOutcome rule plan table ≡ Refused r)
-      past-plan s (inl h) = absurd (not-within (planOutcome (channelCount rule) plan) 4 6 r (plan-within (channelCount rule) plan) (omega arith) h)
-      past-plan s (inr h) = past-table s (h .0) (orElse-refused (tableOutcome (partCount rule) (rows plan) table) (partsOutcome rule plan table) r (h .1))
-
-      past-sheet : (sheetOutcome rule ≡ Refused r) ⊎ ((sheetOutcome rule ≡ Clear) × (planOutcome (channelCount rule) plan orElse tableOutcome (partCount rule) (rows plan) table orElse partsOutcome rule plan table ≡ Refused r))
-          → (sheetOutcome rule ≡ Clear) × (planOutcome (channelCount rule) plan ≡ Clear) × (partsOutcome rule plan table ≡ Refused r)
-      past-sheet (inl h) = absurd (not-within (sheetOutcome rule) 1 3 r (sheet-within rule) (omega arith) h)
-      past-sheet (inr h) = past-plan (h .0) (orElse-refused (planOutcome (channelCount rule) plan) (tableOutcome (partCount rule) (rows plan) table orElse partsOutcome rule plan table) r (h .1))
+  parts-refused r high e =
+      let a = orElse-second (Within 1 3) (sheetOutcome rule) (planOutcome (channelCount rule) plan orElse tableOutcome (partCount rule) (rows plan) table orElse partsOutcome rule plan table) r
+      (sheet-within rule) (λ w. let l = w .1 in omega arith) e in
+      let b = orElse-second (Within 4 6) (planOutcome (channelCount rule) plan) (tableOutcome (partCount rule) (rows plan) table orElse partsOutcome rule plan table) r
+      (plan-within (channelCount rule) plan) (λ w. let l = w .1 in omega arith) (a .1) in
+      let c = orElse-second (Within 7 8) (tableOutcome (partCount rule) (rows plan) table) (partsOutcome rule plan table) r
+      (table-within plan (cleared (channelCount rule) plan (b .0) .0 .few-rows) (partCount rule) (cleared-counts rule (a .0) .1) table)
+      (λ w. let l = w .1 in omega arith) (b .1) in
+      (a .0, b .0, c .1)
 
   pub refused-outcome : (o : Outcome) (r : Refusal) → answered rule plan table o ≡ C.Refused r → o ≡ Refused r
   unfolding answered
@@ -125,4 +106,4 @@ module _ (rule plan table : List ℕ) where
 
   pub check-names : {answer : Checked} → answer ≡ checkOf rule plan table → (r : Refusal) → answer ≡ C.Refused r → Small r
   unfolding checkOf
-  check-names e r f = refused-names Small (checkOutcome rule plan table) check-small r (refused-outcome (checkOutcome rule plan table) r (sym e ∙ f))
+  check-names e r f = refused-only Small (checkOutcome rule plan table) check-small r (refused-outcome (checkOutcome rule plan table) r (sym e ∙ f))

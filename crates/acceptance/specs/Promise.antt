@@ -14,7 +14,7 @@ use Rattle.plan.specs.Layout.{rows}
 use Rattle.plan.specs.Refusals.{planOutcome}
 use Rattle.marks.specs.Layout.{tableOutcome}
 use Rattle.marks.specs.Meaning.{Truth, Settled, MarksTrue, WitnessesInOrder}
-use Rattle.marks.specs.Refusals as refusals
+use Rattle.marks.specs.RefusalMeaning as refusal
 use Rattle.acceptance.specs.declared.Checked.{Checked}
 use Rattle.acceptance.specs.declared.Checked.the-variants as C
 use Rattle.acceptance.specs.Check.{markOf, witnessAt, checkOf}
@@ -40,13 +40,13 @@ module _ (rule plan table : List ℕ) where
   -- What refusals 9, 10 and 11 say of the published truth: every lower part is right; on 9 the marks of part i are not all
   -- true; on 10 its truth is not the same on all passes of the row; on 11 its witness is not in order.
   unfoldable pub EquationMeans : ℕ → ℕ → Type 0
-  EquationMeans i row = refusals.EquationMeans (partsOf rule) (partCount rule) plan (markOf rule plan table) (witnessAt rule plan table) i row
+  EquationMeans i row = refusal.EquationMeans (partsOf rule) (partCount rule) plan (markOf rule plan table) (witnessAt rule plan table) i row
 
   unfoldable pub ClosingMeans : ℕ → ℕ → Type 0
-  ClosingMeans i row = refusals.ClosingMeans (partsOf rule) (partCount rule) plan (markOf rule plan table) (witnessAt rule plan table) i row
+  ClosingMeans i row = refusal.ClosingMeans (partsOf rule) (partCount rule) plan (markOf rule plan table) (witnessAt rule plan table) i row
 
   unfoldable pub WitnessMeans : ℕ → Type 0
-  WitnessMeans i = refusals.WitnessMeans (partsOf rule) (partCount rule) plan (markOf rule plan table) (witnessAt rule plan table) i
+  WitnessMeans i = refusal.WitnessMeans (partsOf rule) (partCount rule) plan (markOf rule plan table) (witnessAt rule plan table) i
 
   pub record CheckPromise (answer : Checked) : Type 0 where
     -- the answer is the first refusal that applies, or the acceptance, of document 01's list

@@ -24,15 +24,8 @@ fn with_digit(n: u64, digit: u8) -> u64
     requires { ⌜ (n ≤ 65536) × (48 ≤ digit) ⌝ }
     ensures { λ r. ⌜ (r ≡ withDigit n digit) × (r ≤ 65536) ⌝ }
 {
-    let next = 10 * n + (wide(digit) - 48);
+    let next = 10 * n + (fields::wide(digit) as u64 - 48);
     if 65536 < next { 65536 } else { next }
-}
-
-// A byte as a wider number.
-fn wide(x: u8) -> u64
-    ensures { λ r. ⌜ r ≡ x ⌝ }
-{
-    x as u64
 }
 
 // The number that decimal digits stand for; 65536, which names no part and no row, where it is larger, where there are no

@@ -10,7 +10,7 @@ use Rattle.refusal.specs.declared.Refusal.{Refusal}
 use Rattle.refusal.specs.declared.Refusal.the-variants.{RuleSizes, Kind, Operand, PlanSizes, Channels, StartDrift, MarkSizes, MarkByte, Equation, Closing, Witness, Absent}
 use Rattle.refusal.specs.declared.Report.{Report}
 use Rattle.refusal.specs.Report.{report, reportOf}
-use Rattle.refusal.proofs.Named.{Small}
+use Rattle.refusal.proofs.RefusesOnly.{Small}
 use Rattle.refusal.proofs.Reported.{one-report}
 use Rattle.rule.specs.Layout.{partCount}
 use Rattle.judge.specs.declared.Verdict.{Verdict}

@@ -23,7 +23,7 @@ use Rattle.rule.specs.declared.sizes.Sizes.the-variants as R
 use Rattle.rule.specs.declared.Taken.{Taken}
 use Rattle.rule.specs.declared.Taken.the-variants as K
 use Rattle.rule.specs.Take.{takeOf, partTaken, partsOf}
-use Rattle.rule.specs.inner.Known.{refusalTaken}
+use Rattle.rule.specs.inner.Untaken.{refusalTaken}
 use Rattle.rule.specs.Sheet.{sheetOutcome}
 use Rattle.rule.proofs.SizesRead.{wrong-sizes, right-sizes}
 use Rattle.rule.proofs.Taking.{take-absent}

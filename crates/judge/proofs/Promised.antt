@@ -15,7 +15,7 @@ use Rattle.refusal.specs.declared.Outcome.{Outcome}
 use Rattle.refusal.specs.declared.Outcome.the-variants.{Clear, Refused}
 use Rattle.refusal.specs.First.{_orElse_, unless}
 use Rattle.refusal.proofs.First.{orElse-clear, unless-clear}
-use Rattle.refusal.proofs.Named.{Small, Within, Names, refused-names, orElse-names, unless-names, names-more}
+use Rattle.refusal.proofs.RefusesOnly.{Small, RefusesOnly, refused-only, orElse-only, unless-only, within-small}
 use Rattle.rule.specs.Layout.{partCount, channelCount}
 use Rattle.rule.specs.Take.{partsOf}
 use Rattle.rule.specs.Sheet.{sheetOutcome}
@@ -84,16 +84,13 @@ module _ (rule plan : List ℕ) (part row : ℕ) where
         subst (VerdictMeans (startRows plan) (cycleRows plan) row (Holds (runOf plan) (formulaOf (partsOf rule) part))) (a .1) (verdict-means (judge-cleared (a .0)));
   }
 
-  small : (lo hi : ℕ) (o : Outcome) → Names (Within lo hi) o → Names Small o
-  small lo hi = names-more (Within lo hi) Small (λ r h. (h .2, h .3))
-
-  judge-small : Names Small (judgeOutcome rule plan part row)
+  judge-small : RefusesOnly Small (judgeOutcome rule plan part row)
   unfolding judgeOutcome
   judge-small =
-      orElse-names Small (sheetOutcome rule) (planOutcome (channelCount rule) plan orElse unless judgeable Absent) (small 1 3 (sheetOutcome rule) (sheet-within rule))
-      (λ _. orElse-names Small (planOutcome (channelCount rule) plan) (unless judgeable Absent)
-      (small 4 6 (planOutcome (channelCount rule) plan) (plan-within (channelCount rule) plan))
-      (λ _. unless-names Small judgeable Absent (omega arith)))
+      orElse-only Small (sheetOutcome rule) (planOutcome (channelCount rule) plan orElse unless judgeable Absent) (within-small 1 3 (sheetOutcome rule) (sheet-within rule))
+      (λ _. orElse-only Small (planOutcome (channelCount rule) plan) (unless judgeable Absent)
+      (within-small 4 6 (planOutcome (channelCount rule) plan) (plan-within (channelCount rule) plan))
+      (λ _. unless-only Small judgeable Absent (omega arith)))
 
   refused-as : (o : Outcome) (r : Refusal) → judgedAs rule plan part row o ≡ J.Refused r → o ≡ Refused r
   unfolding judgedAs
@@ -103,4 +100,4 @@ module _ (rule plan : List ℕ) (part row : ℕ) where
   -- Two bytes hold the part and the row that a refusal names.
   pub judge-names : {answer : Judged} → answer ≡ judgeOf rule plan part row → (r : Refusal) → answer ≡ J.Refused r → Small r
   unfolding judgeOf
-  judge-names e r f = refused-names Small (judgeOutcome rule plan part row) judge-small r (refused-as (judgeOutcome rule plan part row) r (sym e ∙ f))
+  judge-names e r f = refused-only Small (judgeOutcome rule plan part row) judge-small r (refused-as (judgeOutcome rule plan part row) r (sym e ∙ f))

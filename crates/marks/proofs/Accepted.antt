@@ -21,7 +21,7 @@ use Rattle.plan.specs.Layout.{startRows, cycleRows, rows}
 use Rattle.plan.specs.Positions.{passOf}
 use Rattle.plan.specs.Run.{runOf}
 use Rattle.marks.specs.Parts.{witnessInOrder, partOutcome}
-use Rattle.marks.specs.Meaning.{Truth, SettledOn, PartSettled, MarkTrue, PartMarksTrue, PartWitnessed, Settled, MarksTrue, WitnessesInOrder}
+use Rattle.marks.specs.Meaning.{Truth, SameOn, PartSettled, MarkTrue, PartMarksTrue, PartWitnessed, Settled, MarksTrue, WitnessesInOrder}
 use Rattle.marks.proofs.Tests.{T-path, T-ext}
 use Rattle.marks.proofs.Rows.{rowAt, first-position, start-row, from-start, is-row, row-0, again, row-and-pass}
 use Rattle.marks.proofs.Endless.{Agrees, markAt}
@@ -44,7 +44,7 @@ module _ (plan : List ℕ) (parts : ℕ → Part) (n : ℕ) (mark : ℕ → ℕ 
 module _ (plan : List ℕ) (hC : 1 ≤ cycleRows plan) (parts : ℕ → Part) (n : ℕ) (mark : ℕ → ℕ → Bool) where
   -- Where the marks of a part are its truth at every position, the part is settled and its marks are true on the rows.
   pub true-settled : (i : ℕ) → TrueAt plan parts n mark i → PartSettled parts plan i
-  unfolding PartSettled SettledOn
+  unfolding PartSettled SameOn
   true-settled i h row low high k =
       Iff·trans (Iff·symm (h row)) (Iff·trans (T-path (ap (mark i) (sym (again plan hC row k low)))) (h (row + k * cycleRows plan)))
 
@@ -53,7 +53,7 @@ module _ (plan : List ℕ) (hC : 1 ≤ cycleRows plan) (parts : ℕ → Part) (n
   true-marks i h row high = Iff·trans (T-path (ap (mark i) (sym (first-position plan row high)))) (h row)
 
   settled-everywhere : Settled parts n plan → MarksTrue parts n plan mark → TrueEverywhere plan parts n mark
-  unfolding Settled PartSettled SettledOn MarksTrue PartMarksTrue MarkTrue
+  unfolding Settled PartSettled SameOn MarksTrue PartMarksTrue MarkTrue
   settled-everywhere settled marks i l t =
       Iff·trans (marks i l row (is-row plan hC t)) (by-cases (decLt t (startRows plan)) start (λ q. cycle (omega arith)))
     where
@@ -78,7 +78,7 @@ module _ (plan : List ℕ) (hC : 1 ≤ cycleRows plan) (parts : ℕ → Part) (n
     (v : ℕ) (fits : (i : ℕ) → i < n → ComparisonFits v (parts i)) where
   module _ (mark : ℕ → ℕ → Bool) (witness : ℕ → ℕ) where
     -- One part, where the marks of the lower ones are the truth.
-    pub one : (i : ℕ) → i < n → ((a : ℕ) → a < i → TrueAt plan parts n mark a)
+    one : (i : ℕ) → i < n → ((a : ℕ) → a < i → TrueAt plan parts n mark a)
         → (partOutcome plan mark (parts i) i (witness i) ≡ Clear) ↔ (TrueAt plan parts n mark i × T (witnessInOrder (startRows plan) (cycleRows plan) mark (parts i) i (witness i)))
     unfolding Truth
     one i l named =

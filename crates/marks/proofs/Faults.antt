@@ -1,22 +1,22 @@
 -- What refusals 9 and 10 of one part say of its truth, where the marks of the lower parts are their truth at every position.
 -- Assumes nothing.
 use mathlib.Core.Path.{_≡_, refl, sym, ap, _∙_, subst, subst₂}
-use mathlib.Core.Bool.{Bool, true, false, not, Bool·beq, true≢false}
+use mathlib.Core.Bool.{Bool, true, not, Bool·beq, true≢false}
 use mathlib.Core.List.{List}
 use mathlib.Core.Logic.{_↔_, Iff·rfl, Iff·symm, Iff·trans, _⊎_, inl, inr, by-cases}
 use Prim.Native.Nat.{ℕ, suc, _+_, _*_, _≤_, _<_}
 use native.Mathlib.Decide.{decLt}
 use native.Mathlib.Omega.{arith}
 use lib.Dec.{T, T-not}
-use Rattle.cltlb.specs.Truth.{Formula, Holds}
-use Rattle.cltlb.specs.Parts.{isComparison, formulaFrom}
+use Rattle.cltlb.specs.Truth.{Formula}
+use Rattle.cltlb.specs.Parts.{isComparison}
 use Rattle.cltlb.specs.inner.Fits.{NamesLower}
 use Rattle.cltlb.specs.declared.Part.{Part}
 use Rattle.refusal.specs.Lowest.{lowestFrom, lowest}
-use Rattle.refusal.specs.First.{refusedAt, atLowest}
+use Rattle.refusal.specs.First.{atLowest}
 use Rattle.refusal.specs.declared.Refusal.{Refusal}
 use Rattle.refusal.specs.declared.Refusal.the-variants.{Equation, Closing}
-use Rattle.refusal.specs.declared.Outcome.the-variants.{Clear, Refused}
+use Rattle.refusal.specs.declared.Outcome.the-variants.{Refused}
 use Rattle.refusal.proofs.Lowest.{from-some}
 use Rattle.refusal.proofs.First.{clear-refused, unless-refused, refusedAt-refused}
 use Rattle.plan.specs.Layout.{startRows, cycleRows, rows}
@@ -27,6 +27,7 @@ use Rattle.judge.specs.Meaning.{VerdictMeans}
 use Rattle.judge.specs.Rows.{verdictOf}
 use Rattle.marks.specs.Equations.{byRowBefore}
 use Rattle.marks.specs.Parts.{isChanges, breaks, wraps, equationOutcome, steadyOutcome, wrapOutcome, closingOutcome}
+use Rattle.marks.specs.Meaning.{SameOn, DiffersOn}
 use Rattle.marks.proofs.Tests.{T-path, T-ext, beq-false, beq-true, beq-differs}
 use Rattle.marks.proofs.Rows.{lastRow, rowAt, first-position, last-is-row, again, once-more, after-row, second-pass, on-cycle-row, after-last-row}
 use Rattle.marks.proofs.Endless.{markAt, due}
@@ -41,18 +42,11 @@ is-changes AlwaysFalse e = absurd (true≢false (sym e))
 is-changes Changes e = refl
 
 module _ (plan : List ℕ) (F : ℕ → Type 0) where
-  -- a statement's truth on the passes of a row: on one pass it holds and on another it does not
-  abbrev pub Differs : ℕ → Type 0
-  Differs row = ((k : ℕ) × F (row + k * cycleRows plan)) × ((k : ℕ) × (¬ F (row + k * cycleRows plan)))
-
-  -- it is the same on all passes of the cycle rows below a row
-  abbrev pub SameBelow : ℕ → Type 0
-  SameBelow row = (q : ℕ) → startRows plan ≤ q → q < row → (k : ℕ) → F q ↔ F (q + k * cycleRows plan)
-
   -- What a refusal 10 says of a part whose truth is F.
   abbrev pub Open : Part → ℕ → Refusal → Type 0
   Open p i r =
-      (row : ℕ) × (Closing i row ≡ r) × (startRows plan ≤ row) × (row < rows plan) × Differs row × (isComparison p ≡ true → SameBelow row)
+      (row : ℕ) × (Closing i row ≡ r) × (startRows plan ≤ row) × (row < rows plan) × DiffersOn plan F row
+      × (isComparison p ≡ true → (q : ℕ) → startRows plan ≤ q → q < row → SameOn plan F q)
 
 module _ (plan : List ℕ) (mark : ℕ → ℕ → Bool) (f : ℕ → Formula) (hC : 1 ≤ cycleRows plan) (i : ℕ)
     (named : (a : ℕ) → a < i → Right plan mark f a (f a)) (p : Part) (low : NamesLower i p)
@@ -137,7 +131,7 @@ module _ (plan : List ℕ) (mark : ℕ → ℕ → Bool) (f : ℕ → Formula) (
 
   -- 10 of a comparison: it changes on the row, and on no lower cycle row.
   changing : isComparison p ≡ true → (r : Refusal) → steadyOutcome plan p i ≡ Refused r → Open plan F p i r
-  unfolding steadyOutcome rows
+  unfolding steadyOutcome rows DiffersOn SameOn
   changing c r e =
       let s = refusedAt-refused (Closing i) (lowestFrom (λ row. isChanges (verdictOf plan p row)) (startRows plan) (cycleRows plan)) r e in
       let at = from-some (λ row. isChanges (verdictOf plan p row)) (startRows plan) (cycleRows plan) (s .0) .0 (s .1) in
@@ -179,13 +173,13 @@ module _ (plan : List ℕ) (mark : ℕ → ℕ → Bool) (f : ℕ → Formula) (
 
     turning : byRowBefore mark p i (rowAt plan (suc (lastRow plan))) (rowAt plan (lastRow plan)) ≡ due plan mark p i (suc (lastRow plan))
         → (r : Refusal) → wrapOutcome plan mark p i ≡ Refused r → Open plan F p i r
-    unfolding wrapOutcome wraps rows
+    unfolding wrapOutcome wraps rows DiffersOn
     turning b r e =
         let u = unless-refused (Bool·beq (mark i (startRows plan)) (byRowBefore mark p i (startRows plan) (lastRow plan))) (Closing i (startRows plan)) r e in
         (startRows plan, u .1, omega arith, omega arith, differs (beq-differs (mark i (startRows plan)) (byRowBefore mark p i (startRows plan) (lastRow plan)) (u .0)), λ _ q low below. absurd (omega arith))
       where
         differs : (T (mark i (startRows plan)) × T (not (byRowBefore mark p i (startRows plan) (lastRow plan))))
-            ⊎ (T (not (mark i (startRows plan))) × T (byRowBefore mark p i (startRows plan) (lastRow plan))) → Differs plan F (startRows plan)
+            ⊎ (T (not (mark i (startRows plan))) × T (byRowBefore mark p i (startRows plan) (lastRow plan))) → DiffersOn plan F (startRows plan)
         differs (inl d) = ((0, on-pass-0 .0 (d .0)), (1, λ h. T-not (byRowBefore mark p i (startRows plan) (lastRow plan)) (d .1) (on-pass-1 b .1 h)))
         differs (inr d) = ((1, on-pass-1 b .0 (d .1)), (0, λ h. T-not (mark i (startRows plan)) (d .0) (on-pass-0 .1 h)))
 

@@ -1,12 +1,12 @@
--- Refusals 9, 10 and 11 of a table say of the published truth what marks/specs/Refusals states. Assumes nothing.
+-- Refusals 9, 10 and 11 of a table say of the published truth what marks/specs/RefusalMeaning states. Assumes nothing.
 use mathlib.Core.Path.{_≡_, sym, _∙_, subst}
-use mathlib.Core.Bool.{Bool, true}
+use mathlib.Core.Bool.{Bool}
 use mathlib.Core.List.{List}
 use mathlib.Core.Logic.{⊎-elim}
 use Prim.Native.Nat.{ℕ, _≤_, _<_}
 use native.Mathlib.Omega.{arith}
 use lib.Dec.{T}
-use Rattle.cltlb.specs.Parts.{isComparison, formulaOf}
+use Rattle.cltlb.specs.Parts.{formulaOf}
 use Rattle.cltlb.specs.inner.Fits.{NamesLower, ComparisonFits}
 use Rattle.cltlb.specs.declared.Part.{Part}
 use Rattle.cltlb.proofs.Depth.{formula-made}
@@ -18,8 +18,8 @@ use Rattle.refusal.proofs.First.{unless-refused, unless-clear-T, orElse-refused
 use Rattle.plan.specs.Layout.{startRows, cycleRows, rows}
 use Rattle.plan.specs.Positions.{after}
 use Rattle.marks.specs.Parts.{witnessInOrder, equationOutcome, closingOutcome, witnessOutcome, partOutcome}
-use Rattle.marks.specs.Meaning.{Truth, SettledOn, DiffersOn, MarkTrue, PartMarksTrue, PartWitnessed}
-use Rattle.marks.specs.Refusals.{FirstFault, EquationMeans, ClosingMeans, WitnessMeans}
+use Rattle.marks.specs.Meaning.{Truth, SameOn, DiffersOn, MarkTrue, PartMarksTrue, PartWitnessed}
+use Rattle.marks.specs.RefusalMeaning.{FirstFault, EquationMeans, ClosingMeans, WitnessMeans}
 use Rattle.marks.proofs.Rows.{after-is-row}
 use Rattle.marks.proofs.Comparisons.{judged-part}
 use Rattle.marks.proofs.Unrolled.{equation-clear}
@@ -66,7 +66,7 @@ module _ (plan : List ℕ) (hC : 1 ≤ cycleRows plan) (parts : ℕ → Part) (n
         (equation-broken plan mark (formulaOf parts) hC i (λ a q. lower a q .0) (parts i) (low i l) (λ c. judged-part plan hC v (parts i) (fits i l) c (formulaOf parts)) r e)
 
     opened : equationOutcome plan mark (parts i) i ≡ Clear → (r : Refusal) → closingOutcome plan mark (parts i) i ≡ Refused r → Open plan (Truth parts plan i) (parts i) i r
-    unfolding Truth
+    unfolding Truth DiffersOn SameOn
     opened met r e =
         rw (formula-made parts n low i l)
         (closing-open plan mark (formulaOf parts) hC i (λ a q. lower a q .0) (parts i) (low i l) (λ c. judged-part plan hC v (parts i) (fits i l) c (formulaOf parts))
@@ -86,7 +86,7 @@ module _ (plan : List ℕ) (hC : 1 ≤ cycleRows plan) (parts : ℕ → Part) (n
         })
 
     closing-means : equationOutcome plan mark (parts i) i ≡ Clear → (r : Refusal) → closingOutcome plan mark (parts i) i ≡ Refused r → Means plan parts n mark witness r
-    unfolding Means DiffersOn SettledOn
+    unfolding Means
     closing-means met r e =
         let s = opened met r e in
         subst (Means plan parts n mark witness) (s .1) (record { fault = first-fault; in-cycle = (s .2, s .3); differs = s .4; lowest = s .5 })

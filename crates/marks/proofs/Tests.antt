@@ -1,6 +1,6 @@
 -- Tests against the statements that they decide. Assumes nothing.
-use mathlib.Core.Path.{_≡_, refl, subst, subst⁻¹}
-use mathlib.Core.Bool.{Bool, true, false, not, _&&_, _||_, Bool·beq}
+use mathlib.Core.Path.{_≡_, refl, sym, _∙_, subst, subst⁻¹}
+use mathlib.Core.Bool.{Bool, true, false, not, _&&_, _||_, Bool·beq, true≢false}
 use mathlib.Core.Logic.{_↔_, _⊎_, inl, inr, ⊎-elim}
 use lib.Dec.{T, T-not, not-T}
 use Rattle.marks.specs.inner.Tables.{flipped}
@@ -29,11 +29,8 @@ beq-false true false = (λ e. e, λ e. e)
 beq-false false true = (λ e. subst (λ b. b ≡ true) e refl, λ e. subst (λ b. b ≡ false) e refl)
 beq-false false false = (λ _. refl, λ _. refl)
 
-pub beq-true : (x y : Bool) → not (Bool·beq x y) ≡ true → (x ≡ y → ⊥)
-beq-true true true e d = absurd (subst⁻¹ T e tt)
-beq-true true false e d = absurd (subst T d tt)
-beq-true false true e d = absurd (subst⁻¹ T d tt)
-beq-true false false e d = absurd (subst⁻¹ T e tt)
+pub beq-true : (x y : Bool) → not (Bool·beq x y) ≡ true → ¬ (x ≡ y)
+beq-true x y e d = true≢false (sym e ∙ beq-false x y .1 d)
 
 pub beq-T : (x y : Bool) → T (Bool·beq x y) ↔ (x ≡ y)
 beq-T true true = (λ _. refl, λ _. tt)

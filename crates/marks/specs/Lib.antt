@@ -2,5 +2,5 @@ pub mod Layout
 pub mod Equations
 pub mod Parts
 pub mod Meaning
-pub mod Refusals
+pub mod RefusalMeaning
 pub mod inner

@@ -15,21 +15,21 @@ use Rattle.marks.specs.Parts.{witnessInOrder}
 unfoldable pub Truth : (ℕ → Part) → List ℕ → ℕ → ℕ → Type 0
 Truth parts plan i t = Holds (runOf plan) (formulaOf parts i) t
 
+-- of a statement F about positions
+module _ (plan : List ℕ) (F : ℕ → Type 0) where
+  -- on a cycle row it has the same truth on all passes, without end
+  unfoldable pub SameOn : ℕ → Type 0
+  SameOn row = (k : ℕ) → F row ↔ F (row + k * cycleRows plan)
+
+  -- on a row it holds on one pass and not on another
+  unfoldable pub DiffersOn : ℕ → Type 0
+  DiffersOn row = ((k : ℕ) × F (row + k * cycleRows plan)) × ((k : ℕ) × (¬ F (row + k * cycleRows plan)))
+
 -- of part i
 module _ (parts : ℕ → Part) (plan : List ℕ) (i : ℕ) where
-  -- it has on a cycle row the same published truth on all passes, without end
-  unfoldable pub SettledOn : ℕ → Type 0
-  SettledOn row = (k : ℕ) → Truth parts plan i row ↔ Truth parts plan i (row + k * cycleRows plan)
-
-  -- it has on a row one published truth on one pass and the other on another
-  unfoldable pub DiffersOn : ℕ → Type 0
-  DiffersOn row =
-      ((k : ℕ) × Truth parts plan i (row + k * cycleRows plan))
-      × ((k : ℕ) × (¬ Truth parts plan i (row + k * cycleRows plan)))
-
-  -- it is settled on each cycle row
+  -- it has, on each cycle row, the same published truth on all passes
   unfoldable pub PartSettled : Type 0
-  PartSettled = (row : ℕ) → startRows plan ≤ row → row < rows plan → SettledOn row
+  PartSettled = (row : ℕ) → startRows plan ≤ row → row < rows plan → SameOn plan (Truth parts plan i) row
 
   module _ (mark : ℕ → ℕ → Bool) where
     -- its mark on a row is its published truth at the first position of the row

@@ -6,18 +6,18 @@ use lib.Dec.{eqb}
 use Rattle.refusal.specs.declared.Refusal.the-variants.{PlanSizes, Channels, StartDrift}
 use Rattle.refusal.specs.First.{_orElse_, unless, atLowest}
 use Rattle.refusal.proofs.First.{unless-clear}
-use Rattle.refusal.proofs.Named.{Within, Names, orElse-names, unless-names, atLowest-names}
+use Rattle.refusal.proofs.RefusesOnly.{Within, RefusesOnly, orElse-only, unless-only, atLowest-only}
 use Rattle.plan.specs.Layout.{channels, startRows, sizesFit}
 use Rattle.plan.specs.Refusals.{drifting, planOutcome}
 use Rattle.plan.proofs.Fits.{fitting}
 
-pub plan-within : (v : ℕ) (plan : List ℕ) → Names (Within 4 6) (planOutcome v plan)
+pub plan-within : (v : ℕ) (plan : List ℕ) → RefusesOnly (Within 4 6) (planOutcome v plan)
 unfolding planOutcome
 plan-within v plan =
-    orElse-names (Within 4 6) (unless (sizesFit plan) PlanSizes) (unless (eqb (channels plan) v) Channels orElse atLowest (drifting plan) (startRows plan) StartDrift)
-    (unless-names (Within 4 6) (sizesFit plan) PlanSizes (omega arith))
+    orElse-only (Within 4 6) (unless (sizesFit plan) PlanSizes) (unless (eqb (channels plan) v) Channels orElse atLowest (drifting plan) (startRows plan) StartDrift)
+    (unless-only (Within 4 6) (sizesFit plan) PlanSizes (omega arith))
     (λ e.
     let few = fitting plan (unless-clear (sizesFit plan) PlanSizes .0 e) .few-rows in
-    orElse-names (Within 4 6) (unless (eqb (channels plan) v) Channels) (atLowest (drifting plan) (startRows plan) StartDrift)
-    (unless-names (Within 4 6) (eqb (channels plan) v) Channels (omega arith))
-    (λ _. atLowest-names (Within 4 6) (drifting plan) (startRows plan) StartDrift (λ j h. omega arith)))
+    orElse-only (Within 4 6) (unless (eqb (channels plan) v) Channels) (atLowest (drifting plan) (startRows plan) StartDrift)
+    (unless-only (Within 4 6) (eqb (channels plan) v) Channels (omega arith))
+    (λ _. atLowest-only (Within 4 6) (drifting plan) (startRows plan) StartDrift (λ j h. omega arith)))

@@ -1,5 +1,5 @@
 pub mod Lowest
 pub mod First
 pub mod Search
-pub mod Named
+pub mod RefusesOnly
 pub mod Reported

@@ -13,7 +13,7 @@ use Rattle.rule.specs.declared.operands.Operand.{Operand}
 use Rattle.rule.specs.declared.operands.Operand.the-variants.{Terms, One, Two}
 use Rattle.rule.specs.declared.operands.Shape.the-variants.{Comparison, NamesOne, NamesTwo}
 use Rattle.rule.specs.Kinds.{kindOf, operandOf, shapeOf, isUnknown, partOf}
-use Rattle.rule.specs.inner.Laid.{shapeIn}
+use Rattle.rule.proofs.Laid.{shapeIn}
 
 -- a part off its kind byte and its operand
 abbrev Split : Part → Type 0

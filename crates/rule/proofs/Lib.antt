@@ -11,6 +11,7 @@ pub mod Putting
 pub mod WholeSheet
 pub mod KindTables
 pub mod Overwritten
+pub mod Laid
 pub mod TermsLaid
 pub mod OperandsLaid
 pub mod SizesKnown

@@ -23,7 +23,8 @@ use Rattle.rule.specs.declared.operands.Shape.{Shape}
 use Rattle.rule.specs.declared.operands.Shape.the-variants as S
 use Rattle.rule.specs.Terms.{termBytes, termFits, termAt}
 use Rattle.rule.specs.Operands.{operandBytes, operandFits, allZero, bothTerms, operandAt}
-use Rattle.rule.specs.inner.Laid.{shapeIn, WordTerm, WordOperand}
+use Rattle.rule.specs.inner.Words.{WordTerm, WordOperand}
+use Rattle.rule.proofs.Laid.{shapeIn}
 use Rattle.rule.proofs.Fits.{both-true, terms-fit, one-fits, two-fit}
 use Rattle.rule.proofs.Overwritten.{between}
 use Rattle.rule.proofs.TermsWritten.{term-length}

@@ -13,7 +13,7 @@ use Rattle.rule.specs.declared.operands.Operand.the-variants.{Terms, One
 use Rattle.rule.specs.Terms.{termBytes}
 use Rattle.rule.specs.Operands.{operandBytes}
 use Rattle.rule.specs.Put.{overwritten}
-use Rattle.rule.specs.inner.Laid.{WordTerm, WordOperand}
+use Rattle.rule.specs.inner.Words.{WordTerm, WordOperand}
 use Rattle.rule.proofs.Overwriting.{lent-front, lent-whole, then-behind, same-length}
 use Rattle.rule.proofs.TermsWritten.{term-length}
 

@@ -4,7 +4,6 @@ use mathlib.Core.Path.{_≡_, refl, sym, ap, _∙_, subst}
 use mathlib.Core.List.{List}
 use lib.ListN.{getD}
 use Rattle.refusal.specs.declared.Refusal.{Refusal}
-use Rattle.refusal.specs.declared.Outcome.{Outcome}
 use Rattle.refusal.specs.declared.Outcome.the-variants.{Clear, Refused}
 use Rattle.refusal.proofs.First.{clear-refused}
 use Rattle.fields.specs.inner.Ranges.{Bytes}
@@ -16,7 +15,7 @@ use Rattle.rule.specs.Kinds.{operandOf}
 use Rattle.rule.specs.Take.{takeOf}
 use Rattle.rule.specs.Put.{putOutcome, putBytes}
 use Rattle.rule.specs.Promise.{TakePromise, PutPromise}
-use Rattle.rule.specs.inner.Laid.{WordOperand}
+use Rattle.rule.specs.inner.Words.{WordOperand}
 use Rattle.rule.proofs.RoundTrips.{put-then-take, take-then-put}
 
 module _ (s : List ℕ) (n : ℕ) where

@@ -20,7 +20,7 @@ use Rattle.rule.specs.Operands.{operandBytes, operandFits}
 use Rattle.rule.specs.Kinds.{operandOf}
 use Rattle.rule.specs.Take.{takeOf}
 use Rattle.rule.specs.Put.{putOutcome, overwritten, written, afterPut, putBytes}
-use Rattle.rule.specs.inner.Laid.{Words, Laid}
+use Rattle.rule.proofs.Laid.{Words, Laid}
 use Rattle.rule.proofs.Overwritten.{same-bytes}
 use Rattle.rule.proofs.OperandsWritten.{operand-length}
 use Rattle.rule.proofs.Written.{written-length, written-kind, written-operand, written-elsewhere, written-parts, written-channels, written-sizes}

@@ -5,19 +5,19 @@ use mathlib.Core.List.{List}
 use Rattle.refusal.specs.declared.Refusal.the-variants.{RuleSizes, Kind, Operand}
 use Rattle.refusal.specs.First.{_orElse_, unless, atLowest}
 use Rattle.refusal.proofs.First.{unless-clear}
-use Rattle.refusal.proofs.Named.{Within, Names, orElse-names, unless-names, atLowest-names}
+use Rattle.refusal.proofs.RefusesOnly.{Within, RefusesOnly, orElse-only, unless-only, atLowest-only}
 use Rattle.rule.specs.Layout.{partCount, sizesFit}
 use Rattle.rule.specs.Kinds.{kindUnknown}
 use Rattle.rule.specs.Sheet.{untakeable, sheetOutcome}
 use Rattle.rule.proofs.SizesKnown.{sizes-known}
 
-pub sheet-within : (s : List ℕ) → Names (Within 1 3) (sheetOutcome s)
+pub sheet-within : (s : List ℕ) → RefusesOnly (Within 1 3) (sheetOutcome s)
 unfolding sheetOutcome
 sheet-within s =
-    orElse-names (Within 1 3) (unless (sizesFit s) RuleSizes) (atLowest (kindUnknown s) (partCount s) Kind orElse atLowest (untakeable s) (partCount s) Operand)
-    (unless-names (Within 1 3) (sizesFit s) RuleSizes (omega arith))
+    orElse-only (Within 1 3) (unless (sizesFit s) RuleSizes) (atLowest (kindUnknown s) (partCount s) Kind orElse atLowest (untakeable s) (partCount s) Operand)
+    (unless-only (Within 1 3) (sizesFit s) RuleSizes (omega arith))
     (λ e.
     let k = sizes-known s (unless-clear (sizesFit s) RuleSizes .0 e) .1 in
-    orElse-names (Within 1 3) (atLowest (kindUnknown s) (partCount s) Kind) (atLowest (untakeable s) (partCount s) Operand)
-    (atLowest-names (Within 1 3) (kindUnknown s) (partCount s) Kind (λ j h. omega arith))
-    (λ _. atLowest-names (Within 1 3) (untakeable s) (partCount s) Operand (λ j h. omega arith)))
+    orElse-only (Within 1 3) (atLowest (kindUnknown s) (partCount s) Kind) (atLowest (untakeable s) (partCount s) Operand)
+    (atLowest-only (Within 1 3) (kindUnknown s) (partCount s) Kind (λ j h. omega arith))
+    (λ _. atLowest-only (Within 1 3) (untakeable s) (partCount s) Operand (λ j h. omega arith)))

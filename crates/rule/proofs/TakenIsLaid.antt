@@ -23,7 +23,8 @@ use Rattle.rule.specs.Layout.{partCount, channelCount, kindByte, operand
 use Rattle.rule.specs.Operands.{operandBytes, operandFits, operandAt}
 use Rattle.rule.specs.Kinds.{kindOf, operandOf, shapeOf, isUnknown, kindUnknown, partOf}
 use Rattle.rule.specs.Take.{takenOperand, takeOf}
-use Rattle.rule.specs.inner.Laid.{shapeIn, WordOperand, Words, Laid}
+use Rattle.rule.specs.inner.Words.{WordOperand}
+use Rattle.rule.proofs.Laid.{shapeIn, Words, Laid}
 use Rattle.rule.proofs.KindTables.{kind-shape, part-back, kind-known, kind-back, operand-back}
 use Rattle.rule.proofs.SizesKnown.{sizes-known, operand-inside}
 use Rattle.rule.proofs.OperandsLaid.{operand-read, operand-laid}

@@ -21,7 +21,7 @@ use Rattle.cltlb.specs.declared.Term.the-variants as T
 use Rattle.rule.specs.declared.terms.TermRead.{TermRead}
 use Rattle.rule.specs.declared.terms.TermRead.the-variants as R
 use Rattle.rule.specs.Terms.{shiftOf, codeOf, termBytes, termFits, termAt}
-use Rattle.rule.specs.inner.Laid.{WordTerm}
+use Rattle.rule.specs.inner.Words.{WordTerm}
 use Rattle.rule.proofs.Shifts.{coded}
 use Rattle.rule.proofs.Fits.{reading-fits}
 use Rattle.rule.proofs.TermsRead.{constant, reading}

@@ -13,7 +13,7 @@ use Rattle.cltlb.specs.declared.Term.{Term}
 use Rattle.cltlb.specs.declared.Term.the-variants as T
 use Rattle.rule.specs.Terms.{codeOf, termBytes}
 use Rattle.rule.specs.Put.{overwritten}
-use Rattle.rule.specs.inner.Laid.{WordTerm}
+use Rattle.rule.specs.inner.Words.{WordTerm}
 
 pub term-length : (x : Term) → length (termBytes x) ≡ 6
 unfolding termBytes bytesOf

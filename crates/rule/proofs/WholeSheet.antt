@@ -23,7 +23,8 @@ use Rattle.rule.specs.inner.Sizes.{sizesOf}
 use Rattle.rule.specs.Operands.{operandAt, operandFits}
 use Rattle.rule.specs.Kinds.{shapeOf, kindUnknown, partOf}
 use Rattle.rule.specs.Take.{takenOperand, takeOf}
-use Rattle.rule.specs.inner.Known.{refusalTaken, KindsKnown}
+use Rattle.rule.specs.inner.Known.{KindsKnown}
+use Rattle.rule.specs.inner.Untaken.{refusalTaken}
 use Rattle.rule.specs.Sheet.{isRefused, untakeable, sheetOutcome}
 use Rattle.rule.proofs.SizesRead.{wrong-sizes, right-sizes}
 

@@ -1,6 +1,7 @@
 // The rule sheet: one part of it taken and put, and the whole of it checked.
 ghost use mathlib.Core.Path.{_≡_};
-ghost use Rattle.rule.specs.inner.Known.{refusalTaken, KindsKnown};
+ghost use Rattle.rule.specs.inner.Known.{KindsKnown};
+ghost use Rattle.rule.specs.inner.Untaken.{refusalTaken};
 ghost use Rattle.rule.specs.Promise.{TakePromise, PutPromise};
 ghost use Rattle.rule.specs.Sheet.{untakeable, sheetOutcome};
 ghost use Rattle.rule.specs.Kinds.{kindUnknown};

@@ -6,7 +6,7 @@ ghost use Prim.Native.Nat.{_+_, _≤_, _<_};
 ghost use lib.ListN.{length, drop, replicate};
 ghost use Rattle.rule.specs.Operands.{operandAt, operandFits, operandBytes, allZero};
 ghost use Rattle.rule.specs.Put.{overwritten};
-ghost use Rattle.rule.specs.inner.Laid.{WordOperand};
+ghost use Rattle.rule.specs.inner.Words.{WordOperand};
 use crate::terms::TermRead;
 use cltlb::Term;
 

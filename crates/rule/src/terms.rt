@@ -5,7 +5,7 @@ ghost use mathlib.Core.List.{_∷_, _++_};
 ghost use Prim.Native.Nat.{_+_, _≤_};
 ghost use lib.ListN.{length, drop};
 ghost use Rattle.fields.specs.LittleEndian.{bytesOf};
-ghost use Rattle.rule.specs.inner.Laid.{WordTerm};
+ghost use Rattle.rule.specs.inner.Words.{WordTerm};
 ghost use Rattle.rule.specs.Terms.{shiftOf, codeOf, shiftFits, termAt, termFits, termBytes};
 use cltlb::Term;
 

@@ -5,7 +5,7 @@ use Rattle.rule.specs.declared.operands.Operand.{Operand}
 use Rattle.rule.specs.Operands.{operandBytes, operandFits}
 use Rattle.rule.specs.Put.{overwritten}
 use Rattle.rule.proofs.Fits.{one-fits, two-fit}
-use Rattle.rule.specs.inner.Laid.{WordOperand}
+use Rattle.rule.specs.inner.Words.{WordOperand}
 use Rattle.rule.proofs.OperandsWritten.{one-word, two-word}
 use borrow.Author.Needs.{needs}
 use Rattle.rule.proofs.operands.put_operand.Statement.{statement}

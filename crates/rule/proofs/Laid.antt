@@ -4,9 +4,6 @@ use mathlib.Core.Path.{_≡_}
 use mathlib.Core.List.{List}
 use mathlib.Core.Bool.{true}
 use lib.ListN.{take, drop}
-use Rattle.fields.specs.inner.Ranges.{SignedFits}
-use Rattle.cltlb.specs.declared.Term.{Term}
-use Rattle.cltlb.specs.declared.Term.the-variants.{Constant, Reading}
 use Rattle.cltlb.specs.declared.Part.{Part}
 use Rattle.rule.specs.declared.operands.Operand.{Operand}
 use Rattle.rule.specs.declared.operands.Operand.the-variants.{Terms, One, Two}
@@ -15,6 +12,7 @@ use Rattle.rule.specs.declared.operands.Shape.the-variants.{Comparison, 
 use Rattle.rule.specs.Layout.{partCount, channelCount, kindByte, operandPlace, sizesFit}
 use Rattle.rule.specs.Operands.{operandBytes, operandFits}
 use Rattle.rule.specs.Kinds.{kindOf, operandOf}
+use Rattle.rule.specs.inner.Words.{WordOperand}
 
 -- the shape of an operand
 abbrev pub shapeIn : Operand → Shape
@@ -22,16 +20,7 @@ shapeIn (Terms x y) = Comparison
 shapeIn (One a) = NamesOne
 shapeIn (Two a b) = NamesTwo
 
--- constants are signed numbers of four bytes
-unfoldable pub WordTerm : Term → Type 0
-WordTerm (Constant z) = SignedFits 4 z
-WordTerm (Reading channel shift) = Unit {0}
-
-unfoldable pub WordOperand : Operand → Type 0
-WordOperand (Terms x y) = WordTerm x × WordTerm y
-WordOperand (One a) = Unit {0}
-WordOperand (Two a b) = Unit {0}
-
+-- the constants of a part are signed numbers of four bytes
 abbrev pub Words : Part → Type 0
 Words part = WordOperand (operandOf part)
 

@@ -8,7 +8,7 @@ use Rattle.cltlb.specs.declared.Part.{Part}
 use Rattle.cltlb.specs.declared.Part.the-variants.{Until, Release}
 use Rattle.plan.specs.Layout.{startRows, cycleRows, rows}
 use Rattle.plan.specs.Positions.{after}
-use Rattle.marks.specs.Meaning.{SettledOn, DiffersOn, PartSettled, MarkTrue, PartMarksTrue, PartWitnessed}
+use Rattle.marks.specs.Meaning.{Truth, SameOn, DiffersOn, PartSettled, MarkTrue, PartMarksTrue, PartWitnessed}
 
 module _ (parts : ℕ → Part) (n : ℕ) (plan : List ℕ) (mark : ℕ → ℕ → Bool) (witness : ℕ → ℕ) where
   -- Part i is right: it is settled, its marks are true, its witness is in order.
@@ -39,9 +39,9 @@ module _ (parts : ℕ → Part) (n : ℕ) (plan : List ℕ) (mark : ℕ → ℕ 
     -- it is a cycle row
     pub in-cycle : (startRows plan ≤ row) × (row < rows plan)
     -- on which the part's truth is not the same on all passes, whatever its marks say;
-    pub differs : DiffersOn parts plan i row
+    pub differs : DiffersOn plan (Truth parts plan i) row
     -- of a comparison it is the lowest such row
-    pub lowest : isComparison (parts i) ≡ true → (q : ℕ) → startRows plan ≤ q → q < row → SettledOn parts plan i q
+    pub lowest : isComparison (parts i) ≡ true → (q : ℕ) → startRows plan ≤ q → q < row → SameOn plan (Truth parts plan i) q
 
   -- 11 of part i: its witness is not in order
   pub record WitnessMeans (i : ℕ) : Type 0 where
