@@ -1,3 +1,4 @@
+use native.Mathlib.Omega.{arith}
 -- `marks::witness::names_row` meets its contract. Assumes nothing.
 use mathlib.Core.Path.{ap, _∙_}
 use Rattle.marks.specs.inner.Tables.{flipped}
@@ -20,7 +21,7 @@ add-if2 c = search needs
 
 -- src/witness.rt:21:9
 returns-2 : tie.Need-returns-2
-returns-2 c = after-cycle _ _ _ _ (c .before .if1 .left) (c .if2 .taken)
+returns-2 c = after-cycle (c .before .before .before .args .p) (c .before .before .before .args .c) (c .before .before .before .args .row) _ (c .before .if1 .left) (omega arith)
 
 -- src/witness.rt:23:23
 add-mark-at : tie.Need-add-mark-at
