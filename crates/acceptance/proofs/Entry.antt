@@ -1,73 +1,66 @@
 -- The check by the tests that it makes, one law for each way out. Assumes nothing.
-use Prim.Native.Nat.{ℕ, _+_, _-_, _≤_, _<_}
+use Prim.Native.Nat.{ℕ, _-_, _≤_, _<_}
 use native.Mathlib.Omega.{arith}
-use mathlib.Core.Path.{_≡_, refl, sym, ap, ap₂, _∙_, subst}
+use mathlib.Core.Path.{_≡_, sym, ap, ap₂, _∙_}
 use mathlib.Core.List.{List}
 use mathlib.Core.Bool.{Bool}
 use Rattle.refusal.specs.declared.Outcome.{Outcome}
 use Rattle.refusal.specs.declared.Outcome.the-variants.{Clear, Refused}
 use Rattle.refusal.specs.declared.Refusal.{Refusal}
 use Rattle.refusal.specs.First.{_orElse_}
-use Rattle.rule.specs.Layout.{partCount, channelCount}
-use Rattle.rule.specs.Sheet.{sheetOutcome}
+use Rattle.rule.specs.Layout.{partCount}
 use Rattle.rule.proofs.Cleared.{cleared-counts}
-use Rattle.plan.specs.Layout.{startRows, cycleRows, rows}
-use Rattle.plan.specs.inner.Sizes.{Fitting}
-use Rattle.plan.specs.Refusals.{planOutcome}
-use Rattle.marks.specs.Layout.{marked, tableOutcome}
-use Rattle.marks.proofs.Outcomes.{cleared-sized}
-use Rattle.acceptance.specs.declared.Checked.{Checked}
+use Rattle.plan.specs.Layout.{rows}
+use Rattle.plan.specs.declared.sizes.Sizes.{Sizes}
+use Rattle.plan.specs.inner.Sizes.{allRows}
+use Rattle.plan.proofs.Fits.{rows-are}
+use Rattle.inputs.specs.Outcome.{inputsOutcome}
+use Rattle.inputs.specs.inner.Read.{Ready}
+use Rattle.inputs.proofs.Ways.{both-ready}
+use Rattle.table.specs.Layout.{marked, tableOutcome}
+use Rattle.marks.proofs.MarkNames.{cleared-sized}
 use Rattle.acceptance.specs.declared.Checked.the-variants as C
 use Rattle.acceptance.specs.Check.{markOf, partsOutcome, checkOutcome, answered, checkOf}
 use Rattle.acceptance.specs.inner.Parts.{Prepared}
 
 module _ (rule plan table : List ℕ) where
-  pub sheet-refused : {r : Refusal} → sheetOutcome rule ≡ Refused r → C.Refused r ≡ checkOf rule plan table
+  pub inputs-refused : {r : Refusal} → inputsOutcome rule plan ≡ Refused r → C.Refused r ≡ checkOf rule plan table
   unfolding checkOf answered checkOutcome _orElse_
-  sheet-refused e = simp e
+  inputs-refused e = simp e
 
-  module _ (s : sheetOutcome rule ≡ Clear) {u : ℕ} (e : u ≡ channelCount rule) where
-    pub plan-refused : {r : Refusal} → planOutcome u plan ≡ Refused r → C.Refused r ≡ checkOf rule plan table
+  module _ {n : ℕ} {z : Sizes} (ready : Ready rule plan n z) where
+    pub table-small : (n ≤ 64) × (allRows z ≤ 256)
+    table-small = (omega (arith, cleared-counts rule (ready .sheet) .1, ready .parts), ready .fits .few-rows)
+
+    own-table : tableOutcome n (allRows z) table ≡ tableOutcome (partCount rule) (rows plan) table
+    own-table = ap₂ (λ (n w : ℕ). tableOutcome n w table) (ready .parts) (sym (rows-are (ready .fits)))
+
+    pub table-refused : {t : Outcome} {r : Refusal} → t ≡ tableOutcome n (allRows z) table → t ≡ Refused r → C.Refused r ≡ checkOf rule plan table
     unfolding checkOf answered checkOutcome _orElse_
-    plan-refused f = simp (s, ← e, f)
+    table-refused d f = simp (both-ready rule plan ready, sym own-table ∙ sym d ∙ f)
 
-    -- with the sizes that were read
-    module _ (q : planOutcome u plan ≡ Clear) {n v p c : ℕ} (parts : n ≡ partCount rule) (fit : Fitting plan v p c) where
-      own-rows : rows plan ≡ p + c
-      unfolding rows
-      own-rows = ap₂ _+_ (fit .p-is) (fit .c-is)
+    module _ {t : Outcome} (d : t ≡ tableOutcome n (allRows z) table) (c : t ≡ Clear) where
+      f : tableOutcome n (allRows z) table ≡ Clear
+      f = sym d ∙ c
 
-      pub table-small : (n ≤ 64) × (p + c ≤ 256)
-      table-small = (omega (arith, cleared-counts rule s .1), fit .few-rows)
+      pub prepared : Prepared rule plan table n z
+      prepared = record { ready = ready; sized = cleared-sized n (allRows z) table (table-small .0) (table-small .1) f }
 
-      own-table : tableOutcome n (p + c) table ≡ tableOutcome (partCount rule) (rows plan) table
-      own-table = ap₂ (λ (n w : ℕ). tableOutcome n w table) parts (sym own-rows)
-
-      pub table-refused : {r : Refusal} → tableOutcome n (p + c) table ≡ Refused r → C.Refused r ≡ checkOf rule plan table
+      pub parts-refused : {o : Outcome} {r : Refusal} → o ≡ partsOutcome rule plan table → o ≡ Refused r → C.Refused r ≡ checkOf rule plan table
       unfolding checkOf answered checkOutcome _orElse_
-      table-refused f = let g = sym own-table ∙ f in simp (s, ← e, q, g)
+      parts-refused e h = simp (both-ready rule plan ready, sym own-table ∙ f, sym e ∙ h)
 
-      module _ (f : tableOutcome n (p + c) table ≡ Clear) where
-        pub prepared : v ≡ channelCount rule → Prepared rule plan table n v p c
-        prepared k = record {
-          sheet = s;
-          parts = parts;
-          channels = k;
-          fits = fit;
-          sized = cleared-sized n (p + c) table (table-small .0) (table-small .1) f;
-        }
+      pub all-accepted : {o : Outcome} → o ≡ partsOutcome rule plan table → o ≡ Clear → {b : Bool} → b ≡ marked (allRows z) table (n - 1) 0
+          → C.Accepted b ≡ checkOf rule plan table
+      unfolding checkOf answered checkOutcome _orElse_ markOf
+      all-accepted e h m =
+          ap C.Accepted (m ∙ ap₂ (λ (n w : ℕ). marked w table (n - 1) 0) (ready .parts) (sym (rows-are (ready .fits))))
+          ∙ simp (both-ready rule plan ready, sym own-table ∙ f, sym e ∙ h)
 
-        pub parts-refused : {r : Refusal} → partsOutcome rule plan table ≡ Refused r → C.Refused r ≡ checkOf rule plan table
-        unfolding checkOf answered checkOutcome _orElse_
-        parts-refused h = let g = sym own-table ∙ f in simp (s, ← e, q, g, h)
-
-        pub all-accepted : partsOutcome rule plan table ≡ Clear → {b : Bool} → b ≡ marked (p + c) table (n - 1) 0 → C.Accepted b ≡ checkOf rule plan table
-        unfolding checkOf answered checkOutcome _orElse_ markOf
-        all-accepted h d =
-            let g = sym own-table ∙ f in
-            let k = d ∙ ap₂ (λ (n w : ℕ). marked w table (n - 1) 0) parts (sym own-rows) in
-            simp (s, ← e, q, g, h, k)
-
-        -- the whole rule is a part, and row 0 a row
-        pub last-there : (1 ≤ n) × (n - 1 < n) × (0 < p + c)
-        last-there = let k = cleared-counts rule s .0 in let a = fit .a-cycle in (omega arith, omega arith, omega arith)
+      -- the whole rule is a part, and row 0 a row
+      pub last-there : (1 ≤ n) × (n - 1 < n) × (0 < allRows z)
+      last-there =
+          let k = cleared-counts rule (ready .sheet) .0 in
+          let m = ready .parts in
+          let a = ready .fits .a-cycle in
+          (omega arith, omega arith, omega arith)

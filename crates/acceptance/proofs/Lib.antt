@@ -1,5 +1,4 @@
-pub mod Promised
 pub mod CheckNames
-pub mod PartsChecked
-pub mod PartsInTurn
+pub mod Promised
 pub mod Entry
+pub mod PartsInTurn

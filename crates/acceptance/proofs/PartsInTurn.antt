@@ -1,108 +1,135 @@
 -- The parts gone through in order, by the steps of the nested loops. Assumes nothing.
 use Prim.Native.Nat.{ℕ, _+_, _-_, _≤_, _<_}
 use native.Mathlib.Omega.{arith}
-use mathlib.Core.Path.{_≡_, refl, sym, ap, ap₂, _∙_, subst, subst₂}
+use mathlib.Core.Path.{_≡_, refl, sym, ap, ap₂, _∙_, subst}
 use mathlib.Core.List.{List}
 use mathlib.Core.Bool.{Bool, true, false, cond}
-use Rattle.cltlb.specs.inner.Fits.{NamesLower, ComparisonFits}
+use Rattle.cltlb.specs.Views.{viewOf}
+use Rattle.cltlb.specs.Fits.{viewFits}
 use Rattle.cltlb.specs.declared.Part.{Part}
-use Rattle.refusal.specs.Lowest.{lowestFrom}
-use Rattle.refusal.specs.First.{_orElse_, refusedAt, atLowest, inTurn}
+use Rattle.cltlb.specs.declared.View.{View}
+use Rattle.cltlb.proofs.Fits.{view-more}
+use Rattle.refusal.specs.First.{_orElse_, atLowest, inTurnFrom, inTurn}
 use Rattle.refusal.specs.declared.Outcome.{Outcome}
 use Rattle.refusal.specs.declared.Outcome.the-variants.{Clear, Refused}
 use Rattle.refusal.specs.declared.Refusal.{Refusal}
 use Rattle.refusal.specs.declared.Refusal.the-variants.{Equation}
-use Rattle.refusal.proofs.Search.{search-starts, search-ends}
-use Rattle.rule.specs.Layout.{partCount, channelCount}
-use Rattle.rule.specs.Take.{takeOf, partsOf}
+use Rattle.refusal.proofs.First.{turn-next, turn-end}
+use Rattle.refusal.proofs.Search.{searchFrom, search-starts, search-on, search-stops, search-ends}
+use Rattle.rule.specs.Layout.{channelCount}
+use Rattle.rule.specs.Take.{takeOf, viewsOf}
 use Rattle.rule.specs.declared.Taken.{Taken}
 use Rattle.rule.specs.declared.Taken.the-variants as K
-use Rattle.rule.proofs.Cleared.{cleared-taken, cleared-lower, cleared-terms}
-use Rattle.plan.specs.Layout.{startRows, cycleRows, rows}
-use Rattle.plan.specs.inner.Sizes.{Fitting}
-use Rattle.judge.proofs.Entry.{taken-part}
-use Rattle.marks.specs.Layout.{marked, witnessOf}
+use Rattle.rule.proofs.OnSheet.{taken-view, taken-fits, untaken-absent}
+use Rattle.plan.specs.Layout.{rows}
+use Rattle.plan.specs.declared.sizes.Sizes.{Sizes}
+use Rattle.plan.specs.inner.Sizes.{allRows}
+use Rattle.plan.proofs.Fits.{rows-are}
+use Rattle.table.specs.Layout.{marked, witnessOf}
 use Rattle.marks.specs.Parts.{breaks, equationOutcome, closingOutcome, witnessOutcome, partOutcome}
+use Rattle.marks.specs.inner.PartsRead.{Readable, Met, PartClear}
 use Rattle.acceptance.specs.Check.{markOf, witnessAt, partsOutcome}
-use Rattle.acceptance.specs.inner.Parts.{Readable, PartClear, Prepared}
-
-orElse-assoc : (x y z : Outcome) → ((x orElse y) orElse z) ≡ (x orElse (y orElse z))
-unfolding _orElse_
-orElse-assoc Clear y z = refl
-orElse-assoc (Refused r) y z = refl
-
--- a first test that refuses, and one that does not
-pub first-refuses : {o : Outcome} {r : Refusal} (x : Outcome) → o ≡ Refused r → Refused r ≡ (o orElse x)
-unfolding _orElse_
-first-refuses x e = simp e
-
-pub first-clears : {o : Outcome} (x : Outcome) → o ≡ Clear → x ≡ (o orElse x)
-unfolding _orElse_
-first-clears x e = simp e
+use Rattle.acceptance.specs.inner.Parts.{Prepared}
 
 -- the three checks on part i, with n parts and w rows, and those after 9
 abbrev pub turn : List ℕ → List ℕ → List ℕ → ℕ → ℕ → ℕ → Outcome
-turn rule plan table n w i = partOutcome plan (marked w table) (partsOf rule i) i (witnessOf n w table i)
+turn rule plan table n w i = partOutcome plan (marked w table) (viewsOf rule i) i (witnessOf n w table i)
 
-abbrev pub rest : List ℕ → List ℕ → ℕ → ℕ → Part → ℕ → Outcome
-rest plan table n w part i = closingOutcome plan (marked w table) part i orElse witnessOutcome plan (marked w table) part i (witnessOf n w table i)
+abbrev pub rest : List ℕ → List ℕ → ℕ → ℕ → View → ℕ → Outcome
+rest plan table n w p i = closingOutcome plan (marked w table) p i orElse witnessOutcome plan (marked w table) p i (witnessOf n w table i)
 
-all-rows : (plan table : List ℕ) (w : ℕ) (part : Part) (i : ℕ)
-    → equationOutcome plan (marked w table) part i ≡ refusedAt (Equation i) (lowestFrom (breaks plan (marked w table) part i) 0 (startRows plan + cycleRows plan - 0))
-unfolding equationOutcome rows
-all-rows plan table w part i = search-starts (breaks plan (marked w table) part i) (startRows plan + cycleRows plan) (Equation i)
+-- the search for a row that breaks the equation, from a row on
+abbrev pub rowsFrom : List ℕ → List ℕ → ℕ → View → ℕ → ℕ → ℕ → Outcome
+rowsFrom plan table w p i most row = searchFrom (breaks plan (marked w table) p i) most (Equation i) row
 
-module _ (rule plan table : List ℕ) {n v p c : ℕ} (prep : Prepared rule plan table n v p c) where
-  pub turns-all : inTurn (turn rule plan table n (p + c)) n ≡ partsOutcome rule plan table
-  unfolding partsOutcome markOf witnessAt rows
-  turns-all =
-      let w : p + c ≡ startRows plan + cycleRows plan = omega (arith, prep .fits .p-is, prep .fits .c-is) in
-      ap₂ (λ (n w : ℕ). inTurn (turn rule plan table n w) n) (prep .parts) w
+module _ (rule plan table : List ℕ) {n : ℕ} {z : Sizes} (prep : Prepared rule plan table n z) where
+  -- all parts in turn, with the sizes that were read
+  turns-all : inTurn (turn rule plan table n (allRows z)) n ≡ partsOutcome rule plan table
+  unfolding partsOutcome markOf witnessAt
+  turns-all = ap₂ (λ (n w : ℕ). inTurn (turn rule plan table n w) n) (prep .ready .parts) (sym (rows-are (prep .ready .fits)))
 
   module _ (i : ℕ) (low : i < n) {t : Taken} (e : t ≡ takeOf rule i) where
-    there : i < partCount rule
-    there = omega (arith, prep .parts)
-
     pub always-taken : {q : Refusal} → t ≡ K.Refused q → ⊥
-    always-taken f = let k : takeOf rule i ≡ K.Part (partsOf rule i) = cleared-taken rule (prep .sheet) i there in let z : _≡_ {A = ℕ} 0 1 = cc in omega arith
+    always-taken f = let k = untaken-absent rule (prep .ready .sheet) i e f in omega (arith, prep .ready .parts)
 
-    module _ {part : Part} (f : t ≡ K.Part part) where
-      same : partsOf rule i ≡ part
-      same = taken-part rule i e f
+    module _ {part : Part} (f : t ≡ K.Part part) {p : View} (g : p ≡ viewOf part) where
+      same : viewsOf rule i ≡ p
+      same = taken-view rule (prep .ready .sheet) i e f ∙ sym g
 
-      pub readable : Readable plan table n v p c i part
+      pub readable : Readable plan table n z i p
       readable = record {
-        fits = prep .fits;
+        fits = prep .ready .fits;
         sized = prep .sized;
         present = low;
-        lower = subst (NamesLower i) same (cleared-lower rule (prep .sheet) i there);
-        terms = subst₂ ComparisonFits (sym (prep .channels)) same (cleared-terms rule (prep .sheet) i there);
+        part-fits = subst (λ (q : View). viewFits (z .channels) n q ≡ true) (sym g)
+            (view-more (channelCount rule) (z .channels) (omega (arith, prep .ready .channels)) i n (omega arith) (viewOf part)
+            (taken-fits rule (prep .ready .sheet) i e f));
       }
 
-      opened : turn rule plan table n (p + c) i ≡ (equationOutcome plan (marked (p + c) table) part i orElse rest plan table n (p + c) part i)
-      unfolding partOutcome
-      opened = ap (λ (x : Part). partOutcome plan (marked (p + c) table) x i (witnessOf n (p + c) table i)) same
+      -- the outcome of 9, and where it refuses nothing
+      abbrev pub Nine : Outcome
+      Nine = equationOutcome plan (marked (allRows z) table) p i
 
-      -- where all rows at once were sure, no row is looked at; else all of them
-      searched : (sure : Bool) → (sure ≡ true → PartClear plan table (p + c) part i) → (k : ℕ) → k ≡ cond sure 0 (p + c)
-          → equationOutcome plan (marked (p + c) table) part i ≡ refusedAt (Equation i) (lowestFrom (breaks plan (marked (p + c) table) part i) 0 (k - 0))
-      searched true h k d =
-          h refl .equation ∙ search-ends (breaks plan (marked (p + c) table) part i) 0 (Equation i) 0 (omega arith)
-          ∙ ap (λ (m : ℕ). refusedAt (Equation i) (lowestFrom (breaks plan (marked (p + c) table) part i) 0 (m - 0))) (sym d)
-      searched false h k d = whole ∙ ap (λ (m : ℕ). refusedAt (Equation i) (lowestFrom (breaks plan (marked (p + c) table) part i) 0 (m - 0))) (sym d)
-        where
-          w : startRows plan + cycleRows plan ≡ p + c
-          w = omega (arith, prep .fits .p-is, prep .fits .c-is)
+      -- ---- the rows: where all at once were sure, none is looked at; else all of them
 
-          whole : equationOutcome plan (marked (p + c) table) part i ≡ refusedAt (Equation i) (lowestFrom (breaks plan (marked (p + c) table) part i) 0 (p + c - 0))
-          whole = all-rows plan table (p + c) part i ∙ ap (λ (m : ℕ). refusedAt (Equation i) (lowestFrom (breaks plan (marked (p + c) table) part i) 0 (m - 0))) w
+      pub searched : (sure : Bool) → (sure ≡ true → PartClear plan table z p i) → (k : ℕ) → k ≡ cond sure 0 (allRows z)
+          → Nine ≡ rowsFrom plan table (allRows z) p i k 0
+      unfolding Met equationOutcome
+      searched true h k d = h refl .equation ∙ search-ends (breaks plan (marked (allRows z) table) p i) k (Equation i) 0 (omega arith)
+      searched false h k d =
+          ap (λ (m : ℕ). atLowest (breaks plan (marked (allRows z) table) p i) m (Equation i)) (rows-are (prep .ready .fits) ∙ sym d)
+          ∙ search-starts (breaks plan (marked (allRows z) table) p i) k (Equation i)
 
-      pub row-loop : (later : Outcome) (sure : Bool) → (sure ≡ true → PartClear plan table (p + c) part i) → (k : ℕ) → k ≡ cond sure 0 (p + c)
-          → (turn rule plan table n (p + c) i orElse later)
-          ≡ (refusedAt (Equation i) (lowestFrom (breaks plan (marked (p + c) table) part i) 0 (k - 0)) orElse (rest plan table n (p + c) part i orElse later))
-      row-loop later sure h k d =
-          ap (λ x. x orElse later) (opened ∙ ap (λ x. x orElse rest plan table n (p + c) part i) (searched sure h k d))
-          ∙ orElse-assoc (refusedAt (Equation i) (lowestFrom (breaks plan (marked (p + c) table) part i) 0 (k - 0))) (rest plan table n (p + c) part i) later
+      module _ (k row : ℕ) (so-far : Nine ≡ rowsFrom plan table (allRows z) p i k row) where
+        pub row-met : row < k → {x : Bool} → x ≡ breaks plan (marked (allRows z) table) p i row → x ≡ false → Nine ≡ rowsFrom plan table (allRows z) p i k (row + 1)
+        row-met l d h = so-far ∙ search-on (breaks plan (marked (allRows z) table) p i) k (Equation i) row l (sym d ∙ h)
+
+        row-broken : row < k → {x : Bool} → x ≡ breaks plan (marked (allRows z) table) p i row → x ≡ true → Nine ≡ Refused (Equation i row)
+        row-broken l d h = so-far ∙ sym (search-stops (breaks plan (marked (allRows z) table) p i) k (Equation i) row l (sym d ∙ h))
+
+        pub rows-met : k ≤ row → Met plan table z p i
+        unfolding Met
+        rows-met l = so-far ∙ sym (search-ends (breaks plan (marked (allRows z) table) p i) k (Equation i) row l)
+
+      -- ---- the turn of part i, by what its three checks say
+
+      module _ (up-to : inTurn (turn rule plan table n (allRows z)) n ≡ inTurnFrom (turn rule plan table n (allRows z)) i (n - i)) where
+        later : Outcome
+        later = inTurnFrom (turn rule plan table n (allRows z)) (i + 1) (n - (i + 1))
+
+        taken-up : inTurn (turn rule plan table n (allRows z)) n ≡ ((Nine orElse rest plan table n (allRows z) p i) orElse later)
+        unfolding partOutcome later
+        taken-up =
+            up-to
+            ∙ turn-next (turn rule plan table n (allRows z)) i n low
+            ∙ ap (λ (q : View). partOutcome plan (marked (allRows z) table) q i (witnessOf n (allRows z) table i) orElse later) same
+
+        all-refused : {r : Refusal} → ((Nine orElse rest plan table n (allRows z) p i) orElse later) ≡ Refused r → Refused r ≡ partsOutcome rule plan table
+        all-refused h = sym (taken-up ∙ h) ∙ turns-all
+
+        pub equation-refused : (k row : ℕ) → Nine ≡ rowsFrom plan table (allRows z) p i k row → row < k → {x : Bool}
+            → x ≡ breaks plan (marked (allRows z) table) p i row → x ≡ true → Refused (Equation i row) ≡ partsOutcome rule plan table
+        unfolding _orElse_
+        equation-refused k row so-far l d h = all-refused (ap (λ x. (x orElse rest plan table n (allRows z) p i) orElse later) (row-broken k row so-far l d h))
+
+        module _ (met : Met plan table z p i) where
+          after-nine : ((Nine orElse rest plan table n (allRows z) p i) orElse later) ≡ (rest plan table n (allRows z) p i orElse later)
+          unfolding Met _orElse_
+          after-nine = ap (λ x. (x orElse rest plan table n (allRows z) p i) orElse later) met
+
+          pub rest-refused : {o : Outcome} {r : Refusal} → o ≡ rest plan table n (allRows z) p i → o ≡ Refused r → Refused r ≡ partsOutcome rule plan table
+          unfolding _orElse_
+          rest-refused d h = all-refused (after-nine ∙ ap (λ x. x orElse later) (sym d ∙ h))
+
+          pub part-passed : {o : Outcome} → o ≡ rest plan table n (allRows z) p i → o ≡ Clear
+              → inTurn (turn rule plan table n (allRows z)) n ≡ inTurnFrom (turn rule plan table n (allRows z)) (i + 1) (n - (i + 1))
+          unfolding _orElse_ later
+          part-passed d h = taken-up ∙ after-nine ∙ ap (λ x. x orElse later) (sym d ∙ h)
+
+  -- All parts are passed.
+  pub all-passed : (i : ℕ) → inTurn (turn rule plan table n (allRows z)) n ≡ inTurnFrom (turn rule plan table n (allRows z)) i (n - i) → n ≤ i
+      → {o : Outcome} → o ≡ Clear → o ≡ partsOutcome rule plan table
+  all-passed i up-to l d = d ∙ sym (up-to ∙ turn-end (turn rule plan table n (allRows z)) i n l) ∙ turns-all
 
 -- no more rows are looked at than there are
 pub rows-most : (sure : Bool) (k w : ℕ) → k ≡ cond sure 0 w → k ≤ w

@@ -1,27 +1,26 @@
 -- The definition of the check keeps its promise: demand 3 over the bytes. Assumes nothing.
-use Prim.Native.Nat.{ℕ, _+_, _-_, _≤_, _<_}
+use Prim.Native.Nat.{ℕ, _-_, _≤_}
 use native.Mathlib.Omega.{arith}
-use mathlib.Core.Path.{_≡_, refl, sym, ap, _∙_, subst}
+use mathlib.Core.Path.{_≡_, refl, sym, _∙_, subst}
 use mathlib.Core.List.{List}
-use mathlib.Core.Bool.{Bool, true, false}
-use mathlib.Core.Logic.{_↔_, Iff·trans}
+use mathlib.Core.Bool.{Bool}
+use mathlib.Core.Logic.{_↔_}
 use lib.Dec.{T}
 use Rattle.refusal.specs.declared.Outcome.{Outcome}
 use Rattle.refusal.specs.declared.Outcome.the-variants.{Clear, Refused}
 use Rattle.refusal.specs.declared.Refusal.{Refusal}
 use Rattle.refusal.specs.declared.Refusal.the-variants.{Equation, Closing, Witness}
 use Rattle.refusal.specs.Report.{reportOf}
-use Rattle.refusal.specs.First.{_orElse_, inTurn}
+use Rattle.refusal.specs.First.{_orElse_}
 use Rattle.refusal.proofs.First.{orElse-clear}
 use Rattle.rule.specs.Layout.{partCount, channelCount}
-use Rattle.rule.specs.Take.{partsOf}
-use Rattle.rule.specs.Sheet.{sheetOutcome}
-use Rattle.rule.proofs.Cleared.{cleared-counts, cleared-lower, cleared-terms}
+use Rattle.rule.specs.Take.{viewsOf}
+use Rattle.rule.proofs.Cleared.{cleared-counts, cleared-fits}
 use Rattle.plan.specs.Layout.{cycleRows, rows}
-use Rattle.plan.specs.Refusals.{planOutcome}
 use Rattle.plan.proofs.Outcomes.{cleared}
-use Rattle.marks.specs.Layout.{tableOutcome}
-use Rattle.marks.specs.Parts.{partOutcome}
+use Rattle.inputs.specs.Outcome.{inputsOutcome}
+use Rattle.inputs.proofs.Ways.{clear-both, both-clear}
+use Rattle.table.specs.Layout.{tableOutcome}
 use Rattle.marks.proofs.Accepted.{accepted-means, true-accepted, accepted-verdict}
 use Rattle.marks.proofs.RefusalMeans.{Means, refused-means}
 use Rattle.acceptance.specs.declared.Checked.{Checked}
@@ -41,22 +40,21 @@ module _ (rule plan table : List ℕ) where
   unfolding checkOf answered
   clear-accepted e = simp e
 
-  -- the four groups of tests
+  -- the three groups of tests
   pub all-clear : checkOutcome rule plan table ≡ Clear → Cleared rule plan table × (partsOutcome rule plan table ≡ Clear)
   unfolding checkOutcome
   all-clear e =
-      let a = orElse-clear (sheetOutcome rule) (planOutcome (channelCount rule) plan orElse tableOutcome (partCount rule) (rows plan) table orElse partsOutcome rule plan table) .0 e in
-      let b = orElse-clear (planOutcome (channelCount rule) plan) (tableOutcome (partCount rule) (rows plan) table orElse partsOutcome rule plan table) .0 (a .1) in
-      let c = orElse-clear (tableOutcome (partCount rule) (rows plan) table) (partsOutcome rule plan table) .0 (b .1) in
-      (record { sheet = a .0; plan-clear = b .0; table-clear = c .0 }, c .1)
+      let a = orElse-clear (inputsOutcome rule plan) (tableOutcome (partCount rule) (rows plan) table orElse partsOutcome rule plan table) .0 e in
+      let b = clear-both rule plan (a .0) in
+      let c = orElse-clear (tableOutcome (partCount rule) (rows plan) table) (partsOutcome rule plan table) .0 (a .1) in
+      (record { sheet = b .0; plan-clear = b .1; table-clear = c .0 }, c .1)
 
   clear-all : Cleared rule plan table → partsOutcome rule plan table ≡ Clear → checkOutcome rule plan table ≡ Clear
   unfolding checkOutcome
   clear-all c e =
-      orElse-clear (sheetOutcome rule) (planOutcome (channelCount rule) plan orElse tableOutcome (partCount rule) (rows plan) table orElse partsOutcome rule plan table) .1 (
-        c .sheet,
-        orElse-clear (planOutcome (channelCount rule) plan) (tableOutcome (partCount rule) (rows plan) table orElse partsOutcome rule plan table) .1
-            (c .plan-clear, orElse-clear (tableOutcome (partCount rule) (rows plan) table) (partsOutcome rule plan table) .1 (c .table-clear, e)),
+      orElse-clear (inputsOutcome rule plan) (tableOutcome (partCount rule) (rows plan) table orElse partsOutcome rule plan table) .1 (
+        both-clear rule plan (c .sheet) (c .plan-clear),
+        orElse-clear (tableOutcome (partCount rule) (rows plan) table) (partsOutcome rule plan table) .1 (c .table-clear, e),
       )
 
   module _ (c : Cleared rule plan table) where
@@ -68,28 +66,29 @@ module _ (rule plan table : List ℕ) where
     unfolding partsOutcome
     parts-right = (
       λ e.
-          let m = accepted-means plan some-cycle (partsOf rule) (partCount rule) (cleared-lower rule (c .sheet)) (channelCount rule) (cleared-terms rule (c .sheet))
+          let m = accepted-means plan some-cycle (viewsOf rule) (channelCount rule) (partCount rule) (cleared-fits rule (c .sheet))
           (markOf rule plan table) (witnessAt rule plan table) e in
           record { settled = m .0; marks = m .1; witnesses = m .2 },
       λ r.
-          true-accepted plan some-cycle (partsOf rule) (partCount rule) (cleared-lower rule (c .sheet)) (channelCount rule) (cleared-terms rule (c .sheet))
+          true-accepted plan some-cycle (viewsOf rule) (channelCount rule) (partCount rule) (cleared-fits rule (c .sheet))
           (markOf rule plan table) (witnessAt rule plan table) (r .settled, r .marks, r .witnesses),
     )
 
     verdict-true : partsOutcome rule plan table ≡ Clear → T (markOf rule plan table (partCount rule - 1) 0) ↔ RuleTruth rule plan (partCount rule - 1) 0
     unfolding partsOutcome RuleTruth
     verdict-true e =
-        accepted-verdict plan some-cycle (partsOf rule) (partCount rule) (cleared-lower rule (c .sheet)) (channelCount rule) (cleared-terms rule (c .sheet))
+        accepted-verdict plan some-cycle (viewsOf rule) (channelCount rule) (partCount rule) (cleared-fits rule (c .sheet))
         (markOf rule plan table) (witnessAt rule plan table) (cleared-counts rule (c .sheet) .0) e
 
   -- what a refusal of a part says
   refused-says : (r : Refusal) → 9 ≤ reportOf r .number → checkOutcome rule plan table ≡ Refused r
-      → Means plan (partsOf rule) (partCount rule) (markOf rule plan table) (witnessAt rule plan table) r
+      → Means plan (viewsOf rule) (partCount rule) (markOf rule plan table) (witnessAt rule plan table) r
   unfolding partsOutcome
   refused-says r high e =
       let p = parts-refused rule plan table r high e in
-      refused-means plan (cleared (channelCount rule) plan (p .1) .0 .a-cycle) (partsOf rule) (partCount rule) (cleared-lower rule (p .0)) (channelCount rule)
-      (cleared-terms rule (p .0)) (markOf rule plan table) (witnessAt rule plan table) r (p .2)
+      let q = clear-both rule plan (p .0) in
+      refused-means plan (cleared (channelCount rule) plan (q .1) .0 .a-cycle) (viewsOf rule) (channelCount rule) (partCount rule) (cleared-fits rule (q .0))
+      (markOf rule plan table) (witnessAt rule plan table) r (p .1)
 
   -- THE CHECK KEEPS ITS PROMISE, whatever the bytes.
   pub check-promise : {answer : Checked} → answer ≡ checkOf rule plan table → CheckPromise rule plan table answer

@@ -5,12 +5,11 @@ use mathlib.Core.Bool.{Bool}
 use Rattle.refusal.specs.declared.Outcome.{Outcome}
 use Rattle.refusal.specs.declared.Outcome.the-variants.{Clear, Refused}
 use Rattle.refusal.specs.First.{_orElse_, inTurn}
-use Rattle.rule.specs.Layout.{partCount, channelCount}
-use Rattle.rule.specs.Take.{partsOf}
-use Rattle.rule.specs.Sheet.{sheetOutcome}
+use Rattle.rule.specs.Layout.{partCount}
+use Rattle.rule.specs.Take.{viewsOf}
 use Rattle.plan.specs.Layout.{rows}
-use Rattle.plan.specs.Refusals.{planOutcome}
-use Rattle.marks.specs.Layout.{marked, witnessOf, tableOutcome}
+use Rattle.inputs.specs.Outcome.{inputsOutcome}
+use Rattle.table.specs.Layout.{marked, witnessOf, tableOutcome}
 use Rattle.marks.specs.Parts.{partOutcome}
 use Rattle.acceptance.specs.declared.Checked.{Checked}
 use Rattle.acceptance.specs.declared.Checked.the-variants as C
@@ -25,13 +24,12 @@ module _ (rule plan table : List ℕ) where
 
   -- 9, 10 and 11: parts are gone through in order, the lowest first, each with all its rows
   unfoldable pub partsOutcome : Outcome
-  partsOutcome = inTurn (λ i. partOutcome plan markOf (partsOf rule i) i (witnessAt i)) (partCount rule)
+  partsOutcome = inTurn (λ i. partOutcome plan markOf (viewsOf rule i) i (witnessAt i)) (partCount rule)
 
-  -- Refusals 1 to 3, 4 to 6, 7 and 8, then 9 to 11 part by part.
+  -- Refusals 1 to 6, 7 and 8, then 9 to 11 part by part.
   unfoldable pub checkOutcome : Outcome
   checkOutcome =
-      sheetOutcome rule
-      orElse planOutcome (channelCount rule) plan
+      inputsOutcome rule plan
       orElse tableOutcome (partCount rule) (rows plan) table
       orElse partsOutcome
 

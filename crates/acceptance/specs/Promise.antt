@@ -8,11 +8,11 @@ use lib.Dec.{T}
 use Rattle.refusal.specs.declared.Outcome.the-variants.{Clear}
 use Rattle.refusal.specs.declared.Refusal.the-variants.{Equation, Closing, Witness}
 use Rattle.rule.specs.Layout.{partCount, channelCount}
-use Rattle.rule.specs.Take.{partsOf}
+use Rattle.rule.specs.Take.{viewsOf}
 use Rattle.rule.specs.Sheet.{sheetOutcome}
 use Rattle.plan.specs.Layout.{rows}
 use Rattle.plan.specs.Refusals.{planOutcome}
-use Rattle.marks.specs.Layout.{tableOutcome}
+use Rattle.table.specs.Layout.{tableOutcome}
 use Rattle.marks.specs.Meaning.{Truth, Settled, MarksTrue, WitnessesInOrder}
 use Rattle.marks.specs.RefusalMeaning as refusal
 use Rattle.acceptance.specs.declared.Checked.{Checked}
@@ -21,7 +21,7 @@ use Rattle.acceptance.specs.Check.{markOf, witnessAt, checkOf}
 
 -- The published truth of part i of the rule at position t of the plan's run.
 unfoldable pub RuleTruth : List ℕ → List ℕ → ℕ → ℕ → Type 0
-RuleTruth rule plan i t = Truth (partsOf rule) plan i t
+RuleTruth rule plan i t = Truth (viewsOf rule) plan i t
 
 module _ (rule plan table : List ℕ) where
   -- The three byte strings clear refusals 1 to 8.
@@ -33,20 +33,20 @@ module _ (rule plan table : List ℕ) where
   -- Every part has, on each cycle row, the same published truth on all passes, without end; every mark is the published
   -- truth of its part at the first position of its row; every witness is in order.
   pub record TableRight : Type 0 where
-    pub settled : Settled (partsOf rule) (partCount rule) plan
-    pub marks : MarksTrue (partsOf rule) (partCount rule) plan (markOf rule plan table)
-    pub witnesses : WitnessesInOrder (partsOf rule) (partCount rule) plan (markOf rule plan table) (witnessAt rule plan table)
+    pub settled : Settled (viewsOf rule) (partCount rule) plan
+    pub marks : MarksTrue (viewsOf rule) (partCount rule) plan (markOf rule plan table)
+    pub witnesses : WitnessesInOrder (viewsOf rule) (partCount rule) plan (markOf rule plan table) (witnessAt rule plan table)
 
   -- What refusals 9, 10 and 11 say of the published truth: every lower part is right; on 9 the marks of part i are not all
   -- true; on 10 its truth is not the same on all passes of the row; on 11 its witness is not in order.
   unfoldable pub EquationMeans : ℕ → ℕ → Type 0
-  EquationMeans i row = refusal.EquationMeans (partsOf rule) (partCount rule) plan (markOf rule plan table) (witnessAt rule plan table) i row
+  EquationMeans i row = refusal.EquationMeans (viewsOf rule) (partCount rule) plan (markOf rule plan table) (witnessAt rule plan table) i row
 
   unfoldable pub ClosingMeans : ℕ → ℕ → Type 0
-  ClosingMeans i row = refusal.ClosingMeans (partsOf rule) (partCount rule) plan (markOf rule plan table) (witnessAt rule plan table) i row
+  ClosingMeans i row = refusal.ClosingMeans (viewsOf rule) (partCount rule) plan (markOf rule plan table) (witnessAt rule plan table) i row
 
   unfoldable pub WitnessMeans : ℕ → Type 0
-  WitnessMeans i = refusal.WitnessMeans (partsOf rule) (partCount rule) plan (markOf rule plan table) (witnessAt rule plan table) i
+  WitnessMeans i = refusal.WitnessMeans (viewsOf rule) (partCount rule) plan (markOf rule plan table) (witnessAt rule plan table) i
 
   pub record CheckPromise (answer : Checked) : Type 0 where
     -- the answer is the first refusal that applies, or the acceptance, of document 01's list

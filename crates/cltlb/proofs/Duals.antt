@@ -1,12 +1,14 @@
 -- R, T and Z are the duals of U, S and Y, where the statements are decided at every position. Assumes nothing.
-use mathlib.Core.Path.{_≡_, subst}
+use mathlib.Core.Path.{subst}
 use mathlib.Core.Logic.{_↔_, _⊎_, inl, inr, ⊎-elim, by-cases}
 use Prim.Native.Nat.{ℕ, zero, suc, _≤_, _<_}
 use native.Mathlib.Decide.{decLt}
 use native.Mathlib.Omega.{arith}
 use Rattle.cltlb.specs.Run.{Run}
 use Rattle.cltlb.specs.Operators.{Until, Release, Since, Trigger, Yesterday, WeakYesterday}
-use Rattle.cltlb.specs.Truth.{Formula, negation, until, release, since, trigger, yesterday, weakYesterday, Holds}
+use Rattle.cltlb.specs.Truth.{Formula, one, two, UnaryHolds, BinaryHolds, Holds}
+use Rattle.cltlb.specs.declared.Unary.the-variants as unary
+use Rattle.cltlb.specs.declared.Binary.the-variants as binary
 
 -- A statement holds or fails at each position.
 abbrev pub Decided : (ℕ → Type 0) → Type 0
@@ -66,15 +68,15 @@ module _ (A B : ℕ → Type 0) (decA : Decided A) (decB : Decided B) (t : ℕ) 
 
 -- The same, of formulas on a run.
 module _ (r : Run) (f : Formula) (decF : Decided (Holds r f)) where
-  pub holds-weak : (t : ℕ) → Holds r (weakYesterday f) t ↔ Holds r (negation (yesterday (negation f))) t
-  unfolding Holds
+  pub holds-weak : (t : ℕ) → Holds r (one unary.WeakYesterday f) t ↔ Holds r (one unary.Not (one unary.Yesterday (one unary.Not f))) t
+  unfolding Holds UnaryHolds
   holds-weak = weak-dual (Holds r f) decF
 
   module _ (g : Formula) (decG : Decided (Holds r g)) where
-    pub holds-release : (t : ℕ) → Holds r (release f g) t ↔ Holds r (negation (until (negation f) (negation g))) t
-    unfolding Holds
+    pub holds-release : (t : ℕ) → Holds r (two binary.Release f g) t ↔ Holds r (one unary.Not (two binary.Until (one unary.Not f) (one unary.Not g))) t
+    unfolding Holds UnaryHolds BinaryHolds
     holds-release = release-dual (Holds r f) (Holds r g) decF decG
 
-    pub holds-trigger : (t : ℕ) → Holds r (trigger f g) t ↔ Holds r (negation (since (negation f) (negation g))) t
-    unfolding Holds
+    pub holds-trigger : (t : ℕ) → Holds r (two binary.Trigger f g) t ↔ Holds r (one unary.Not (two binary.Since (one unary.Not f) (one unary.Not g))) t
+    unfolding Holds UnaryHolds BinaryHolds
     holds-trigger = trigger-dual (Holds r f) (Holds r g) decF decG

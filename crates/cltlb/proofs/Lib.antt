@@ -1,5 +1,6 @@
 pub mod Steps
-pub mod Shifted
 pub mod Duals
-pub mod Depth
+pub mod Shifted
+pub mod Fits
 pub mod SameRun
+pub mod Depth

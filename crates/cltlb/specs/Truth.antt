@@ -4,47 +4,54 @@ use mathlib.Core.Path.{_≡_}
 use mathlib.Core.Logic.{_⊎_}
 use lib.IntN.{ℤ, pos, _+ℤ_}
 use lib.Signed.{_<ℤ_}
-use Rattle.cltlb.specs.Run.{Seen, number, beforeRun, Run}
+use Rattle.cltlb.specs.Run.{Seen, number, Run}
 use Rattle.cltlb.specs.Operators.{Until, Release, Since, Trigger, Next, Yesterday, WeakYesterday}
 use Rattle.cltlb.specs.declared.Term.{Term}
 use Rattle.cltlb.specs.declared.Term.the-variants.{Constant, Reading}
+use Rattle.cltlb.specs.declared.Atom.{Atom}
+use Rattle.cltlb.specs.declared.Atom.the-variants.{Less, Equal}
+use Rattle.cltlb.specs.declared.Unary.{Unary}
+use Rattle.cltlb.specs.declared.Unary.the-variants as unary
+use Rattle.cltlb.specs.declared.Binary.{Binary}
+use Rattle.cltlb.specs.declared.Binary.the-variants as binary
 
+-- A formula is an atom, or an operator over one formula or two.
 pub data Formula : Type 0 where
-  less : Term → Term → Formula
-  equal : Term → Term → Formula
-  negation : Formula → Formula
-  conjunction : Formula → Formula → Formula
-  disjunction : Formula → Formula → Formula
-  next : Formula → Formula
-  until : Formula → Formula → Formula
-  release : Formula → Formula → Formula
-  yesterday : Formula → Formula
-  weakYesterday : Formula → Formula
-  since : Formula → Formula → Formula
-  trigger : Formula → Formula → Formula
+  atom : Atom → Formula
+  one : Unary → Formula → Formula
+  two : Binary → Formula → Formula → Formula
 
 -- A comparison at position t reads each channel at t plus its shift.
 unfoldable pub valueAt : Run → Term → ℕ → Seen
 valueAt r (Constant z) t = number z
 valueAt r (Reading c s) t = r c (pos t +ℤ s)
 
--- The two numbers seen stand in the relation; false where one reaches before the run.
+-- What is seen is two numbers, and they stand in the relation; so it is false where one reaches before the run.
 unfoldable pub Compared : (ℤ → ℤ → Type 0) → Seen → Seen → Type 0
-Compared R (number a) (number b) = R a b
-Compared R (number a) beforeRun = ⊥
-Compared R beforeRun y = ⊥
+Compared R x y = (a b : ℤ) × (x ≡ number a) × (y ≡ number b) × R a b
+
+-- The published truth of an atom at position t.
+unfoldable pub AtomHolds : Run → Atom → ℕ → Type 0
+AtomHolds r (Less x y) t = Compared _<ℤ_ (valueAt r x t) (valueAt r y t)
+AtomHolds r (Equal x y) t = Compared _≡_ (valueAt r x t) (valueAt r y t)
+
+-- What an operator says at position t, of statements A and B about positions.
+unfoldable pub UnaryHolds : Unary → (ℕ → Type 0) → ℕ → Type 0
+UnaryHolds unary.Not A t = ¬ A t
+UnaryHolds unary.Next A t = Next A t
+UnaryHolds unary.Yesterday A t = Yesterday A t
+UnaryHolds unary.WeakYesterday A t = WeakYesterday A t
+
+unfoldable pub BinaryHolds : Binary → (ℕ → Type 0) → (ℕ → Type 0) → ℕ → Type 0
+BinaryHolds binary.And A B t = A t × B t
+BinaryHolds binary.Or A B t = A t ⊎ B t
+BinaryHolds binary.Until A B t = Until A B t
+BinaryHolds binary.Release A B t = Release A B t
+BinaryHolds binary.Since A B t = Since A B t
+BinaryHolds binary.Trigger A B t = Trigger A B t
 
 -- The published truth of a formula at position t.
 unfoldable pub Holds : Run → Formula → ℕ → Type 0
-Holds r (less x y) t = Compared _<ℤ_ (valueAt r x t) (valueAt r y t)
-Holds r (equal x y) t = Compared _≡_ (valueAt r x t) (valueAt r y t)
-Holds r (negation f) t = ¬ Holds r f t
-Holds r (conjunction f g) t = Holds r f t × Holds r g t
-Holds r (disjunction f g) t = Holds r f t ⊎ Holds r g t
-Holds r (next f) t = Next (Holds r f) t
-Holds r (until f g) t = Until (Holds r f) (Holds r g) t
-Holds r (release f g) t = Release (Holds r f) (Holds r g) t
-Holds r (yesterday f) t = Yesterday (Holds r f) t
-Holds r (weakYesterday f) t = WeakYesterday (Holds r f) t
-Holds r (since f g) t = Since (Holds r f) (Holds r g) t
-Holds r (trigger f g) t = Trigger (Holds r f) (Holds r g) t
+Holds r (atom x) t = AtomHolds r x t
+Holds r (one o f) t = UnaryHolds o (Holds r f) t
+Holds r (two o f g) t = BinaryHolds o (Holds r f) (Holds r g) t

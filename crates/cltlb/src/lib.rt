@@ -1,7 +1,9 @@
-// The logic CLTLB over the whole numbers with < and =: the terms and parts that a rule is made of. What they mean is in
-// specs/.
+// The logic CLTLB over the whole numbers with < and =: the terms and parts that a rule is made of, and how the logic looks at a
+// part. What they mean is in specs/.
 ghost use mathlib.Core.Path.{_≡_};
-ghost use Rattle.cltlb.specs.Parts.{isComparison};
+ghost use mathlib.Core.Bool.{_&&_};
+ghost use Rattle.cltlb.specs.Views.{oneView, twoView, viewOf};
+ghost use Rattle.cltlb.specs.Fits.{termFits, atomFits, namesLower, viewFits};
 
 // A term (the field's arithmetic temporal term) is a constant, or the reading of a channel, which is a variable, at the present
 // position plus a shift.
@@ -27,21 +29,118 @@ pub enum Part {
     Trigger(usize, usize),
 }
 
-pub fn is_comparison(part: Part) -> bool
-    ensures { λ r. ⌜ r ≡ isComparison part ⌝ }
+// What a part says of readings alone: the field's atomic constraint.
+pub enum Atom {
+    Less(Term, Term),
+    Equal(Term, Term),
+}
+
+// An operator over one part.
+pub enum Unary {
+    Not,
+    Next,
+    Yesterday,
+    WeakYesterday,
+}
+
+// An operator over two parts.
+pub enum Binary {
+    And,
+    Or,
+    Until,
+    Release,
+    Since,
+    Trigger,
+}
+
+// An operator with the parts that it names.
+pub enum Operator {
+    One(Unary, usize),
+    Two(Binary, usize, usize),
+}
+
+// A part as the logic looks at it: an atom, or an operator with the parts that it names.
+pub enum View {
+    Atom(Atom),
+    Operator(Operator),
+}
+
+// The views of operators.
+fn one(operator: Unary, a: usize) -> View
+    ensures { λ r. ⌜ r ≡ oneView operator a ⌝ }
+{
+    View::Operator(Operator::One(operator, a))
+}
+
+fn two(operator: Binary, a: usize, b: usize) -> View
+    ensures { λ r. ⌜ r ≡ twoView operator a b ⌝ }
+{
+    View::Operator(Operator::Two(operator, a, b))
+}
+
+pub fn view_of(part: Part) -> View
+    ensures { λ r. ⌜ r ≡ viewOf part ⌝ }
 {
     match part {
-        Part::Less(_, _) => true,
-        Part::Equal(_, _) => true,
-        Part::Not(_) => false,
-        Part::And(_, _) => false,
-        Part::Or(_, _) => false,
-        Part::Next(_) => false,
-        Part::Until(_, _) => false,
-        Part::Release(_, _) => false,
-        Part::Yesterday(_) => false,
-        Part::WeakYesterday(_) => false,
-        Part::Since(_, _) => false,
-        Part::Trigger(_, _) => false,
+        Part::Less(x, y) => View::Atom(Atom::Less(x, y)),
+        Part::Equal(x, y) => View::Atom(Atom::Equal(x, y)),
+        Part::Not(a) => one(Unary::Not, a),
+        Part::And(a, b) => two(Binary::And, a, b),
+        Part::Or(a, b) => two(Binary::Or, a, b),
+        Part::Next(a) => one(Unary::Next, a),
+        Part::Until(a, b) => two(Binary::Until, a, b),
+        Part::Release(a, b) => two(Binary::Release, a, b),
+        Part::Yesterday(a) => one(Unary::Yesterday, a),
+        Part::WeakYesterday(a) => one(Unary::WeakYesterday, a),
+        Part::Since(a, b) => two(Binary::Since, a, b),
+        Part::Trigger(a, b) => two(Binary::Trigger, a, b),
+    }
+}
+
+// A term's channel is below `v`, and its shift is -4 to 4.
+pub fn term_fits(x: Term, v: usize) -> bool
+    ensures { λ r. ⌜ r ≡ termFits v x ⌝ }
+{
+    match x {
+        Term::Constant(_) => true,
+        Term::Reading { channel, shift } => {
+            if v <= channel {
+                return false;
+            }
+            if shift < -4 {
+                return false;
+            }
+            shift <= 4
+        }
+    }
+}
+
+// The terms of an atom fit `v` channels.
+fn atom_fits(x: Atom, v: usize) -> bool
+    ensures { λ r. ⌜ r ≡ atomFits v x ⌝ }
+{
+    match x {
+        Atom::Less(left, right) => term_fits(left, v) & term_fits(right, v),
+        Atom::Equal(left, right) => term_fits(left, v) & term_fits(right, v),
+    }
+}
+
+// The parts that an operator names are lower than `n`.
+fn names_lower(x: Operator, n: usize) -> bool
+    ensures { λ r. ⌜ r ≡ namesLower n x ⌝ }
+{
+    match x {
+        Operator::One(_, a) => a < n,
+        Operator::Two(_, a, b) => (a < n) & (b < n),
+    }
+}
+
+// Part `n`: its terms fit `v` channels, and it names lower parts.
+pub fn view_fits(x: View, v: usize, n: usize) -> bool
+    ensures { λ r. ⌜ r ≡ viewFits v n x ⌝ }
+{
+    match x {
+        View::Atom(atom) => atom_fits(atom, v),
+        View::Operator(operator) => names_lower(operator, n),
     }
 }

@@ -1,5 +1,5 @@
 -- The meaning of an answer, carried through the packing. Assumes nothing.
-use Prim.Native.Nat.{ℕ, _+_, _*_, _-_, _≤_, _<_}
+use Prim.Native.Nat.{ℕ, _-_, _≤_, _<_}
 use native.Mathlib.Omega.{arith}
 use mathlib.Core.Path.{_≡_, refl, sym, ap, _∙_, subst}
 use mathlib.Core.List.{List}
@@ -12,16 +12,14 @@ use Rattle.refusal.specs.declared.Report.{Report}
 use Rattle.refusal.specs.Report.{report, reportOf}
 use Rattle.refusal.proofs.RefusesOnly.{Small}
 use Rattle.refusal.proofs.Reported.{one-report}
-use Rattle.rule.specs.Layout.{partCount}
-use Rattle.judge.specs.declared.Verdict.{Verdict}
-use Rattle.judge.specs.declared.Verdict.the-variants.{AlwaysTrue, AlwaysFalse, Changes}
+use Rattle.verdict.specs.declared.Verdict.{Verdict}
 use Rattle.judge.specs.declared.Judged.{Judged}
 use Rattle.judge.specs.declared.Judged.the-variants as J
 use Rattle.judge.specs.Judge.{JudgePromise}
 use Rattle.judge.proofs.Promised.{judge-names}
 use Rattle.acceptance.specs.declared.Checked.{Checked}
 use Rattle.acceptance.specs.declared.Checked.the-variants as C
-use Rattle.acceptance.specs.Promise.{Cleared, RuleTruth, TableRight, CheckPromise}
+use Rattle.acceptance.specs.Promise.{CheckPromise}
 use Rattle.acceptance.proofs.CheckNames.{check-names}
 use Rattle.endless_run.specs.Packing.{refusalWord, unpacked, verdictBit, checkWord, verdictWord, judgeWord}
 use Rattle.endless_run.specs.Promise.{CheckWordPromise, JudgeWordPromise}
@@ -128,31 +126,10 @@ module _ (rule plan : List ℕ) (part row : ℕ) where
   unfolding judgeWord
   refused-judge a r e = ap judgeWord e
 
-  is-false : (v : Verdict) → (verdictWord v ≡ 0) ↔ (v ≡ AlwaysFalse)
-  is-false AlwaysFalse = (λ _. refl, λ _. refl)
-  is-false AlwaysTrue = (λ e. absurd (omega arith), λ e. absurd (let z : _≡_ {A = ℕ} 0 1 = cc in omega arith))
-  is-false Changes = (λ e. absurd (omega arith), λ e. absurd (let z : _≡_ {A = ℕ} 0 1 = cc in omega arith))
-
-  is-true : (v : Verdict) → (verdictWord v ≡ 1) ↔ (v ≡ AlwaysTrue)
-  is-true AlwaysFalse = (λ e. absurd (omega arith), λ e. absurd (let z : _≡_ {A = ℕ} 0 1 = cc in omega arith))
-  is-true AlwaysTrue = (λ _. refl, λ _. refl)
-  is-true Changes = (λ e. absurd (omega arith), λ e. absurd (let z : _≡_ {A = ℕ} 0 1 = cc in omega arith))
-
-  is-changes : (v : Verdict) → (verdictWord v ≡ 2) ↔ (v ≡ Changes)
-  is-changes AlwaysFalse = (λ e. absurd (omega arith), λ e. absurd (let z : _≡_ {A = ℕ} 0 1 = cc in omega arith))
-  is-changes AlwaysTrue = (λ e. absurd (omega arith), λ e. absurd (let z : _≡_ {A = ℕ} 0 1 = cc in omega arith))
-  is-changes Changes = (λ _. refl, λ _. refl)
-
-  -- a word against a statement that the verdict is equivalent to
-  through : {word n : ℕ} {S : Type 0} (v w : Verdict) → word ≡ verdictWord v → (verdictWord v ≡ n) ↔ (v ≡ w) → (v ≡ w) ↔ S → (word ≡ n) ↔ S
-  through v w e f g = (λ h. g .0 (f .0 (sym e ∙ h)), λ s. e ∙ f .1 (g .1 s))
-
   pub judge-word : {a : Judged} {word : ℕ} → word ≡ judgeWord a → JudgePromise rule plan part row a → JudgeWordPromise rule plan part row word
   judge-word {a} {word} e p = record {
     isJudge = e ∙ ap judgeWord (p .isJudge);
-    alwaysFalse = λ h. let q = small-judge a (subst (λ (n : ℕ). n < 3) e h) in through (q .0) AlwaysFalse (e ∙ judged-word a (q .0) (q .1)) (is-false (q .0)) (p .meaning (q .0) (q .1) .alwaysFalse);
-    alwaysTrue = λ h. let q = small-judge a (subst (λ (n : ℕ). n < 3) e h) in through (q .0) AlwaysTrue (e ∙ judged-word a (q .0) (q .1)) (is-true (q .0)) (p .meaning (q .0) (q .1) .alwaysTrue);
-    changes = λ h. let q = small-judge a (subst (λ (n : ℕ). n < 3) e h) in through (q .0) Changes (e ∙ judged-word a (q .0) (q .1)) (is-changes (q .0)) (p .meaning (q .0) (q .1) .changes);
+    meaning = λ h. let q = small-judge a (subst (λ (n : ℕ). n < 3) e h) in (q .0, e ∙ judged-word a (q .0) (q .1), p .meaning (q .0) (q .1));
     reports = λ r q.
         let c : a ≡ J.Refused r = p .isJudge ∙ q in
         ap unpacked (e ∙ refused-judge a r c) ∙ unpacks r (judge-names rule plan part row (p .isJudge) r c);

@@ -6,18 +6,19 @@ use mathlib.Core.Logic.{_↔_}
 use Rattle.cltlb.specs.Truth.{Holds}
 use Rattle.cltlb.specs.Parts.{formulaOf}
 use Rattle.rule.specs.Layout.{partCount}
-use Rattle.rule.specs.Take.{partsOf}
+use Rattle.rule.specs.Take.{viewsOf}
 use Rattle.plan.specs.Layout.{startRows, cycleRows}
-use Rattle.plan.specs.Positions.{rowOf}
 use Rattle.plan.specs.Run.{runOf}
 use Rattle.refusal.specs.declared.Refusal.{Refusal}
 use Rattle.refusal.specs.Report.{report, reportOf}
+use Rattle.verdict.specs.declared.Verdict.{Verdict}
+use Rattle.verdict.specs.Meaning.{VerdictMeans}
 use Rattle.judge.specs.declared.Judged.the-variants as J
 use Rattle.judge.specs.Judge.{judgeOf}
 use Rattle.acceptance.specs.declared.Checked.the-variants as C
 use Rattle.acceptance.specs.Check.{checkOf}
 use Rattle.acceptance.specs.Promise.{Cleared, RuleTruth, TableRight, EquationMeans, ClosingMeans, WitnessMeans}
-use Rattle.endless_run.specs.Packing.{unpacked, checkWord, judgeWord}
+use Rattle.endless_run.specs.Packing.{unpacked, checkWord, verdictWord, judgeWord}
 
 -- endless_run_check
 pub record CheckWordPromise (rule plan table : List ℕ) (word : ℕ) : Type 0 where
@@ -33,12 +34,13 @@ pub record CheckWordPromise (rule plan table : List ℕ) (word : ℕ) : Type 0 w
   pub closing : (i row : ℕ) → unpacked word ≡ report 10 i row → ClosingMeans rule plan table i row
   pub witness : (i : ℕ) → unpacked word ≡ report 11 i 0 → WitnessMeans rule plan table i
 
--- endless_run_judge: of the published truth of the part at every position that lies on the row, that is, on every pass
+-- endless_run_judge: 0 always false, 1 always true, 2 changes
 pub record JudgeWordPromise (rule plan : List ℕ) (part row word : ℕ) : Type 0 where
   pub isJudge : word ≡ judgeWord (judgeOf rule plan part row)
-  pub alwaysFalse : word < 3 → (word ≡ 0) ↔ ((t : ℕ) → rowOf (startRows plan) (cycleRows plan) t ≡ row → ¬ Holds (runOf plan) (formulaOf (partsOf rule) part) t)
-  pub alwaysTrue : word < 3 → (word ≡ 1) ↔ ((t : ℕ) → rowOf (startRows plan) (cycleRows plan) t ≡ row → Holds (runOf plan) (formulaOf (partsOf rule) part) t)
-  pub changes : word < 3 → (word ≡ 2) ↔ (((t : ℕ) × (rowOf (startRows plan) (cycleRows plan) t ≡ row) × Holds (runOf plan) (formulaOf (partsOf rule) part) t)
-      × ((t : ℕ) × (rowOf (startRows plan) (cycleRows plan) t ≡ row) × (¬ Holds (runOf plan) (formulaOf (partsOf rule) part) t)))
+  -- the verdict that the number stands for, and what it says of the published truth of the part at every position that lies on
+  -- the row, that is, on every pass
+  pub meaning : word < 3
+      → (v : Verdict) × (word ≡ verdictWord v)
+      × VerdictMeans (startRows plan) (cycleRows plan) row (Holds (runOf plan) (formulaOf (viewsOf rule) part)) v
   -- a refusal, taken apart, is the document's number, part and row
   pub reports : (r : Refusal) → judgeOf rule plan part row ≡ J.Refused r → unpacked word ≡ reportOf r

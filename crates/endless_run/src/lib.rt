@@ -6,9 +6,9 @@ ghost use Rattle.endless_run.specs.Packing.{refusalWord, unpacked, verdi
 ghost use Rattle.endless_run.specs.Promise.{CheckWordPromise, JudgeWordPromise};
 use acceptance::Checked;
 use judge::Judged;
-use judge::Verdict;
 use refusal::Refusal;
 use refusal::Report;
+use verdict::Verdict;
 
 // A refusal as one number: number × 2^32 + part × 2^16 + row.
 fn refusal_word(refusal: Refusal) -> u64

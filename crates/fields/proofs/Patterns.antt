@@ -4,16 +4,16 @@ use Prim.Native.Nat.{ℕ, zero, suc, _+_, _*_, _-_, _^_, _≤_, _<_}
 use native.Mathlib.Nat.{zero-add}
 use native.Mathlib.Omega.{arith}
 use mathlib.Core.Path.{_≡_, refl, sym, ap, _∙_, subst}
-use mathlib.Core.Bool.{Bool, true, false, cond}
-use mathlib.Core.Logic.{_⊎_, inl, inr, ⊎-elim}
+use mathlib.Core.Bool.{Bool, true, false}
 use lib.Dec.{ltb}
-use lib.IntN.{ℤ, pos, negsuc, subℕ, _-ℤ_}
-use lib.Signed.{mag, ltZ}
+use lib.IntN.{ℤ, pos, negsuc, _-ℤ_}
+use lib.Signed.{ltZ}
 use borrow.Author.Tests.{lt-ltb, le-ltb, ltb-true, ltb-false}
 use mir.Syntax.{w32}
 use mir.Val.{SFits, toZ}
 use mir.ValLaws.{toZ-pos}
 use Rattle.fields.specs.TwosComplement.{signedOf, patternOf}
+use Rattle.fields.specs.inner.Biased.{bias}
 use Rattle.fields.specs.inner.Ranges.{SignedFits}
 
 module _ (w n : ℕ) where
@@ -62,15 +62,15 @@ signed-fits w n h = go (ltb (2 * n) (256 ^ w)) refl
 -- a number of an `i32` fits four bytes
 pub fits-w32 : (z : ℤ) → SFits w32 z → SignedFits 4 z
 unfolding SignedFits
-fits-w32 (pos n) f = let h : n < 2147483648 = f .sfits in omega arith
-fits-w32 (negsuc n) f = let h : n < 2147483648 = f .sfits in omega arith
+fits-w32 (pos n) f = let h : n < bias = f .sfits in omega arith
+fits-w32 (negsuc n) f = let h : n < bias = f .sfits in omega arith
 
 -- -1 less a natural number is the number that negsuc names
 pub below-zero : (k : ℕ) → negsuc 0 -ℤ pos k ≡ negsuc k
 below-zero zero = refl
 below-zero (suc k) = ap (λ n. negsuc (suc n)) (zero-add k)
 
-pub below-zero-bits : (k : ℕ) → k < 2147483648 → negsuc 0 -ℤ toZ w32 k ≡ negsuc k
+pub below-zero-bits : (k : ℕ) → k < bias → negsuc 0 -ℤ toZ w32 k ≡ negsuc k
 below-zero-bits k h = ap (λ (z : ℤ). negsuc 0 -ℤ z) (toZ-pos w32 k h) ∙ below-zero k
 
 -- -1 less a negative number
@@ -81,12 +81,12 @@ flip n = simp (le-ltb (suc n) 1 (omega arith)) (ap pos (omega arith))
 pub record Neg (z : ℤ) : Type 0 where
   pub n : ℕ
   pub is : z ≡ negsuc n
-  pub small : n < 2147483648
+  pub small : n < bias
 
 pub record NonNeg (z : ℤ) : Type 0 where
   pub n : ℕ
   pub is : z ≡ pos n
-  pub small : n < 2147483648
+  pub small : n < bias
 
 pub neg-of : (z : ℤ) → SFits w32 z → ltZ z (pos 0) ≡ true → Neg z
 neg-of (pos m) f h = absurd (let k : m < 0 = ltb-true m 0 h in omega arith)

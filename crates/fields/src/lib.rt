@@ -3,9 +3,16 @@ ghost use mathlib.Core.Path.{_≡_};
 ghost use Prim.Native.Nat.{_+_, _≤_, _<_};
 ghost use mathlib.Core.List.{_++_};
 ghost use lib.ListN.{length, drop};
-ghost use lib.IntN.{subℕ};
 ghost use Rattle.fields.specs.LittleEndian.{numberAt, bytesOf};
 ghost use Rattle.fields.specs.TwosComplement.{signedOf, signedAt, patternOf};
+ghost use Rattle.fields.specs.inner.Biased.{patterns, unbiased};
+
+// What a signed number of 32 bits is kept above itself, so that it has no sign: half of the patterns of 32 bits.
+pub const BIAS: u64 = 2147483648;
+
+const HALF: u32 = BIAS as u32;
+
+const PATTERNS: u64 = 2 * BIAS;
 
 // A byte as a wider number.
 pub fn wide(x: u8) -> u32
@@ -40,7 +47,7 @@ pub fn u32_at(s: &[u8], at: usize) -> u32
 pub fn signed(pattern: u32) -> i32
     ensures { λ r. ⌜ r ≡ signedOf 4 pattern ⌝ }
 {
-    if pattern < 2147483648 {
+    if pattern < HALF {
         pattern as i32
     } else {
         -1 - ((4294967295 - pattern) as i32)
@@ -58,11 +65,11 @@ pub fn pattern(x: i32) -> u32
     }
 }
 
-// The number that a pattern of 32 bits stands for in two's complement, kept without a sign as that number + 2147483648.
+// The number that a pattern of 32 bits stands for in two's complement, kept without a sign.
 pub fn biased(pattern: u32) -> u64
-    ensures { λ r. ⌜ (subℕ r 2147483648 ≡ signedOf 4 pattern) × (r < 4294967296) ⌝ }
+    ensures { λ r. ⌜ (unbiased r ≡ signedOf 4 pattern) × (r < patterns) ⌝ }
 {
-    ((pattern as u64) + 2147483648) % 4294967296
+    ((pattern as u64) + BIAS) % PATTERNS
 }
 
 // The signed number of four bytes from `at` on.
@@ -91,12 +98,4 @@ pub fn put_u32(t: &mut [u8], x: u32)
     t[1] = (x / 256 % 256) as u8;
     t[2] = (x / 256 / 256 % 256) as u8;
     t[3] = (x / 256 / 256 / 256 % 256) as u8;
-}
-
-// Writes a signed number over the four bytes at the front of a lent part.
-pub fn put_i32(t: &mut [u8], x: i32)
-    requires { ⌜ 4 ≤ length (now t) ⌝ }
-    ensures { λ _. ⌜ now (t .exit) ≡ bytesOf 4 (patternOf 4 x) ++ drop 4 (now (t .entry)) ⌝ }
-{
-    put_u32(t, pattern(x));
 }

@@ -1,8 +1,2 @@
-pub mod Passes
-pub mod Decisions
-pub mod Lifts
-pub mod Cycles
-pub mod Verdicts
-pub mod Values
 pub mod Promised
 pub mod Entry

@@ -1,14 +1,19 @@
 -- The definition of judge keeps its promise, whatever the bytes and numbers, and two bytes hold the part and the row that its
 -- refusals name. Assumes nothing.
-use Prim.Native.Nat.{ℕ, _+_, _≤_, _<_}
+use Prim.Native.Nat.{ℕ, _<_}
 use native.Mathlib.Omega.{arith}
-use mathlib.Core.Path.{_≡_, refl, sym, ap, _∙_, subst}
+use mathlib.Core.Path.{_≡_, refl, sym, _∙_, subst}
 use mathlib.Core.List.{List}
-use mathlib.Core.Bool.{Bool, true, false, _&&_}
+use mathlib.Core.Bool.{Bool, true, _&&_, false≢true, and-eq-true-iff}
 use lib.Dec.{ltb}
 use borrow.Author.Tests.{ltb-true}
 use Rattle.cltlb.specs.Truth.{Holds}
-use Rattle.cltlb.specs.Parts.{isComparison, formulaFrom, formulaTo, formulaOf}
+use Rattle.cltlb.specs.Views.{isAtom}
+use Rattle.cltlb.specs.Fits.{viewFits}
+use Rattle.cltlb.specs.Parts.{formulaFrom, formulaTo, formulaOf}
+use Rattle.cltlb.specs.declared.View.{View}
+use Rattle.cltlb.specs.declared.View.the-variants as view
+use Rattle.cltlb.proofs.Fits.{atom-fits}
 use Rattle.refusal.specs.declared.Refusal.{Refusal}
 use Rattle.refusal.specs.declared.Refusal.the-variants.{Absent}
 use Rattle.refusal.specs.declared.Outcome.{Outcome}
@@ -17,62 +22,63 @@ use Rattle.refusal.specs.First.{_orElse_, unless}
 use Rattle.refusal.proofs.First.{orElse-clear, unless-clear}
 use Rattle.refusal.proofs.RefusesOnly.{Small, RefusesOnly, refused-only, orElse-only, unless-only, within-small}
 use Rattle.rule.specs.Layout.{partCount, channelCount}
-use Rattle.rule.specs.Take.{partsOf}
-use Rattle.rule.specs.Sheet.{sheetOutcome}
-use Rattle.rule.proofs.Fits.{both-true}
-use Rattle.rule.proofs.Cleared.{cleared-terms}
-use Rattle.rule.proofs.SheetNames.{sheet-within}
+use Rattle.rule.specs.Take.{viewsOf}
+use Rattle.rule.proofs.Cleared.{cleared-fits}
 use Rattle.plan.specs.Layout.{startRows, cycleRows, rows}
-use Rattle.plan.specs.Refusals.{planOutcome}
 use Rattle.plan.specs.Run.{runOf}
 use Rattle.plan.proofs.Outcomes.{cleared}
-use Rattle.plan.proofs.PlanNames.{plan-within}
-use Rattle.judge.specs.declared.Verdict.{Verdict}
+use Rattle.inputs.specs.Outcome.{inputsOutcome}
+use Rattle.inputs.proofs.Ways.{clear-both, inputs-within}
+use Rattle.verdict.specs.declared.Verdict.{Verdict}
+use Rattle.verdict.specs.Meaning.{VerdictMeans}
+use Rattle.verdict.proofs.Verdicts.{judged}
 use Rattle.judge.specs.declared.Judged.{Judged}
 use Rattle.judge.specs.declared.Judged.the-variants as J
-use Rattle.judge.specs.Meaning.{VerdictMeans}
-use Rattle.judge.specs.Rows.{verdictOf}
-use Rattle.judge.specs.Judge.{judgeOutcome, judgedAs, judgeOf, JudgePromise}
-use Rattle.judge.proofs.Verdicts.{judged}
+use Rattle.judge.specs.Judge.{verdictOn, judgeOutcome, judgedAs, judgeOf, JudgePromise}
 
 module _ (rule plan : List ℕ) (part row : ℕ) where
   -- the last test: the part and the row are there, and the part is a comparison
   abbrev pub judgeable : Bool
-  judgeable = ltb part (partCount rule) && (ltb row (rows plan) && isComparison (partsOf rule part))
+  judgeable = ltb part (partCount rule) && (ltb row (rows plan) && isAtom (viewsOf rule part))
 
   -- what judge has not refused
   pub record Judgeable : Type 0 where
-    pub sheet : sheetOutcome rule ≡ Clear
-    pub plan-clear : planOutcome (channelCount rule) plan ≡ Clear
+    pub inputs : inputsOutcome rule plan ≡ Clear
     pub part-there : part < partCount rule
     pub row-there : row < rows plan
-    pub comparison : isComparison (partsOf rule part) ≡ true
+    pub comparison : isAtom (viewsOf rule part) ≡ true
 
   judge-cleared : judgeOutcome rule plan part row ≡ Clear → Judgeable
   unfolding judgeOutcome
   judge-cleared e =
-      let a = orElse-clear (sheetOutcome rule) (planOutcome (channelCount rule) plan orElse unless judgeable Absent) .0 e in
-      let b = orElse-clear (planOutcome (channelCount rule) plan) (unless judgeable Absent) .0 (a .1) in
-      let t = both-true (ltb part (partCount rule)) (ltb row (rows plan) && isComparison (partsOf rule part)) (unless-clear judgeable Absent .0 (b .1)) in
-      let u = both-true (ltb row (rows plan)) (isComparison (partsOf rule part)) (t .1) in
+      let a = orElse-clear (inputsOutcome rule plan) (unless judgeable Absent) .0 e in
+      let t = and-eq-true-iff (ltb part (partCount rule)) (ltb row (rows plan) && isAtom (viewsOf rule part)) .0 (unless-clear judgeable Absent .0 (a .1)) in
+      let u = and-eq-true-iff (ltb row (rows plan)) (isAtom (viewsOf rule part)) .0 (t .1) in
       record {
-        sheet = a .0;
-        plan-clear = b .0;
+        inputs = a .0;
         part-there = ltb-true part (partCount rule) (t .0);
         row-there = ltb-true row (rows plan) (u .0);
         comparison = u .1;
       }
 
-  verdict-of : (o : Outcome) (v : Verdict) → judgedAs rule plan part row o ≡ J.Verdict v → (o ≡ Clear) × (verdictOf plan (partsOf rule part) row ≡ v)
+  verdict-of : (o : Outcome) (v : Verdict) → judgedAs rule plan part row o ≡ J.Verdict v → (o ≡ Clear) × (verdictOn plan (viewsOf rule part) row ≡ v)
   unfolding judgedAs
   verdict-of Clear v e = (refl, cc)
   verdict-of (Refused r) v e = absurd (let z : _≡_ {A = ℕ} 0 1 = cc in omega arith)
 
-  verdict-means : Judgeable → VerdictMeans (startRows plan) (cycleRows plan) row (Holds (runOf plan) (formulaOf (partsOf rule) part)) (verdictOf plan (partsOf rule part) row)
-  unfolding formulaOf formulaTo rows
+  -- the verdict on a part that is an atom
+  atom-means : (j : Judgeable) (p : View) → isAtom p ≡ true → viewFits (channelCount rule) part p ≡ true
+      → VerdictMeans (startRows plan) (cycleRows plan) row (Holds (runOf plan) (formulaFrom p (formulaTo (viewsOf rule) part))) (verdictOn plan p row)
+  unfolding verdictOn formulaFrom Holds rows
+  atom-means j (view.Atom x) c fits =
+      judged plan (cleared (channelCount rule) plan (clear-both rule plan (j .inputs) .1) .0 .a-cycle) row (j .row-there) (channelCount rule) x
+      (atom-fits (channelCount rule) part x fits)
+  atom-means j (view.Operator o) c fits = absurd (false≢true c)
+
+  verdict-means : Judgeable → VerdictMeans (startRows plan) (cycleRows plan) row (Holds (runOf plan) (formulaOf (viewsOf rule) part)) (verdictOn plan (viewsOf rule part) row)
+  unfolding formulaOf formulaTo
   verdict-means j =
-      judged plan (cleared (channelCount rule) plan (j .plan-clear) .0 .a-cycle) row (j .row-there) (channelCount rule) (partsOf rule part)
-      (formulaTo (partsOf rule) part) (j .comparison) (cleared-terms rule (j .sheet) part (j .part-there))
+      atom-means j (viewsOf rule part) (j .comparison) (cleared-fits rule (clear-both rule plan (j .inputs) .0) part (j .part-there))
 
   -- JUDGE KEEPS ITS PROMISE.
   pub judge-promise : {answer : Judged} → answer ≡ judgeOf rule plan part row → JudgePromise rule plan part row answer
@@ -81,16 +87,14 @@ module _ (rule plan : List ℕ) (part row : ℕ) where
     isJudge = e;
     meaning = λ v q.
         let a = verdict-of (judgeOutcome rule plan part row) v (sym e ∙ q) in
-        subst (VerdictMeans (startRows plan) (cycleRows plan) row (Holds (runOf plan) (formulaOf (partsOf rule) part))) (a .1) (verdict-means (judge-cleared (a .0)));
+        subst (VerdictMeans (startRows plan) (cycleRows plan) row (Holds (runOf plan) (formulaOf (viewsOf rule) part))) (a .1) (verdict-means (judge-cleared (a .0)));
   }
 
   judge-small : RefusesOnly Small (judgeOutcome rule plan part row)
   unfolding judgeOutcome
   judge-small =
-      orElse-only Small (sheetOutcome rule) (planOutcome (channelCount rule) plan orElse unless judgeable Absent) (within-small 1 3 (sheetOutcome rule) (sheet-within rule))
-      (λ _. orElse-only Small (planOutcome (channelCount rule) plan) (unless judgeable Absent)
-      (within-small 4 6 (planOutcome (channelCount rule) plan) (plan-within (channelCount rule) plan))
-      (λ _. unless-only Small judgeable Absent (omega arith)))
+      orElse-only Small (inputsOutcome rule plan) (unless judgeable Absent) (within-small 1 6 (inputsOutcome rule plan) (inputs-within rule plan))
+      (λ _. unless-only Small judgeable Absent (omega arith))
 
   refused-as : (o : Outcome) (r : Refusal) → judgedAs rule plan part row o ≡ J.Refused r → o ≡ Refused r
   unfolding judgedAs

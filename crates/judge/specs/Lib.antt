@@ -1,6 +1,1 @@
-pub mod Meaning
-pub mod Lines
-pub mod Comparisons
-pub mod Rows
 pub mod Judge
-pub mod inner

@@ -1,7 +1,7 @@
 -- Demand 3: a mark table is accepted exactly where every part has on each cycle row the same published truth on all passes,
 -- every mark is the truth at its row's first position, and every witness is in order. Assumes nothing.
 use mathlib.Core.Path.{_≡_, sym, ap, subst, subst⁻¹}
-use mathlib.Core.Bool.{Bool}
+use mathlib.Core.Bool.{Bool, true}
 use mathlib.Core.List.{List}
 use mathlib.Core.Logic.{_↔_, Iff·rfl, Iff·symm, Iff·trans, by-cases}
 use Prim.Native.Nat.{ℕ, zero, suc, _+_, _*_, _-_, _≤_, _<_}
@@ -11,8 +11,8 @@ use native.Mathlib.Omega.{arith}
 use lib.Dec.{T}
 use Rattle.cltlb.specs.Truth.{Formula, Holds}
 use Rattle.cltlb.specs.Parts.{formulaOf}
-use Rattle.cltlb.specs.inner.Fits.{NamesLower, ComparisonFits}
-use Rattle.cltlb.specs.declared.Part.{Part}
+use Rattle.cltlb.specs.Fits.{viewFits}
+use Rattle.cltlb.specs.declared.View.{View}
 use Rattle.cltlb.proofs.Depth.{formula-made}
 use Rattle.refusal.specs.First.{inTurn}
 use Rattle.refusal.specs.declared.Outcome.the-variants.{Clear}
@@ -25,11 +25,10 @@ use Rattle.marks.specs.Meaning.{Truth, SameOn, PartSettled, MarkTrue, Pa
 use Rattle.marks.proofs.Tests.{T-path, T-ext}
 use Rattle.marks.proofs.Rows.{rowAt, first-position, start-row, from-start, is-row, row-0, again, row-and-pass}
 use Rattle.marks.proofs.Endless.{Agrees, markAt}
-use Rattle.marks.proofs.Comparisons.{judged-part}
 use Rattle.marks.proofs.Witnessed.{witness-exists}
 use Rattle.marks.proofs.Parts.{part-accepted}
 
-module _ (plan : List ℕ) (parts : ℕ → Part) (n : ℕ) (mark : ℕ → ℕ → Bool) where
+module _ (plan : List ℕ) (parts : ℕ → View) (n : ℕ) (mark : ℕ → ℕ → Bool) where
   -- The marks of part i are its published truth at every position.
   abbrev pub TrueAt : ℕ → Type 0
   TrueAt i = Agrees (markAt plan mark i) (Truth parts plan i)
@@ -41,7 +40,7 @@ module _ (plan : List ℕ) (parts : ℕ → Part) (n : ℕ) (mark : ℕ → ℕ 
   abbrev pub Accepted : (ℕ → ℕ) → Type 0
   Accepted witness = inTurn (λ i. partOutcome plan mark (parts i) i (witness i)) n ≡ Clear
 
-module _ (plan : List ℕ) (hC : 1 ≤ cycleRows plan) (parts : ℕ → Part) (n : ℕ) (mark : ℕ → ℕ → Bool) where
+module _ (plan : List ℕ) (hC : 1 ≤ cycleRows plan) (parts : ℕ → View) (n : ℕ) (mark : ℕ → ℕ → Bool) where
   -- Where the marks of a part are its truth at every position, the part is settled and its marks are true on the rows.
   pub true-settled : (i : ℕ) → TrueAt plan parts n mark i → PartSettled parts plan i
   unfolding PartSettled SameOn
@@ -73,17 +72,16 @@ module _ (plan : List ℕ) (hC : 1 ≤ cycleRows plan) (parts : ℕ → Part) (n
   unfolding Settled MarksTrue
   everywhere-iff = (λ h. (λ i l. true-settled i (h i l), λ i l. true-marks i (h i l)), λ p. settled-everywhere (p .0) (p .1))
 
--- What refusals 1 to 3 clear of the parts: they name lower ones, and the terms of comparisons fit, with v channels.
-module _ (plan : List ℕ) (hC : 1 ≤ cycleRows plan) (parts : ℕ → Part) (n : ℕ) (low : (i : ℕ) → i < n → NamesLower i (parts i))
-    (v : ℕ) (fits : (i : ℕ) → i < n → ComparisonFits v (parts i)) where
+-- What refusals 1 to 3 clear of the parts: they fit, with v channels.
+module _ (plan : List ℕ) (hC : 1 ≤ cycleRows plan) (parts : ℕ → View) (v n : ℕ)
+    (fits : (i : ℕ) → i < n → viewFits v i (parts i) ≡ true) where
   module _ (mark : ℕ → ℕ → Bool) (witness : ℕ → ℕ) where
     -- One part, where the marks of the lower ones are the truth.
     one : (i : ℕ) → i < n → ((a : ℕ) → a < i → TrueAt plan parts n mark a)
         → (partOutcome plan mark (parts i) i (witness i) ≡ Clear) ↔ (TrueAt plan parts n mark i × T (witnessInOrder (startRows plan) (cycleRows plan) mark (parts i) i (witness i)))
     unfolding Truth
     one i l named =
-        rw (formula-made parts n low i l)
-        (part-accepted plan mark (formulaOf parts) hC i named (parts i) (witness i) (low i l) (λ c. judged-part plan hC v (parts i) (fits i l) c (formulaOf parts)))
+        rw (formula-made parts v n fits i l) (part-accepted plan mark (formulaOf parts) hC i named v (parts i) (witness i) (fits i l))
 
     -- The parts below m, where none of them is refused.
     pub below : (m : ℕ) → m ≤ n → ((i : ℕ) → i < m → partOutcome plan mark (parts i) i (witness i) ≡ Clear) → (i : ℕ) → i < m
@@ -133,8 +131,8 @@ module _ (plan : List ℕ) (hC : 1 ≤ cycleRows plan) (parts : ℕ → Part) (n
 
       some : (i : ℕ) → i < n → (w : ℕ) × T (witnessInOrder (startRows plan) (cycleRows plan) mark (parts i) i w)
       some i l =
-          witness-exists plan hC mark i (formulaOf parts) (λ a q. right a (omega arith)) (parts i) (low i l)
-          (subst (λ (g : Formula). Agrees (markAt plan mark i) (Holds (runOf plan) g)) (formula-made parts n low i l) (right i l))
+          witness-exists plan hC mark i (formulaOf parts) (λ a q. right a (omega arith)) v (parts i) (fits i l)
+          (subst (λ (g : Formula). Agrees (markAt plan mark i) (Holds (runOf plan) g)) (formula-made parts v n fits i l) (right i l))
 
       pick : (i : ℕ) → Dec (i < n) → ℕ
       pick i (yes l) = some i l .0

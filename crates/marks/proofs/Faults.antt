@@ -1,17 +1,22 @@
 -- What refusals 9 and 10 of one part say of its truth, where the marks of the lower parts are their truth at every position.
 -- Assumes nothing.
-use mathlib.Core.Path.{_≡_, refl, sym, ap, _∙_, subst, subst₂}
-use mathlib.Core.Bool.{Bool, true, not, Bool·beq, true≢false}
+use mathlib.Core.Path.{_≡_, refl, sym, ap, ap₂, _∙_, subst, subst₂}
+use mathlib.Core.Bool.{Bool, true, false, not, true≢false}
 use mathlib.Core.List.{List}
 use mathlib.Core.Logic.{_↔_, Iff·rfl, Iff·symm, Iff·trans, _⊎_, inl, inr, by-cases}
 use Prim.Native.Nat.{ℕ, suc, _+_, _*_, _≤_, _<_}
 use native.Mathlib.Decide.{decLt}
 use native.Mathlib.Omega.{arith}
 use lib.Dec.{T, T-not}
-use Rattle.cltlb.specs.Truth.{Formula}
-use Rattle.cltlb.specs.Parts.{isComparison}
-use Rattle.cltlb.specs.inner.Fits.{NamesLower}
-use Rattle.cltlb.specs.declared.Part.{Part}
+use Rattle.cltlb.specs.Truth.{Formula, AtomHolds, Holds}
+use Rattle.cltlb.specs.Views.{isAtom}
+use Rattle.cltlb.specs.Parts.{formulaFrom}
+use Rattle.cltlb.specs.Fits.{viewFits}
+use Rattle.cltlb.specs.declared.Atom.{Atom}
+use Rattle.cltlb.specs.declared.Operator.{Operator}
+use Rattle.cltlb.specs.declared.View.{View}
+use Rattle.cltlb.specs.declared.View.the-variants as view
+use Rattle.cltlb.proofs.Fits.{atom-fits}
 use Rattle.refusal.specs.Lowest.{lowestFrom, lowest}
 use Rattle.refusal.specs.First.{atLowest}
 use Rattle.refusal.specs.declared.Refusal.{Refusal}
@@ -21,19 +26,22 @@ use Rattle.refusal.proofs.Lowest.{from-some}
 use Rattle.refusal.proofs.First.{clear-refused, unless-refused, refusedAt-refused}
 use Rattle.plan.specs.Layout.{startRows, cycleRows, rows}
 use Rattle.plan.specs.Positions.{passOf, after}
-use Rattle.judge.specs.declared.Verdict.{Verdict}
-use Rattle.judge.specs.declared.Verdict.the-variants.{AlwaysTrue, AlwaysFalse, Changes}
-use Rattle.judge.specs.Meaning.{VerdictMeans}
-use Rattle.judge.specs.Rows.{verdictOf}
-use Rattle.marks.specs.Equations.{byRowBefore}
-use Rattle.marks.specs.Parts.{isChanges, breaks, wraps, equationOutcome, steadyOutcome, wrapOutcome, closingOutcome}
+use Rattle.plan.specs.Run.{runOf}
+use Rattle.verdict.specs.declared.Verdict.{Verdict}
+use Rattle.verdict.specs.declared.Verdict.the-variants.{AlwaysTrue, AlwaysFalse, Changes}
+use Rattle.verdict.specs.Rows.{verdictOf}
+use Rattle.marks.specs.declared.operators.Beside.{Beside}
+use Rattle.marks.specs.declared.operators.Beside.the-variants.{After, Before}
+use Rattle.marks.specs.Equations.{besideOf, watched, stepOn}
+use Rattle.marks.specs.Parts.{isChanges, breaks, closes, equationOutcome, steadyOutcome, closingOutcome}
+use Rattle.marks.specs.inner.Tables.{wrapsBy, wraps}
 use Rattle.marks.specs.Meaning.{SameOn, DiffersOn}
 use Rattle.marks.proofs.Tests.{T-path, T-ext, beq-false, beq-true, beq-differs}
 use Rattle.marks.proofs.Rows.{lastRow, rowAt, first-position, last-is-row, again, once-more, after-row, second-pass, on-cycle-row, after-last-row}
-use Rattle.marks.proofs.Endless.{markAt, due}
-use Rattle.marks.proofs.Operators.{agrees-below}
-use Rattle.marks.proofs.Comparisons.{Judged, same-truth}
-use Rattle.marks.proofs.Unrolled.{OnRows, expectedOn, Unrolls, compares, ahead, back, unrolls, expected-due}
+use Rattle.marks.proofs.Endless.{besideAt, markAt, due}
+use Rattle.marks.proofs.Temporal.{agrees-below}
+use Rattle.marks.proofs.Comparisons.{Judged, judged-atom, same-truth}
+use Rattle.marks.proofs.Unrolled.{OnRows, expectedOn, expected-due, closes-by-marks}
 use Rattle.marks.proofs.Parts.{Right, This, Ahead, Due, byEarlier, byLater, is-due}
 
 is-changes : (v : Verdict) → isChanges v ≡ true → v ≡ Changes
@@ -43,14 +51,13 @@ is-changes Changes e = refl
 
 module _ (plan : List ℕ) (F : ℕ → Type 0) where
   -- What a refusal 10 says of a part whose truth is F.
-  abbrev pub Open : Part → ℕ → Refusal → Type 0
+  abbrev pub Open : View → ℕ → Refusal → Type 0
   Open p i r =
       (row : ℕ) × (Closing i row ≡ r) × (startRows plan ≤ row) × (row < rows plan) × DiffersOn plan F row
-      × (isComparison p ≡ true → (q : ℕ) → startRows plan ≤ q → q < row → SameOn plan F q)
+      × (isAtom p ≡ true → (q : ℕ) → startRows plan ≤ q → q < row → SameOn plan F q)
 
 module _ (plan : List ℕ) (mark : ℕ → ℕ → Bool) (f : ℕ → Formula) (hC : 1 ≤ cycleRows plan) (i : ℕ)
-    (named : (a : ℕ) → a < i → Right plan mark f a (f a)) (p : Part) (low : NamesLower i p)
-    (judged : isComparison p ≡ true → Judged plan p (This plan mark f p)) where
+    (named : (a : ℕ) → a < i → Right plan mark f a (f a)) (v : ℕ) (p : View) (fits : viewFits v i p ≡ true) where
   abbrev F : ℕ → Type 0
   F = This plan mark f p
 
@@ -117,78 +124,101 @@ module _ (plan : List ℕ) (mark : ℕ → ℕ → Bool) (f : ℕ → Formula) (
       let lower : (k : ℕ) → k < s .0 → mark i k ≡ expectedOn plan mark p i k =
       λ k q. beq-false (mark i k) (expectedOn plan mark p i k) .0 (at .3 k (omega arith) q) in
       let broken = beq-true (mark i (s .0)) (expectedOn plan mark p i (s .0)) (at .2) in
-      let kind = is-due plan mark f hC i named p low judged in
+      let kind = is-due plan mark f hC i named v p fits in
       (s .0, s .2, l, false-here (s .0) l lower broken kind, false-beside (s .0) l lower broken kind)
 
-  -- the verdict on a cycle row
-  means : isComparison p ≡ true → (row : ℕ) → startRows plan ≤ row → row < rows plan → VerdictMeans (startRows plan) (cycleRows plan) row F (verdictOf plan p row)
-  means c row low high = judged c .verdict row low high
+-- ---- refusal 10
 
-  -- A position on a row, as a pass of the row.
-  as-pass : (G : ℕ → Type 0) (row : ℕ) → startRows plan ≤ row → (t : ℕ) × (rowAt plan t ≡ row) × G t → (k : ℕ) × G (row + k * cycleRows plan)
-  as-pass G row low t =
-      (passOf (startRows plan) (cycleRows plan) (t .0), subst G (on-cycle-row plan hC row (t .0) low (t .1)) (t .2))
+-- A position on a row, as a pass of the row.
+as-pass : (plan : List ℕ) (hC : 1 ≤ cycleRows plan) (G : ℕ → Type 0) (row : ℕ) → startRows plan ≤ row → (t : ℕ) × (rowAt plan t ≡ row) × G t → (k : ℕ) × G (row + k * cycleRows plan)
+as-pass plan hC G row low t =
+    (passOf (startRows plan) (cycleRows plan) (t .0), subst G (on-cycle-row plan hC row (t .0) low (t .1)) (t .2))
 
-  -- 10 of a comparison: it changes on the row, and on no lower cycle row.
-  changing : isComparison p ≡ true → (r : Refusal) → steadyOutcome plan p i ≡ Refused r → Open plan F p i r
-  unfolding steadyOutcome rows DiffersOn SameOn
-  changing c r e =
-      let s = refusedAt-refused (Closing i) (lowestFrom (λ row. isChanges (verdictOf plan p row)) (startRows plan) (cycleRows plan)) r e in
-      let at = from-some (λ row. isChanges (verdictOf plan p row)) (startRows plan) (cycleRows plan) (s .0) .0 (s .1) in
-      let d = means c (s .0) (at .0) (at .1) .changes .0 (is-changes (verdictOf plan p (s .0)) (at .2)) in (
-        s .0,
-        s .2,
-        at .0,
-        at .1,
-        (as-pass F (s .0) (at .0) (d .0), as-pass (λ t. ¬ F t) (s .0) (at .0) (d .1)),
-        λ _ q low below k.
-            let l = at .1 in
-            let high : q < startRows plan + cycleRows plan = omega arith in
-            same-truth (startRows plan) (cycleRows plan) q F (verdictOf plan p q) (means c q low high) (at .3 q low below)
-            q (q + k * cycleRows plan) (first-position plan q high) (again plan hC q k low ∙ first-position plan q high),
-      )
+-- Of a comparison: it changes on the row, and on no lower cycle row.
+changing : (plan : List ℕ) → 1 ≤ cycleRows plan → (x : Atom) (i : ℕ) (F : ℕ → Type 0) → Judged plan x F
+    → (r : Refusal) → steadyOutcome plan x i ≡ Refused r → Open plan F (view.Atom x) i r
+unfolding steadyOutcome rows DiffersOn SameOn
+changing plan hC x i F judged r e =
+    let s = refusedAt-refused (Closing i) (lowestFrom (λ row. isChanges (verdictOf plan x row)) (startRows plan) (cycleRows plan)) r e in
+    let at = from-some (λ row. isChanges (verdictOf plan x row)) (startRows plan) (cycleRows plan) (s .0) .0 (s .1) in
+    let d = judged .verdict (s .0) (at .0) (at .1) .changes .0 (is-changes (verdictOf plan x (s .0)) (at .2)) in (
+      s .0,
+      s .2,
+      at .0,
+      at .1,
+      (as-pass plan hC F (s .0) (at .0) (d .0), as-pass plan hC (λ t. ¬ F t) (s .0) (at .0) (d .1)),
+      λ _ q low below k.
+          let l = at .1 in
+          let high : q < startRows plan + cycleRows plan = omega arith in
+          same-truth (startRows plan) (cycleRows plan) q F (verdictOf plan x q) (judged .verdict q low high) (at .3 q low below)
+          q (q + k * cycleRows plan) (first-position plan q high) (again plan hC q k low ∙ first-position plan q high),
+    )
 
-  -- 10 of a part that looks back: its marks, which meet the equation, are true on pass 0, and so is what the equation asks of
+module _ (plan : List ℕ) (mark : ℕ → ℕ → Bool) (f : ℕ → Formula) (hC : 1 ≤ cycleRows plan) (i : ℕ)
+    (named : (a : ℕ) → a < i → Right plan mark f a (f a)) (v : ℕ) where
+  -- Of an operator that looks back: its marks, which meet the equation, are true on pass 0, and so is what the equation asks of
   -- row P on pass 1; the two differ.
-  module _ (by : (t : ℕ) → ((k : ℕ) → k < t → T (markAt plan mark i k) ↔ F k) → T (due plan mark p i t) ↔ F t) (met : OnRows plan mark p i) where
-    first-pass : (t : ℕ) → t < rows plan → T (markAt plan mark i t) ↔ F t
-    first-pass = true-below by (rows plan) (omega arith) met
+  module _ (o : Operator) (fits : viewFits v i (view.Operator o) ≡ true) (met : OnRows plan mark (view.Operator o) i) where
+    abbrev G : ℕ → Type 0
+    G = This plan mark f (view.Operator o)
 
-    on-pass-0 : T (mark i (startRows plan)) ↔ F (startRows plan + 0 * cycleRows plan)
-    unfolding rows
-    on-pass-0 =
-        let here : startRows plan < startRows plan + cycleRows plan = omega arith in
-        let zeroth : startRows plan ≡ startRows plan + 0 * cycleRows plan = omega arith in
-        subst (λ (t : ℕ). T (mark i (startRows plan)) ↔ F t) zeroth
-        (Iff·trans (T-path (ap (mark i) (sym (first-position plan (startRows plan) here)))) (first-pass (startRows plan) here))
+    -- what the equation asks of row P with row W - 1 as the row before
+    abbrev turned : Bool
+    turned = stepOn mark o (startRows plan) (mark (watched o i) (lastRow plan))
 
-    on-pass-1 : byRowBefore mark p i (rowAt plan (suc (lastRow plan))) (rowAt plan (lastRow plan)) ≡ due plan mark p i (suc (lastRow plan))
-        → T (byRowBefore mark p i (startRows plan) (lastRow plan)) ↔ F (startRows plan + 1 * cycleRows plan)
-    on-pass-1 b =
-        subst (λ (t : ℕ). T (byRowBefore mark p i (startRows plan) (lastRow plan)) ↔ F t) (second-pass plan hC)
-        (Iff·trans
-        (T-path (subst₂ (λ (x y : ℕ). byRowBefore mark p i x y ≡ due plan mark p i (suc (lastRow plan)))
-        (after-last-row plan hC) (first-position plan (lastRow plan) (last-is-row plan hC)) b))
-        (by (suc (lastRow plan)) (λ k l. first-pass k (omega (arith, last-is-row plan hC)))))
+    turned-due : (first : Bool) → besideOf o ≡ Before first → due plan mark (view.Operator o) i (suc (lastRow plan)) ≡ turned
+    unfolding due
+    turned-due first e =
+        ap₂ (stepOn mark o) (after-last-row plan hC)
+        (ap (λ (s : Beside). besideAt s (markAt plan mark (watched o i)) (suc (lastRow plan))) e ∙ ap (mark (watched o i)) (first-position plan (lastRow plan) (last-is-row plan hC)))
 
-    turning : byRowBefore mark p i (rowAt plan (suc (lastRow plan))) (rowAt plan (lastRow plan)) ≡ due plan mark p i (suc (lastRow plan))
-        → (r : Refusal) → wrapOutcome plan mark p i ≡ Refused r → Open plan F p i r
-    unfolding wrapOutcome wraps rows DiffersOn
-    turning b r e =
-        let u = unless-refused (Bool·beq (mark i (startRows plan)) (byRowBefore mark p i (startRows plan) (lastRow plan))) (Closing i (startRows plan)) r e in
-        (startRows plan, u .1, omega arith, omega arith, differs (beq-differs (mark i (startRows plan)) (byRowBefore mark p i (startRows plan) (lastRow plan)) (u .0)), λ _ q low below. absurd (omega arith))
+    module _ (by : (t : ℕ) → ((k : ℕ) → k < t → T (markAt plan mark i k) ↔ G k) → T (due plan mark (view.Operator o) i t) ↔ G t) where
+      first-pass : (t : ℕ) → t < rows plan → T (markAt plan mark i t) ↔ G t
+      first-pass = true-below plan mark f hC i named v (view.Operator o) fits by (rows plan) (omega arith) met
+
+      on-pass-0 : T (mark i (startRows plan)) ↔ G (startRows plan + 0 * cycleRows plan)
+      unfolding rows
+      on-pass-0 =
+          let here : startRows plan < startRows plan + cycleRows plan = omega arith in
+          let zeroth : startRows plan ≡ startRows plan + 0 * cycleRows plan = omega arith in
+          subst (λ (t : ℕ). T (mark i (startRows plan)) ↔ G t) zeroth
+          (Iff·trans (T-path (ap (mark i) (sym (first-position plan (startRows plan) here)))) (first-pass (startRows plan) here))
+
+      on-pass-1 : (first : Bool) → besideOf o ≡ Before first → T turned ↔ G (startRows plan + 1 * cycleRows plan)
+      on-pass-1 first e =
+          subst (λ (t : ℕ). T turned ↔ G t) (second-pass plan hC)
+          (Iff·trans (T-path (sym (turned-due first e))) (by (suc (lastRow plan)) (λ k l. first-pass k (omega (arith, last-is-row plan hC)))))
+
+      differs : (first : Bool) → besideOf o ≡ Before first
+          → (T (mark i (startRows plan)) × T (not turned)) ⊎ (T (not (mark i (startRows plan))) × T turned) → DiffersOn plan G (startRows plan)
+      unfolding DiffersOn
+      differs first e (inl d) = ((0, on-pass-0 .0 (d .0)), (1, λ h. T-not turned (d .1) (on-pass-1 first e .1 h)))
+      differs first e (inr d) = ((1, on-pass-1 first e .0 (d .1)), (0, λ h. T-not (mark i (startRows plan)) (d .0) (on-pass-0 .1 h)))
+
+    turning : (r : Refusal) → closingOutcome plan mark (view.Operator o) i ≡ Refused r → Open plan G (view.Operator o) i r
+    unfolding closingOutcome rows wraps wrapsBy
+    turning r e =
+        (startRows plan, u .1, omega arith, omega arith, go (besideOf o) refl (is-due plan mark f hC i named v (view.Operator o) fits), λ atom q low below. absurd (true≢false (sym atom)))
       where
-        differs : (T (mark i (startRows plan)) × T (not (byRowBefore mark p i (startRows plan) (lastRow plan))))
-            ⊎ (T (not (mark i (startRows plan))) × T (byRowBefore mark p i (startRows plan) (lastRow plan))) → DiffersOn plan F (startRows plan)
-        differs (inl d) = ((0, on-pass-0 .0 (d .0)), (1, λ h. T-not (byRowBefore mark p i (startRows plan) (lastRow plan)) (d .1) (on-pass-1 b .1 h)))
-        differs (inr d) = ((1, on-pass-1 b .0 (d .1)), (0, λ h. T-not (mark i (startRows plan)) (d .0) (on-pass-0 .1 h)))
+        u : (closes (startRows plan) (cycleRows plan) mark o ≡ false) × (Closing i (startRows plan) ≡ r)
+        u = unless-refused (closes (startRows plan) (cycleRows plan) mark o) (Closing i (startRows plan)) r e
+
+        open-marks : wraps (startRows plan) (cycleRows plan) mark o i ≡ false
+        open-marks = sym (closes-by-marks plan mark hC o i met) ∙ u .0
+
+        go : (s : Beside) → besideOf o ≡ s → Due plan mark f (view.Operator o) i → DiffersOn plan G (startRows plan)
+        go After d _ = absurd (true≢false (sym (ap (λ (s : Beside). wrapsBy s (startRows plan) (cycleRows plan) mark o i) d) ∙ open-marks))
+        go (Before first) d (byEarlier by) =
+            differs by first d (beq-differs (mark i (startRows plan)) turned (sym (ap (λ (s : Beside). wrapsBy s (startRows plan) (cycleRows plan) mark o i) d) ∙ open-marks))
+        go (Before first) d (byLater kind by later shut decides) = absurd (clear-refused (sym e ∙ shut))
+
+  atom-open : (x : Atom) → viewFits v i (view.Atom x) ≡ true → (r : Refusal) → closingOutcome plan mark (view.Atom x) i ≡ Refused r
+      → Open plan (This plan mark f (view.Atom x)) (view.Atom x) i r
+  unfolding closingOutcome formulaFrom Holds
+  atom-open x fits r e = changing plan hC x i (AtomHolds (runOf plan) x) (judged-atom plan hC v x (atom-fits v i x fits)) r e
 
   -- 10: the truth of the part is not the same on all passes of the row.
-  pub closing-open : OnRows plan mark p i → (r : Refusal) → closingOutcome plan mark p i ≡ Refused r → Open plan F p i r
-  closing-open met r e = go (unrolls plan mark hC p i) (is-due plan mark f hC i named p low judged)
-    where
-      go : Unrolls plan mark p i → Due plan mark f p i → Open plan F p i r
-      go (compares c x d k) _ = changing c r (sym k ∙ e)
-      go (ahead x k) _ = absurd (clear-refused (sym e ∙ k))
-      go (back z s b k) (byEarlier by) = turning by met (b (lastRow plan)) r (sym k ∙ e)
-      go (back z s b k) (byLater kind by later closes decides) = absurd (clear-refused (sym e ∙ closes))
+  pub closing-open : (p : View) → viewFits v i p ≡ true → OnRows plan mark p i → (r : Refusal) → closingOutcome plan mark p i ≡ Refused r
+      → Open plan (This plan mark f p) p i r
+  closing-open (view.Atom x) fits met r e = atom-open x fits r e
+  closing-open (view.Operator o) fits met r e = turning o fits met r e

@@ -1,13 +1,7 @@
 pub mod Tests
-pub mod AllBelow
-pub mod Places
-pub mod Refused
-pub mod Beside
-pub mod ByKind
-pub mod Outcomes
 pub mod Rows
 pub mod Endless
-pub mod Operators
+pub mod Temporal
 pub mod Comparisons
 pub mod Unrolled
 pub mod Witnesses
@@ -16,3 +10,8 @@ pub mod Parts
 pub mod Faults
 pub mod Accepted
 pub mod RefusalMeans
+pub mod Swept
+pub mod Stepped
+pub mod WitnessTests
+pub mod PartsChecked
+pub mod MarkNames

@@ -1,14 +1,14 @@
 -- Refusals 9, 10 and 11 of a table say of the published truth what marks/specs/RefusalMeaning states. Assumes nothing.
 use mathlib.Core.Path.{_≡_, sym, _∙_, subst}
-use mathlib.Core.Bool.{Bool}
+use mathlib.Core.Bool.{Bool, true}
 use mathlib.Core.List.{List}
 use mathlib.Core.Logic.{⊎-elim}
 use Prim.Native.Nat.{ℕ, _≤_, _<_}
 use native.Mathlib.Omega.{arith}
 use lib.Dec.{T}
 use Rattle.cltlb.specs.Parts.{formulaOf}
-use Rattle.cltlb.specs.inner.Fits.{NamesLower, ComparisonFits}
-use Rattle.cltlb.specs.declared.Part.{Part}
+use Rattle.cltlb.specs.Fits.{viewFits}
+use Rattle.cltlb.specs.declared.View.{View}
 use Rattle.cltlb.proofs.Depth.{formula-made}
 use Rattle.refusal.specs.First.{_orElse_, inTurn}
 use Rattle.refusal.specs.declared.Refusal.{Refusal}
@@ -21,13 +21,12 @@ use Rattle.marks.specs.Parts.{witnessInOrder, equationOutcome, closingOu
 use Rattle.marks.specs.Meaning.{Truth, SameOn, DiffersOn, MarkTrue, PartMarksTrue, PartWitnessed}
 use Rattle.marks.specs.RefusalMeaning.{FirstFault, EquationMeans, ClosingMeans, WitnessMeans}
 use Rattle.marks.proofs.Rows.{after-is-row}
-use Rattle.marks.proofs.Comparisons.{judged-part}
 use Rattle.marks.proofs.Unrolled.{equation-clear}
 use Rattle.marks.proofs.Parts.{Ahead}
 use Rattle.marks.proofs.Faults.{Open, equation-broken, closing-open}
 use Rattle.marks.proofs.Accepted.{TrueAt, true-settled, true-marks, below}
 
-module _ (plan : List ℕ) (parts : ℕ → Part) (n : ℕ) (mark : ℕ → ℕ → Bool) (witness : ℕ → ℕ) where
+module _ (plan : List ℕ) (parts : ℕ → View) (n : ℕ) (mark : ℕ → ℕ → Bool) (witness : ℕ → ℕ) where
   -- what a refusal of the table says, by its number
   unfoldable pub Means : Refusal → Type 0
   Means RuleSizes = Unit {0}
@@ -43,8 +42,8 @@ module _ (plan : List ℕ) (parts : ℕ → Part) (n : ℕ) (mark : ℕ → ℕ 
   Means (Witness i) = WitnessMeans parts n plan mark witness i
   Means Absent = Unit {0}
 
-module _ (plan : List ℕ) (hC : 1 ≤ cycleRows plan) (parts : ℕ → Part) (n : ℕ) (low : (i : ℕ) → i < n → NamesLower i (parts i))
-    (v : ℕ) (fits : (i : ℕ) → i < n → ComparisonFits v (parts i)) (mark : ℕ → ℕ → Bool) (witness : ℕ → ℕ) where
+module _ (plan : List ℕ) (hC : 1 ≤ cycleRows plan) (parts : ℕ → View) (v n : ℕ)
+    (fits : (i : ℕ) → i < n → viewFits v i (parts i) ≡ true) (mark : ℕ → ℕ → Bool) (witness : ℕ → ℕ) where
   module _ (i : ℕ) (l : i < n) (lower : (a : ℕ) → a < i → TrueAt plan parts n mark a × T (witnessInOrder (startRows plan) (cycleRows plan) mark (parts a) a (witness a))) where
     first-fault : FirstFault parts n plan mark witness i
     unfolding PartWitnessed
@@ -62,14 +61,14 @@ module _ (plan : List ℕ) (hC : 1 ≤ cycleRows plan) (parts : ℕ → Part) (n
         × (¬ (MarkTrue parts plan i mark row × MarkTrue parts plan i mark (after (startRows plan) (cycleRows plan) row)))
     unfolding MarkTrue Truth
     broken r e =
-        rw (formula-made parts n low i l)
-        (equation-broken plan mark (formulaOf parts) hC i (λ a q. lower a q .0) (parts i) (low i l) (λ c. judged-part plan hC v (parts i) (fits i l) c (formulaOf parts)) r e)
+        rw (formula-made parts v n fits i l)
+        (equation-broken plan mark (formulaOf parts) hC i (λ a q. lower a q .0) v (parts i) (fits i l) r e)
 
     opened : equationOutcome plan mark (parts i) i ≡ Clear → (r : Refusal) → closingOutcome plan mark (parts i) i ≡ Refused r → Open plan (Truth parts plan i) (parts i) i r
     unfolding Truth DiffersOn SameOn
     opened met r e =
-        rw (formula-made parts n low i l)
-        (closing-open plan mark (formulaOf parts) hC i (λ a q. lower a q .0) (parts i) (low i l) (λ c. judged-part plan hC v (parts i) (fits i l) c (formulaOf parts))
+        rw (formula-made parts v n fits i l)
+        (closing-open plan mark (formulaOf parts) hC i (λ a q. lower a q .0) v (parts i) (fits i l)
         (equation-clear plan mark (parts i) i .0 met) r e)
 
     equation-means : (r : Refusal) → equationOutcome plan mark (parts i) i ≡ Refused r → Means plan parts n mark witness r
@@ -111,4 +110,4 @@ module _ (plan : List ℕ) (hC : 1 ≤ cycleRows plan) (parts : ℕ → Part) (n
   refused-means r e =
       let p = inTurn-refused (λ i. partOutcome plan mark (parts i) i (witness i)) n r e in
       let l = p .1 in
-      part-means (p .0) l (below plan hC parts n low v fits mark witness (p .0) (omega arith) (p .2)) r (p .3)
+      part-means (p .0) l (below plan hC parts v n fits mark witness (p .0) (omega arith) (p .2)) r (p .3)

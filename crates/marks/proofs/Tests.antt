@@ -3,7 +3,6 @@ use mathlib.Core.Path.{_≡_, refl, sym, _∙_, subst, subst⁻¹}
 use mathlib.Core.Bool.{Bool, true, false, not, _&&_, _||_, Bool·beq, true≢false}
 use mathlib.Core.Logic.{_↔_, _⊎_, inl, inr, ⊎-elim}
 use lib.Dec.{T, T-not, not-T}
-use Rattle.marks.specs.inner.Tables.{flipped}
 
 pub T-dec : (x : Bool) → T x ⊎ T (not x)
 T-dec true = inl tt
@@ -17,10 +16,6 @@ T-ext true true h = refl
 T-ext true false h = absurd (h .0 tt)
 T-ext false true h = absurd (h .1 tt)
 T-ext false false h = refl
-
-pub T-true : (x : Bool) → T x ↔ (x ≡ true)
-T-true true = (λ _. refl, λ _. tt)
-T-true false = (absurd, λ e. subst⁻¹ T e tt)
 
 -- Two tests are the same, by the test of it that a refusal makes.
 pub beq-false : (x y : Bool) → (not (Bool·beq x y) ≡ false) ↔ (x ≡ y)
@@ -78,10 +73,3 @@ beq-not true true = refl
 beq-not true false = refl
 beq-not false true = refl
 beq-not false false = refl
-
--- The exclusive or flips a test.
-pub xor-flips : (x o : Bool) → not (Bool·beq x o) ≡ flipped o x
-xor-flips true true = refl
-xor-flips true false = refl
-xor-flips false true = refl
-xor-flips false false = refl

@@ -1,5 +1,5 @@
 -- Marks that are the truth have a witness in order. Assumes nothing.
-use mathlib.Core.Path.{subst, subst⁻¹}
+use mathlib.Core.Path.{_≡_, subst, subst⁻¹}
 use mathlib.Core.Bool.{Bool, true, false, cond, not, _&&_}
 use mathlib.Core.List.{List}
 use mathlib.Core.Logic.{Iff·rfl, inl, ⊎-elim}
@@ -7,14 +7,19 @@ use Prim.Native.Nat.{ℕ, _+_, _≤_, _<_}
 use native.Mathlib.Omega.{arith}
 use lib.Dec.{T, leb, ltb, eqb, le→leb, lt→ltb, eqb-refl, T-not}
 use Rattle.cltlb.specs.Operators.{Until, Release}
-use Rattle.cltlb.specs.Truth.{Formula, Holds}
+use Rattle.cltlb.specs.Truth.{Formula, BinaryHolds, Holds}
 use Rattle.cltlb.specs.Parts.{formulaFrom}
-use Rattle.cltlb.specs.inner.Fits.{NamesLower}
-use Rattle.cltlb.specs.declared.Part.{Part}
+use Rattle.cltlb.specs.Fits.{viewFits}
+use Rattle.cltlb.specs.declared.Binary.{Binary}
+use Rattle.cltlb.specs.declared.Binary.the-variants as binary
+use Rattle.cltlb.specs.declared.Operator.the-variants.{One, Two}
+use Rattle.cltlb.specs.declared.View.{View}
+use Rattle.cltlb.specs.declared.View.the-variants as view
+use Rattle.cltlb.proofs.Fits.{operator-fits, two-lower}
 use Rattle.cltlb.proofs.Duals.{somewhere}
 use Rattle.plan.specs.Layout.{startRows, cycleRows, rows}
 use Rattle.plan.specs.Run.{runOf}
-use Rattle.marks.specs.Parts.{noWitness, isCycleRow, witnessInOrder}
+use Rattle.marks.specs.Parts.{noWitness, isCycleRow, names, witnessTwo, witnessOfOperator, witnessInOrder}
 use Rattle.marks.proofs.Tests.{T-dec, and-iff, decided}
 use Rattle.marks.proofs.Rows.{lastRow, rowAt, first-position, from-start, is-row, last-is-row, start-to-last}
 use Rattle.marks.proofs.Endless.{Agrees, markAt}
@@ -66,26 +71,27 @@ chosen false f g h k = k tt
 
 module _ (plan : List ℕ) (hC : 1 ≤ cycleRows plan) (mark : ℕ → ℕ → Bool) (i : ℕ) (f : ℕ → Formula)
     (named : (a : ℕ) → a < i → Agrees (markAt plan mark a) (Holds (runOf plan) (f a))) where
-  -- A part whose marks are the truth has a witness in order.
-  pub witness-exists : (p : Part) → NamesLower i p → Agrees (markAt plan mark i) (Holds (runOf plan) (formulaFrom p f))
-      → (w : ℕ) × T (witnessInOrder (startRows plan) (cycleRows plan) mark p i w)
-  unfolding witnessInOrder NamesLower formulaFrom Holds
-  witness-exists (Part.Until a b) low right =
+  two-witnessed : (o : Binary) (a b : ℕ) → b < i → Agrees (markAt plan mark i) (Holds (runOf plan) (Formula.two o (f a) (f b)))
+      → (w : ℕ) × T (witnessTwo (startRows plan) (cycleRows plan) o (mark i (lastRow plan)) (mark b) w)
+  unfolding witnessTwo names Holds BinaryHolds
+  two-witnessed binary.Until a b low right =
       chosen (mark i (lastRow plan)) (λ w. isCycleRow (startRows plan) (cycleRows plan) w && mark b w) (λ w. eqb w noWitness)
-      (λ q. named-in-order plan (mark b) (until-named plan hC (Holds (runOf plan) (f a)) (Holds (runOf plan) (f b)) (mark b) (mark i) (named b (low .1)) right q))
+      (λ q. named-in-order plan (mark b) (until-named plan hC (Holds (runOf plan) (f a)) (Holds (runOf plan) (f b)) (mark b) (mark i) (named b low) right q))
       (λ _. none-named)
-  witness-exists (Part.Release a b) low right =
+  two-witnessed binary.Release a b low right =
       chosen (mark i (lastRow plan)) (λ w. eqb w noWitness) (λ w. isCycleRow (startRows plan) (cycleRows plan) w && not (mark b w))
       (λ _. none-named)
       (λ q. named-in-order plan (λ row. not (mark b row))
-      (release-named plan hC (Holds (runOf plan) (f a)) (Holds (runOf plan) (f b)) (mark b) (mark i) (named b (low .1)) right q))
-  witness-exists (Part.Less x y) low right = none-named
-  witness-exists (Part.Equal x y) low right = none-named
-  witness-exists (Part.Not a) low right = none-named
-  witness-exists (Part.And a b) low right = none-named
-  witness-exists (Part.Or a b) low right = none-named
-  witness-exists (Part.Next a) low right = none-named
-  witness-exists (Part.Yesterday a) low right = none-named
-  witness-exists (Part.WeakYesterday a) low right = none-named
-  witness-exists (Part.Since a b) low right = none-named
-  witness-exists (Part.Trigger a b) low right = none-named
+      (release-named plan hC (Holds (runOf plan) (f a)) (Holds (runOf plan) (f b)) (mark b) (mark i) (named b low) right q))
+  two-witnessed binary.And a b low right = none-named
+  two-witnessed binary.Or a b low right = none-named
+  two-witnessed binary.Since a b low right = none-named
+  two-witnessed binary.Trigger a b low right = none-named
+
+  -- A part whose marks are the truth has a witness in order.
+  pub witness-exists : (v : ℕ) (p : View) → viewFits v i p ≡ true → Agrees (markAt plan mark i) (Holds (runOf plan) (formulaFrom p f))
+      → (w : ℕ) × T (witnessInOrder (startRows plan) (cycleRows plan) mark p i w)
+  unfolding witnessInOrder witnessOfOperator formulaFrom
+  witness-exists v (view.Atom x) fits right = none-named
+  witness-exists v (view.Operator (One o a)) fits right = none-named
+  witness-exists v (view.Operator (Two o a b)) fits right = two-witnessed o a b (two-lower i o a b (operator-fits v i (Two o a b) fits) .1) right

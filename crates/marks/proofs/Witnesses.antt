@@ -1,17 +1,18 @@
 -- A witness in order decides U and R from every position on. Assumes nothing.
-use mathlib.Core.Path.{_≡_, subst⁻¹}
+use mathlib.Core.Path.{subst⁻¹}
 use mathlib.Core.Bool.{Bool, true, false, cond, not, _&&_}
 use mathlib.Core.List.{List}
 use mathlib.Core.Logic.{_⊎_, inl, inr, ⊎-elim, Iff·rfl}
 use Prim.Native.Nat.{ℕ, _+_, _≤_, _<_}
 use lib.Dec.{T, leb, ltb, eqb, leb→le, ltb→lt}
-use Rattle.cltlb.specs.declared.Part.the-variants.{Until, Release}
+use Rattle.cltlb.specs.Views.{twoView}
+use Rattle.cltlb.specs.declared.Binary.the-variants.{Until, Release}
 use Rattle.plan.specs.Layout.{startRows, cycleRows, rows}
-use Rattle.marks.specs.Parts.{noWitness, isCycleRow, witnessInOrder}
+use Rattle.marks.specs.Parts.{noWitness, isCycleRow, names, witnessTwo, witnessOfOperator, witnessInOrder}
 use Rattle.marks.proofs.Tests.{T-dec, and-iff, not-iff}
 use Rattle.marks.proofs.Rows.{lastRow, rowAt, last-is-row, start-to-last, comes}
 use Rattle.marks.proofs.Endless.{Agrees, markAt}
-use Rattle.marks.proofs.Operators.{Decides}
+use Rattle.marks.proofs.Temporal.{Decides}
 
 -- which way a choice went
 cond-true : (c x y : Bool) → T (cond c x y) → T c → T x
@@ -53,14 +54,14 @@ module _ (plan : List ℕ) where
 
 module _ (plan : List ℕ) (mark : ℕ → ℕ → Bool) (hC : 1 ≤ cycleRows plan) where
   module _ (B : ℕ → Type 0) (a b i w : ℕ) (hb : Agrees (markAt plan mark b) B) where
-    pub until-decides : T (witnessInOrder (startRows plan) (cycleRows plan) mark (Until a b) i w) → Decides B (markAt plan mark i)
-    unfolding witnessInOrder
+    pub until-decides : T (witnessInOrder (startRows plan) (cycleRows plan) mark (twoView Until a b) i w) → Decides B (markAt plan mark i)
+    unfolding witnessInOrder witnessOfOperator witnessTwo names
     until-decides h =
         decides plan hC B (mark b) (mark i) hb (λ q. named plan w (mark b)
         (cond-true (mark i (lastRow plan)) (isCycleRow (startRows plan) (cycleRows plan) w && mark b w) (eqb w noWitness) h q))
 
-    pub release-decides : T (witnessInOrder (startRows plan) (cycleRows plan) mark (Release a b) i w) → Decides (λ t. ¬ B t) (λ t. not (markAt plan mark i t))
-    unfolding witnessInOrder
+    pub release-decides : T (witnessInOrder (startRows plan) (cycleRows plan) mark (twoView Release a b) i w) → Decides (λ t. ¬ B t) (λ t. not (markAt plan mark i t))
+    unfolding witnessInOrder witnessOfOperator witnessTwo names
     release-decides h =
         decides plan hC (λ t. ¬ B t) (λ row. not (mark b row)) (λ row. not (mark i row)) (λ t. not-iff (markAt plan mark b t) (hb t)) (λ q. named plan w (λ row. not (mark b row))
         (cond-false (mark i (lastRow plan)) (eqb w noWitness) (isCycleRow (startRows plan) (cycleRows plan) w && not (mark b w)) h q))

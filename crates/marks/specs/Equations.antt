@@ -2,46 +2,80 @@
 -- Assumes nothing.
 use Prim.Native.Nat.{ℕ, zero, suc}
 use mathlib.Core.Bool.{Bool, true, false, not, _&&_, _||_}
-use Rattle.cltlb.specs.declared.Part.{Part}
-use Rattle.cltlb.specs.declared.Part.the-variants.{Less, Equal, Not, And, Or, Next, Until, Release, Yesterday, WeakYesterday, Since, Trigger}
+use Rattle.cltlb.specs.declared.Atom.{Atom}
+use Rattle.cltlb.specs.declared.Unary.{Unary}
+use Rattle.cltlb.specs.declared.Unary.the-variants.{Not, Next, Yesterday, WeakYesterday}
+use Rattle.cltlb.specs.declared.Binary.{Binary}
+use Rattle.cltlb.specs.declared.Binary.the-variants.{And, Or, Until, Release, Since, Trigger}
+use Rattle.cltlb.specs.declared.Operator.{Operator}
+use Rattle.cltlb.specs.declared.Operator.the-variants.{One, Two}
+use Rattle.cltlb.specs.declared.View.{View}
+use Rattle.cltlb.specs.declared.View.the-variants as view
 use Rattle.plan.specs.Positions.{after}
+use Rattle.marks.specs.declared.operators.Beside.{Beside}
+use Rattle.marks.specs.declared.operators.Beside.the-variants.{After, Before}
 
-module _ (mark : ℕ → ℕ → Bool) where
-  -- For Y, Z, S and T: the equation of part i for a row above 0, by the row before. Y and Z equal the named part on the row
-  -- before; a S b is b, or a and the mark before; a T b is b, and (a or the mark before).
-  unfoldable pub byRowBefore : Part → ℕ → ℕ → ℕ → Bool
-  byRowBefore (Yesterday a) i row before = mark a before
-  byRowBefore (WeakYesterday a) i row before = mark a before
-  byRowBefore (Since a b) i row before = mark b row || (mark a row && mark i before)
-  byRowBefore (Trigger a b) i row before = mark b row && (mark a row || mark i before)
-  byRowBefore (Less x y) i row before = mark i row
-  byRowBefore (Equal x y) i row before = mark i row
-  byRowBefore (Not a) i row before = mark i row
-  byRowBefore (And a b) i row before = mark i row
-  byRowBefore (Or a b) i row before = mark i row
-  byRowBefore (Next a) i row before = mark i row
-  byRowBefore (Until a b) i row before = mark i row
-  byRowBefore (Release a b) i row before = mark i row
+-- The row that an operator looks at beside its own: X, U and R at the row after; Y, Z, S and T at the row before, where before
+-- row 0 false counts for Y and S, true for Z and T. Not, and, or look at their own row alone.
+abbrev pub besideOne : Unary → Beside
+besideOne Not = After
+besideOne Next = After
+besideOne Yesterday = Before false
+besideOne WeakYesterday = Before true
 
--- With P start rows and C cycle rows. `compared` is, of a part that is a comparison, the truth at pass 0 on the row.
-module _ (P C : ℕ) (mark : ℕ → ℕ → Bool) (compared : Bool) where
-  -- Less, equal: the truth at pass 0. Not, and, or: row by row. X: the named part on the row after. a U b: b, or a and the
-  -- mark on the row after. a R b: b, and (a or the mark on the row after). Y on row 0 is false, Z on row 0 is true, a S b
-  -- and a T b on row 0 are b.
-  unfoldable pub expected : Part → ℕ → ℕ → Bool
-  expected (Less x y) i row = compared
-  expected (Equal x y) i row = compared
-  expected (Not a) i row = not (mark a row)
-  expected (And a b) i row = mark a row && mark b row
-  expected (Or a b) i row = mark a row || mark b row
-  expected (Next a) i row = mark a (after P C row)
-  expected (Until a b) i row = mark b row || (mark a row && mark i (after P C row))
-  expected (Release a b) i row = mark b row && (mark a row || mark i (after P C row))
-  expected (Yesterday a) i zero = false
-  expected (Yesterday a) i (suc row) = byRowBefore mark (Yesterday a) i (suc row) row
-  expected (WeakYesterday a) i zero = true
-  expected (WeakYesterday a) i (suc row) = byRowBefore mark (WeakYesterday a) i (suc row) row
-  expected (Since a b) i zero = mark b zero
-  expected (Since a b) i (suc row) = byRowBefore mark (Since a b) i (suc row) row
-  expected (Trigger a b) i zero = mark b zero
-  expected (Trigger a b) i (suc row) = byRowBefore mark (Trigger a b) i (suc row) row
+abbrev pub besideTwo : Binary → Beside
+besideTwo And = After
+besideTwo Or = After
+besideTwo Until = After
+besideTwo Release = After
+besideTwo Since = Before false
+besideTwo Trigger = Before true
+
+-- The mark of an operator over one part, by the part's mark on the row and on the row beside. X, Y and Z: the named part on the
+-- row beside; so Y on row 0 is false, and Z on row 0 is true.
+abbrev pub markOne : Unary → Bool → Bool → Bool
+markOne Not a beside = not a
+markOne Next a beside = beside
+markOne Yesterday a beside = beside
+markOne WeakYesterday a beside = beside
+
+-- Of one over two parts, by their marks on the row and its own on the row beside. a U b and a S b: b, or a and the mark beside;
+-- a R b and a T b: b, and (a or the mark beside). So a S b and a T b on row 0 are b.
+abbrev pub markTwo : Binary → Bool → Bool → Bool → Bool
+markTwo And a b beside = a && b
+markTwo Or a b beside = a || b
+markTwo Until a b beside = b || (a && beside)
+markTwo Release a b beside = b && (a || beside)
+markTwo Since a b beside = b || (a && beside)
+markTwo Trigger a b beside = b && (a || beside)
+
+abbrev pub besideOf : Operator → Beside
+besideOf (One o a) = besideOne o
+besideOf (Two o a b) = besideTwo o
+
+-- the part at whose mark on the row beside part i looks: the one that it names, or itself
+abbrev pub watched : Operator → ℕ → ℕ
+watched (One o a) i = a
+watched (Two o a b) i = i
+
+-- The mark of an operator on a row, by the marks there of the parts that it names and by the mark beside.
+abbrev pub stepOn : (ℕ → ℕ → Bool) → Operator → ℕ → Bool → Bool
+stepOn mark (One o a) row beside = markOne o (mark a row) beside
+stepOn mark (Two o a b) row beside = markTwo o (mark a row) (mark b row) beside
+
+-- With P start rows and C cycle rows.
+module _ (P C : ℕ) where
+  -- the mark on the row beside a row
+  unfoldable pub markBeside : Beside → (ℕ → Bool) → ℕ → Bool
+  markBeside After marks row = marks (after P C row)
+  markBeside (Before first) marks zero = first
+  markBeside (Before first) marks (suc row) = marks row
+
+  module _ (mark : ℕ → ℕ → Bool) where
+    unfoldable pub operatorMark : Operator → ℕ → ℕ → Bool
+    operatorMark o i row = stepOn mark o row (markBeside (besideOf o) (mark (watched o i)) row)
+
+    -- Part i on a row: an operator by the marks; less and equal by their truth at pass 0, `atoms`.
+    unfoldable pub expected : (Atom → ℕ → Bool) → View → ℕ → ℕ → Bool
+    expected atoms (view.Atom x) i row = atoms x row
+    expected atoms (view.Operator o) i row = operatorMark o i row

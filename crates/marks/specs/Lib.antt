@@ -1,4 +1,3 @@
-pub mod Layout
 pub mod Equations
 pub mod Parts
 pub mod Meaning

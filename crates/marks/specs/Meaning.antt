@@ -1,4 +1,4 @@
--- What marks that are accepted mean: demand 3, part by part, over any parts, plan and marks. Assumes nothing.
+-- What marks that are accepted mean: demand 3, part by part, over any parts, each a view, plan and marks. Assumes nothing.
 use Prim.Native.Nat.{ℕ, _+_, _*_, _≤_, _<_}
 use mathlib.Core.List.{List}
 use mathlib.Core.Bool.{Bool}
@@ -6,13 +6,13 @@ use mathlib.Core.Logic.{_↔_}
 use lib.Dec.{T}
 use Rattle.cltlb.specs.Truth.{Holds}
 use Rattle.cltlb.specs.Parts.{formulaOf}
-use Rattle.cltlb.specs.declared.Part.{Part}
+use Rattle.cltlb.specs.declared.View.{View}
 use Rattle.plan.specs.Layout.{startRows, cycleRows, rows}
 use Rattle.plan.specs.Run.{runOf}
 use Rattle.marks.specs.Parts.{witnessInOrder}
 
 -- the published truth of part i at position t
-unfoldable pub Truth : (ℕ → Part) → List ℕ → ℕ → ℕ → Type 0
+unfoldable pub Truth : (ℕ → View) → List ℕ → ℕ → ℕ → Type 0
 Truth parts plan i t = Holds (runOf plan) (formulaOf parts i) t
 
 -- of a statement F about positions
@@ -26,7 +26,7 @@ module _ (plan : List ℕ) (F : ℕ → Type 0) where
   DiffersOn row = ((k : ℕ) × F (row + k * cycleRows plan)) × ((k : ℕ) × (¬ F (row + k * cycleRows plan)))
 
 -- of part i
-module _ (parts : ℕ → Part) (plan : List ℕ) (i : ℕ) where
+module _ (parts : ℕ → View) (plan : List ℕ) (i : ℕ) where
   -- it has, on each cycle row, the same published truth on all passes
   unfoldable pub PartSettled : Type 0
   PartSettled = (row : ℕ) → startRows plan ≤ row → row < rows plan → SameOn plan (Truth parts plan i) row
@@ -45,7 +45,7 @@ module _ (parts : ℕ → Part) (plan : List ℕ) (i : ℕ) where
     PartWitnessed witness = T (witnessInOrder (startRows plan) (cycleRows plan) mark (parts i) i (witness i))
 
 -- of the parts below n
-module _ (parts : ℕ → Part) (n : ℕ) (plan : List ℕ) where
+module _ (parts : ℕ → View) (n : ℕ) (plan : List ℕ) where
   -- every part has, on each cycle row, the same published truth on all passes, without end
   unfoldable pub Settled : Type 0
   Settled = (i : ℕ) → i < n → PartSettled parts plan i

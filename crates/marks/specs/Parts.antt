@@ -1,22 +1,28 @@
 -- The checks on one part, 9, 10 and 11, in that order: equations, closing (the consistency of the loop) and witnesses (of
 -- eventualities). Assumes nothing.
-use Prim.Native.Nat.{ℕ, _+_}
+use Prim.Native.Nat.{ℕ, zero, suc, _+_}
 use mathlib.Core.List.{List}
 use mathlib.Core.Bool.{Bool, true, false, cond, not, _&&_, Bool·beq}
 use lib.Dec.{leb, ltb, eqb}
 use Rattle.refusal.specs.declared.Outcome.{Outcome}
-use Rattle.refusal.specs.declared.Outcome.the-variants.{Clear}
 use Rattle.refusal.specs.declared.Refusal.the-variants.{Equation, Closing, Witness}
 use Rattle.refusal.specs.Lowest.{lowestFrom}
 use Rattle.refusal.specs.First.{_orElse_, unless, refusedAt, atLowest}
-use Rattle.cltlb.specs.declared.Part.{Part}
-use Rattle.cltlb.specs.declared.Part.the-variants.{Less, Equal, Not, And, Or, Next, Until, Release, Yesterday, WeakYesterday, Since, Trigger}
+use Rattle.cltlb.specs.declared.Atom.{Atom}
+use Rattle.cltlb.specs.declared.Binary.{Binary}
+use Rattle.cltlb.specs.declared.Binary.the-variants.{And, Or, Until, Release, Since, Trigger}
+use Rattle.cltlb.specs.declared.Operator.{Operator}
+use Rattle.cltlb.specs.declared.Operator.the-variants.{One, Two}
+use Rattle.cltlb.specs.declared.View.{View}
+use Rattle.cltlb.specs.declared.View.the-variants as view
 use Rattle.plan.specs.Layout.{startRows, cycleRows, rows}
 use Rattle.plan.specs.Positions.{last}
-use Rattle.judge.specs.declared.Verdict.{Verdict}
-use Rattle.judge.specs.declared.Verdict.the-variants.{AlwaysTrue, AlwaysFalse, Changes}
-use Rattle.judge.specs.Rows.{comparisonAt, verdictOf}
-use Rattle.marks.specs.Equations.{byRowBefore, expected}
+use Rattle.verdict.specs.declared.Verdict.{Verdict}
+use Rattle.verdict.specs.declared.Verdict.the-variants.{AlwaysTrue, AlwaysFalse, Changes}
+use Rattle.verdict.specs.Rows.{atomAt, verdictOf}
+use Rattle.marks.specs.declared.operators.Beside.{Beside}
+use Rattle.marks.specs.declared.operators.Beside.the-variants.{After, Before}
+use Rattle.marks.specs.Equations.{besideOf, stepOn, expected}
 
 abbrev pub isChanges : Verdict → Bool
 isChanges AlwaysTrue = false
@@ -24,7 +30,7 @@ isChanges AlwaysFalse = false
 isChanges Changes = true
 
 -- 65535 means none
-unfoldable pub noWitness : ℕ
+abbrev pub noWitness : ℕ
 noWitness = 65535
 
 -- with P start rows and C cycle rows
@@ -33,64 +39,71 @@ module _ (P C : ℕ) where
   unfoldable pub isCycleRow : ℕ → Bool
   isCycleRow row = leb P row && ltb row (P + C)
 
-  module _ (mark : ℕ → ℕ → Bool) where
-    -- Closing, the consistency of the loop, for Y, Z, S and T: the equation for a row above 0 also holds on row P with row W - 1
-    -- as the row before.
-    unfoldable pub wraps : Part → ℕ → Bool
-    wraps p i = Bool·beq (mark i P) (byRowBefore mark p i P (last P C))
+  -- a row from P to W - 1 of which a test is true
+  unfoldable pub names : (ℕ → Bool) → ℕ → Bool
+  names test w = isCycleRow w && test w
 
-    -- a U b marked 1 on row W - 1 names a row from P to W - 1 where b is marked 1. a R b marked 0 there names one where b is
-    -- marked 0. Any such row will do. Every other part has 65535.
-    unfoldable pub witnessInOrder : Part → ℕ → ℕ → Bool
-    witnessInOrder (Until a b) i w = cond (mark i (last P C)) (isCycleRow w && mark b w) (eqb w noWitness)
-    witnessInOrder (Release a b) i w = cond (mark i (last P C)) (eqb w noWitness) (isCycleRow w && not (mark b w))
-    witnessInOrder (Less x y) i w = eqb w noWitness
-    witnessInOrder (Equal x y) i w = eqb w noWitness
-    witnessInOrder (Not a) i w = eqb w noWitness
-    witnessInOrder (And a b) i w = eqb w noWitness
-    witnessInOrder (Or a b) i w = eqb w noWitness
-    witnessInOrder (Next a) i w = eqb w noWitness
-    witnessInOrder (Yesterday a) i w = eqb w noWitness
-    witnessInOrder (WeakYesterday a) i w = eqb w noWitness
-    witnessInOrder (Since a b) i w = eqb w noWitness
-    witnessInOrder (Trigger a b) i w = eqb w noWitness
+  -- a U b marked 1 on row W - 1 names a row from P to W - 1 where b is marked 1. a R b marked 0 there names one where b is
+  -- marked 0. Any such row will do. Every other part has 65535.
+  unfoldable pub witnessTwo : Binary → Bool → (ℕ → Bool) → ℕ → Bool
+  witnessTwo Until marked b w = cond marked (names b w) (eqb w noWitness)
+  witnessTwo Release marked b w = cond marked (eqb w noWitness) (names (λ row. not (b row)) w)
+  witnessTwo And marked b w = eqb w noWitness
+  witnessTwo Or marked b w = eqb w noWitness
+  witnessTwo Since marked b w = eqb w noWitness
+  witnessTwo Trigger marked b w = eqb w noWitness
+
+  module _ (mark : ℕ → ℕ → Bool) where
+    -- what an operator that looks back sees of a row before: the mark of the part that it names, or its own truth there
+    abbrev pub seenOn : Operator → Bool → ℕ → Bool
+    seenOn (One o a) own row = mark a row
+    seenOn (Two o a b) own row = own
+
+    -- its truth on a row by the marks of the parts that it names, row after row from row 0 on
+    unfoldable pub running : Operator → Bool → ℕ → Bool
+    running o first zero = stepOn mark o zero first
+    running o first (suc row) = stepOn mark o (suc row) (seenOn o (running o first row) row)
+
+    -- Closing, the consistency of the loop, for Y, Z, S and T: the equation for a row above 0 also holds on row P with row W - 1
+    -- as the row before. It is said of their truth, whatever their own marks are.
+    unfoldable pub closesBy : Beside → Operator → Bool
+    closesBy After o = true
+    closesBy (Before first) o = Bool·beq (running o first P) (stepOn mark o P (seenOn o (running o first (last P C)) (last P C)))
+
+    unfoldable pub closes : Operator → Bool
+    closes o = closesBy (besideOf o) o
+
+    unfoldable pub witnessOfOperator : Operator → ℕ → ℕ → Bool
+    witnessOfOperator (One o a) i w = eqb w noWitness
+    witnessOfOperator (Two o a b) i w = witnessTwo o (mark i (last P C)) (mark b) w
+
+    unfoldable pub witnessInOrder : View → ℕ → ℕ → Bool
+    witnessInOrder (view.Atom x) i w = eqb w noWitness
+    witnessInOrder (view.Operator o) i w = witnessOfOperator o i w
 
 module _ (plan : List ℕ) where
   -- a comparison must not change on any cycle row: the lowest changing row
-  unfoldable pub steadyOutcome : Part → ℕ → Outcome
-  steadyOutcome p i = refusedAt (Closing i) (lowestFrom (λ row. isChanges (verdictOf plan p row)) (startRows plan) (cycleRows plan))
+  unfoldable pub steadyOutcome : Atom → ℕ → Outcome
+  steadyOutcome x i = refusedAt (Closing i) (lowestFrom (λ row. isChanges (verdictOf plan x row)) (startRows plan) (cycleRows plan))
 
   module _ (mark : ℕ → ℕ → Bool) where
     -- the mark of part i on a row breaks its equation
-    unfoldable pub breaks : Part → ℕ → ℕ → Bool
-    breaks p i row = not (Bool·beq (mark i row) (expected (startRows plan) (cycleRows plan) mark (comparisonAt plan p row) p i row))
+    unfoldable pub breaks : View → ℕ → ℕ → Bool
+    breaks p i row = not (Bool·beq (mark i row) (expected (startRows plan) (cycleRows plan) mark (atomAt plan) p i row))
 
     -- 9 A mark breaks its equation (part, lowest row).
-    unfoldable pub equationOutcome : Part → ℕ → Outcome
+    unfoldable pub equationOutcome : View → ℕ → Outcome
     equationOutcome p i = atLowest (breaks p i) (rows plan) (Equation i)
 
-    unfoldable pub wrapOutcome : Part → ℕ → Outcome
-    wrapOutcome p i = unless (wraps (startRows plan) (cycleRows plan) mark p i) (Closing i (startRows plan))
-
     -- 10 A part does not close (part; for a comparison the lowest changing row, else row P).
-    unfoldable pub closingOutcome : Part → ℕ → Outcome
-    closingOutcome (Less x y) i = steadyOutcome (Less x y) i
-    closingOutcome (Equal x y) i = steadyOutcome (Equal x y) i
-    closingOutcome (Not a) i = Clear
-    closingOutcome (And a b) i = Clear
-    closingOutcome (Or a b) i = Clear
-    closingOutcome (Next a) i = Clear
-    closingOutcome (Until a b) i = Clear
-    closingOutcome (Release a b) i = Clear
-    closingOutcome (Yesterday a) i = wrapOutcome (Yesterday a) i
-    closingOutcome (WeakYesterday a) i = wrapOutcome (WeakYesterday a) i
-    closingOutcome (Since a b) i = wrapOutcome (Since a b) i
-    closingOutcome (Trigger a b) i = wrapOutcome (Trigger a b) i
+    unfoldable pub closingOutcome : View → ℕ → Outcome
+    closingOutcome (view.Atom x) i = steadyOutcome x i
+    closingOutcome (view.Operator o) i = unless (closes (startRows plan) (cycleRows plan) mark o) (Closing i (startRows plan))
 
     -- 11 A witness is not as stated (part).
-    unfoldable pub witnessOutcome : Part → ℕ → ℕ → Outcome
+    unfoldable pub witnessOutcome : View → ℕ → ℕ → Outcome
     witnessOutcome p i w = unless (witnessInOrder (startRows plan) (cycleRows plan) mark p i w) (Witness i)
 
     -- Checks 9, 10 and 11 are made on one part before the next part.
-    unfoldable pub partOutcome : Part → ℕ → ℕ → Outcome
+    unfoldable pub partOutcome : View → ℕ → ℕ → Outcome
     partOutcome p i w = equationOutcome p i orElse closingOutcome p i orElse witnessOutcome p i w

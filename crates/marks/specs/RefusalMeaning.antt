@@ -3,14 +3,14 @@ use Prim.Native.Nat.{ℕ, _≤_, _<_}
 use mathlib.Core.Path.{_≡_}
 use mathlib.Core.List.{List}
 use mathlib.Core.Bool.{Bool, true}
-use Rattle.cltlb.specs.Parts.{isComparison}
-use Rattle.cltlb.specs.declared.Part.{Part}
-use Rattle.cltlb.specs.declared.Part.the-variants.{Until, Release}
+use Rattle.cltlb.specs.Views.{twoView, isAtom}
+use Rattle.cltlb.specs.declared.View.{View}
+use Rattle.cltlb.specs.declared.Binary.the-variants.{Until, Release}
 use Rattle.plan.specs.Layout.{startRows, cycleRows, rows}
 use Rattle.plan.specs.Positions.{after}
 use Rattle.marks.specs.Meaning.{Truth, SameOn, DiffersOn, PartSettled, MarkTrue, PartMarksTrue, PartWitnessed}
 
-module _ (parts : ℕ → Part) (n : ℕ) (plan : List ℕ) (mark : ℕ → ℕ → Bool) (witness : ℕ → ℕ) where
+module _ (parts : ℕ → View) (n : ℕ) (plan : List ℕ) (mark : ℕ → ℕ → Bool) (witness : ℕ → ℕ) where
   -- Part i is right: it is settled, its marks are true, its witness is in order.
   pub record PartRight (i : ℕ) : Type 0 where
     pub settled : PartSettled parts plan i
@@ -29,7 +29,7 @@ module _ (parts : ℕ → Part) (n : ℕ) (plan : List ℕ) (mark : ℕ → ℕ 
     -- the marks of the part are not all true:
     pub not-true : ¬ PartMarksTrue parts plan i mark
     -- the one on that row is false;
-    pub false-here : ((a b : ℕ) → ¬ (parts i ≡ Until a b)) → ((a b : ℕ) → ¬ (parts i ≡ Release a b)) → ¬ MarkTrue parts plan i mark row
+    pub false-here : ((a b : ℕ) → ¬ (parts i ≡ twoView Until a b)) → ((a b : ℕ) → ¬ (parts i ≡ twoView Release a b)) → ¬ MarkTrue parts plan i mark row
     -- of U and R, that one or the one on the row after, at which the equation looks
     pub false-beside : ¬ (MarkTrue parts plan i mark row × MarkTrue parts plan i mark (after (startRows plan) (cycleRows plan) row))
 
@@ -41,7 +41,7 @@ module _ (parts : ℕ → Part) (n : ℕ) (plan : List ℕ) (mark : ℕ → ℕ 
     -- on which the part's truth is not the same on all passes, whatever its marks say;
     pub differs : DiffersOn plan (Truth parts plan i) row
     -- of a comparison it is the lowest such row
-    pub lowest : isComparison (parts i) ≡ true → (q : ℕ) → startRows plan ≤ q → q < row → SameOn plan (Truth parts plan i) q
+    pub lowest : isAtom (parts i) ≡ true → (q : ℕ) → startRows plan ≤ q → q < row → SameOn plan (Truth parts plan i) q
 
   -- 11 of part i: its witness is not in order
   pub record WitnessMeans (i : ℕ) : Type 0 where

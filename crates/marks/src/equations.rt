@@ -1,197 +1,168 @@
-// The equations of parts that are no comparisons, on many rows at once, with `p` start rows, `c` cycle rows and `w` in all.
-// `i` is the part's number.
+// The equations of operators, on one row and on all rows, in a table of `n` parts. `i` is the part's number.
 ghost use mathlib.Core.Path.{_≡_};
-ghost use mathlib.Core.Bool.{true, false};
-ghost use Prim.Native.Nat.{_+_, _*_, _≤_, _<_};
-ghost use Rattle.cltlb.specs.Parts.{isComparison};
-ghost use Rattle.cltlb.specs.inner.Fits.{NamesLower};
+ghost use mathlib.Core.Bool.{true};
+ghost use Prim.Native.Nat.{_≤_, _<_};
+ghost use Rattle.cltlb.specs.Fits.{namesLower, viewFits};
 ghost use Rattle.plan.specs.Positions.{after};
-ghost use Rattle.marks.specs.Layout.{marked};
-ghost use Rattle.marks.specs.inner.Tables.{allBelow, copiesOf, stepsOf, looksBack, meetsBeside, meetsOn, Sized};
-ghost use Rattle.marks.specs.Parts.{wraps};
-use crate::sweeps::agree;
-use crate::sweeps::copies;
-use crate::sweeps::steps;
-use crate::table::mark_at;
-use cltlb::Part;
+ghost use Rattle.plan.specs.inner.Sizes.{allRows, Fitting};
+ghost use Rattle.verdict.specs.Rows.{atomAt};
+ghost use Rattle.table.specs.Layout.{marked};
+ghost use Rattle.marks.specs.Equations.{stepOn, markBeside, operatorMark, expected};
+ghost use Rattle.marks.specs.inner.Tables.{meetsOn, wraps};
+ghost use Rattle.table.specs.inner.Tables.{allBelow, Sized};
+use crate::operators::Beside;
+use crate::operators::beside_of;
+use crate::operators::mark_one;
+use crate::operators::mark_two;
+use crate::operators::watched;
+use crate::stretches::Stretch;
+use crate::stretches::swept;
+use cltlb::Operator;
+use cltlb::View;
+use plan::sizes::Sizes;
+use table::bytes::mark_at;
+use table::sweeps::agree;
 
-// Where the mark of a part on a row lies.
-fn place(w: usize, part: usize, row: usize) -> usize
-    requires { ⌜ (w ≤ 256) × (part < 64) × (row ≤ 256) ⌝ }
-    ensures { λ r. ⌜ r ≡ 4 + (part * w + row) ⌝ }
+// The mark of an operator on a row, by the mark beside.
+fn step_on(table: &[u8], n: usize, w: usize, operator: Operator, row: usize, beside: bool) -> bool
+    requires { ⌜ (Sized (now table) n w) × (namesLower n operator ≡ true) × (row < w) ⌝ }
+    ensures { λ r. ⌜ r ≡ stepOn (marked w (now (table .entry))) operator row beside ⌝ }
 {
-    4 + (part * w + row)
-}
-
-// On `count` rows from `row` on, part `i` has the marks, or the opposites of the marks, of part `a` from row `other` on.
-fn copied(
-    table: &[u8],
-    n: usize,
-    w: usize,
-    i: usize,
-    row: usize,
-    a: usize,
-    other: usize,
-    count: usize,
-    opposite: bool,
-) -> bool
-    requires { ⌜ (Sized (now table) n w) × (i < n) × (a < n) × (row + count ≤ w) × (other + count ≤ w) ⌝ }
-    ensures { λ r. ⌜ r ≡ copiesOf opposite (λ k. marked w (now (table .entry)) i (row + k)) (λ k. marked w (now (table .entry)) a (other + k)) count ⌝ }
-{
-    copies(table, place(w, i, row), place(w, a, other), count, opposite)
-}
-
-// On `count` rows from `row` on, part `i` is b, or a and next, with the marks of part `next` from row `beside` on; or it is
-// so of the opposites of all four.
-fn stepped(
-    table: &[u8],
-    n: usize,
-    w: usize,
-    i: usize,
-    row: usize,
-    a: usize,
-    b: usize,
-    next: usize,
-    beside: usize,
-    count: usize,
-    opposite: bool,
-) -> bool
-    requires { ⌜ (Sized (now table) n w) × (i < n) × (a < n) × (b < n) × (next < n) × (row + count ≤ w) × (beside + count ≤ w) ⌝ }
-    ensures { λ r. ⌜ r ≡ stepsOf opposite (λ k. marked w (now (table .entry)) i (row + k)) (λ k. marked w (now (table .entry)) a (row + k)) (λ k. marked w (now (table .entry)) b (row + k)) (λ k. marked w (now (table .entry)) next (beside + k)) count ⌝ }
-{
-    steps(
-        table,
-        place(w, i, row),
-        place(w, a, row),
-        place(w, b, row),
-        place(w, next, beside),
-        count,
-        opposite,
-    )
-}
-
-// Part `i` meets its equation on `count` rows from `row` on, the rows from `beside` on being beside them. And and R are or
-// and U of the opposites.
-fn meets_beside(
-    table: &[u8],
-    n: usize,
-    w: usize,
-    i: usize,
-    part: Part,
-    row: usize,
-    beside: usize,
-    count: usize,
-) -> bool
-    requires { ⌜ (Sized (now table) n w) × (i < n) × (NamesLower i part) × (isComparison part ≡ false) × (row + count ≤ w) × (beside + count ≤ w) ⌝ }
-    ensures { λ r. ⌜ r ≡ meetsBeside (marked w (now (table .entry))) part i row beside count ⌝ }
-{
-    match part {
-        Part::Less(_, _) => false,
-        Part::Equal(_, _) => false,
-        Part::Not(a) => copied(table, n, w, i, row, a, row, count, true),
-        Part::And(a, b) => stepped(table, n, w, i, row, a, b, a, row, count, true),
-        Part::Or(a, b) => stepped(table, n, w, i, row, a, b, a, row, count, false),
-        Part::Next(a) => copied(table, n, w, i, row, a, beside, count, false),
-        Part::Until(a, b) => stepped(table, n, w, i, row, a, b, i, beside, count, false),
-        Part::Release(a, b) => stepped(table, n, w, i, row, a, b, i, beside, count, true),
-        Part::Yesterday(a) => copied(table, n, w, i, row, a, beside, count, false),
-        Part::WeakYesterday(a) => copied(table, n, w, i, row, a, beside, count, false),
-        Part::Since(a, b) => stepped(table, n, w, i, row, a, b, i, beside, count, false),
-        Part::Trigger(a, b) => stepped(table, n, w, i, row, a, b, i, beside, count, true),
-    }
-}
-
-// Y, Z, S and T look at the row before.
-fn looks_back(part: Part) -> bool
-    ensures { λ r. ⌜ r ≡ looksBack part ⌝ }
-{
-    match part {
-        Part::Less(_, _) => false,
-        Part::Equal(_, _) => false,
-        Part::Not(_) => false,
-        Part::And(_, _) => false,
-        Part::Or(_, _) => false,
-        Part::Next(_) => false,
-        Part::Until(_, _) => false,
-        Part::Release(_, _) => false,
-        Part::Yesterday(_) => true,
-        Part::WeakYesterday(_) => true,
-        Part::Since(_, _) => true,
-        Part::Trigger(_, _) => true,
-    }
-}
-
-// A part that looks back meets its equation on row 0.
-fn meets_first(table: &[u8], n: usize, p: usize, c: usize, i: usize, part: Part) -> bool
-    requires { ⌜ (Sized (now table) n (p + c)) × (1 ≤ c) × (i < n) × (NamesLower i part) × (looksBack part ≡ true) ⌝ }
-    ensures { λ r. ⌜ r ≡ meetsOn p c (marked (p + c) (now (table .entry))) part i 0 ⌝ }
-{
-    match part {
-        Part::Yesterday(_) => agree(mark_at(table, n, p + c, i, 0), false),
-        Part::WeakYesterday(_) => agree(mark_at(table, n, p + c, i, 0), true),
-        Part::Since(_, b) => agree(
-            mark_at(table, n, p + c, i, 0),
-            mark_at(table, n, p + c, b, 0),
+    match operator {
+        Operator::One(sort, a) => mark_one(sort, mark_at(table, n, w, a, row), beside),
+        Operator::Two(sort, a, b) => mark_two(
+            sort,
+            mark_at(table, n, w, a, row),
+            mark_at(table, n, w, b, row),
+            beside,
         ),
-        Part::Trigger(_, b) => agree(
-            mark_at(table, n, p + c, i, 0),
-            mark_at(table, n, p + c, b, 0),
-        ),
-        _ => false,
     }
 }
 
 // The row after W - 1 is P.
-fn row_after(p: usize, c: usize, row: usize) -> usize
-    requires { ⌜ (1 ≤ c) × (p + c ≤ 256) × (row < p + c) ⌝ }
-    ensures { λ r. ⌜ (r ≡ after p c row) × (r < p + c) ⌝ }
+fn row_after(sizes: Sizes, row: usize) -> usize
+    requires { ⌜ (1 ≤ sizes .cycle) × (allRows sizes ≤ 256) × (row < allRows sizes) ⌝ }
+    ensures { λ r. ⌜ (r ≡ after (sizes .start) (sizes .cycle) row) × (r < allRows sizes) ⌝ }
 {
-    if row == p + c - 1 { p } else { row + 1 }
+    if row == sizes.start + sizes.cycle - 1 {
+        sizes.start
+    } else {
+        row + 1
+    }
 }
 
-// Part `i`, which is no comparison, meets its equation on a row.
-pub fn meets_on(
+// The mark of a part on the row beside a row.
+fn mark_beside(table: &[u8], n: usize, sizes: Sizes, side: Beside, part: usize, row: usize) -> bool
+    requires { ⌜ (Sized (now table) n (allRows sizes)) × (1 ≤ sizes .cycle) × (part < n) × (row < allRows sizes) ⌝ }
+    ensures { λ r. ⌜ r ≡ markBeside (sizes .start) (sizes .cycle) side (marked (allRows sizes) (now (table .entry)) part) row ⌝ }
+{
+    let w = sizes.start + sizes.cycle;
+    match side {
+        Beside::After => mark_at(table, n, w, part, row_after(sizes, row)),
+        Beside::Before(first) => {
+            if row == 0 {
+                first
+            } else {
+                mark_at(table, n, w, part, row - 1)
+            }
+        }
+    }
+}
+
+// The mark that an operator has to have on a row.
+pub fn operator_mark(
     table: &[u8],
     n: usize,
-    p: usize,
-    c: usize,
+    sizes: Sizes,
     i: usize,
-    part: Part,
+    operator: Operator,
     row: usize,
 ) -> bool
-    requires { ⌜ (Sized (now table) n (p + c)) × (1 ≤ c) × (i < n) × (NamesLower i part) × (isComparison part ≡ false) × (row < p + c) ⌝ }
-    ensures { λ r. ⌜ r ≡ meetsOn p c (marked (p + c) (now (table .entry))) part i row ⌝ }
+    requires { ⌜ (Sized (now table) n (allRows sizes)) × (1 ≤ sizes .cycle) × (i < n) × (namesLower n operator ≡ true) × (row < allRows sizes) ⌝ }
+    ensures { λ r. ⌜ r ≡ operatorMark (sizes .start) (sizes .cycle) (marked (allRows sizes) (now (table .entry))) operator i row ⌝ }
 {
-    if looks_back(part) {
-        if row == 0 {
-            return meets_first(table, n, p, c, i, part);
+    let w = sizes.start + sizes.cycle;
+    let side = beside_of(operator);
+    let beside = mark_beside(table, n, sizes, side, watched(operator, i), row);
+    step_on(table, n, w, operator, row, beside)
+}
+
+// The mark that a part has to have on a row: an atom its truth at pass 0, an operator by the marks.
+pub fn expected_mark(
+    plan: &[u8],
+    table: &[u8],
+    n: usize,
+    sizes: Sizes,
+    i: usize,
+    view: View,
+    row: usize,
+) -> bool
+    requires { ⌜ (Fitting (now plan) sizes) × (Sized (now table) n (allRows sizes)) × (i < n) × (viewFits (sizes .channels) n view ≡ true) × (row < allRows sizes) ⌝ }
+    ensures { λ r. ⌜ r ≡ expected (sizes .start) (sizes .cycle) (marked (allRows sizes) (now (table .entry))) (atomAt (now (plan .entry))) view i row ⌝ }
+{
+    match view {
+        View::Atom(atom) => verdict::rows::atom_at(plan, sizes, atom, row),
+        View::Operator(operator) => operator_mark(table, n, sizes, i, operator, row),
+    }
+}
+
+// An operator meets its equation on a row.
+fn meets_on(table: &[u8], n: usize, sizes: Sizes, i: usize, operator: Operator, row: usize) -> bool
+    requires { ⌜ (Sized (now table) n (allRows sizes)) × (1 ≤ sizes .cycle) × (i < n) × (namesLower n operator ≡ true) × (row < allRows sizes) ⌝ }
+    ensures { λ r. ⌜ r ≡ meetsOn (sizes .start) (sizes .cycle) (marked (allRows sizes) (now (table .entry))) operator i row ⌝ }
+{
+    let w = sizes.start + sizes.cycle;
+    agree(
+        mark_at(table, n, w, i, row),
+        operator_mark(table, n, sizes, i, operator, row),
+    )
+}
+
+// An operator meets its equation on every row: the first or the last row alone, the others in one sweep.
+pub fn meets_all(table: &[u8], n: usize, sizes: Sizes, i: usize, operator: Operator) -> bool
+    requires { ⌜ (Sized (now table) n (allRows sizes)) × (1 ≤ sizes .cycle) × (i < n) × (namesLower n operator ≡ true) ⌝ }
+    ensures { λ r. ⌜ r ≡ allBelow (meetsOn (sizes .start) (sizes .cycle) (marked (allRows sizes) (now (table .entry))) operator i) (allRows sizes) ⌝ }
+{
+    let w = sizes.start + sizes.cycle;
+    let side = beside_of(operator);
+    match side {
+        Beside::After => {
+            let others = Stretch {
+                part: i,
+                row: 0,
+                beside: 1,
+                count: w - 1,
+            };
+            swept(table, n, w, operator, others) & meets_on(table, n, sizes, i, operator, w - 1)
         }
-        return meets_beside(table, n, p + c, i, part, row, row - 1, 1);
+        Beside::Before(_) => {
+            let others = Stretch {
+                part: i,
+                row: 1,
+                beside: 0,
+                count: w - 1,
+            };
+            meets_on(table, n, sizes, i, operator, 0) & swept(table, n, w, operator, others)
+        }
     }
-    meets_beside(table, n, p + c, i, part, row, row_after(p, c, row), 1)
 }
 
-// Part `i`, which is no comparison, meets its equation on every row.
-pub fn meets_all(table: &[u8], n: usize, p: usize, c: usize, i: usize, part: Part) -> bool
-    requires { ⌜ (Sized (now table) n (p + c)) × (1 ≤ c) × (i < n) × (NamesLower i part) × (isComparison part ≡ false) ⌝ }
-    ensures { λ r. ⌜ r ≡ allBelow (meetsOn p c (marked (p + c) (now (table .entry))) part i) (p + c) ⌝ }
+// An operator that looks back meets its equation on row P after row W - 1; of others it is true.
+pub fn wraps_round(table: &[u8], n: usize, sizes: Sizes, i: usize, operator: Operator) -> bool
+    requires { ⌜ (Sized (now table) n (allRows sizes)) × (1 ≤ sizes .cycle) × (i < n) × (namesLower n operator ≡ true) ⌝ }
+    ensures { λ r. ⌜ r ≡ wraps (sizes .start) (sizes .cycle) (marked (allRows sizes) (now (table .entry))) operator i ⌝ }
 {
-    let w = p + c;
-    if looks_back(part) {
-        return meets_first(table, n, p, c, i, part)
-            & meets_beside(table, n, w, i, part, 1, 0, w - 1);
+    let w = sizes.start + sizes.cycle;
+    let p = sizes.start;
+    let side = beside_of(operator);
+    match side {
+        Beside::After => true,
+        Beside::Before(_) => {
+            let before = mark_at(table, n, w, watched(operator, i), w - 1);
+            agree(
+                mark_at(table, n, w, i, p),
+                step_on(table, n, w, operator, p, before),
+            )
+        }
     }
-    meets_beside(table, n, w, i, part, 0, 1, w - 1)
-        & meets_beside(table, n, w, i, part, w - 1, p, 1)
-}
-
-// A part that looks back meets its equation on row P after row W - 1; of other parts it is true.
-pub fn closes(table: &[u8], n: usize, p: usize, c: usize, i: usize, part: Part) -> bool
-    requires { ⌜ (Sized (now table) n (p + c)) × (1 ≤ c) × (i < n) × (NamesLower i part) ⌝ }
-    ensures { λ r. ⌜ r ≡ wraps p c (marked (p + c) (now (table .entry))) part i ⌝ }
-{
-    if looks_back(part) {
-        return meets_beside(table, n, p + c, i, part, p, p + c - 1, 1);
-    }
-    true
 }

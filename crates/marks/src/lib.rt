@@ -1,6 +1,6 @@
-// The mark table: refusals 7 and 8, and the tests that 9, 10 and 11 rest on: equations, closing and witnesses. The crate
-// acceptance makes those, part by part.
+// What the marks of a table have to be: the equations of operators, closing, witnesses, and refusals 9 to 11 of a part.
 pub mod equations;
-pub mod sweeps;
-pub mod table;
+pub mod operators;
+pub mod refusals;
+pub mod stretches;
 pub mod witness;

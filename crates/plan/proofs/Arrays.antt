@@ -5,9 +5,10 @@ use native.Mathlib.Omega.{arith}
 use mathlib.Core.Path.{_≡_, refl}
 use mathlib.Core.List.{List}
 use lib.ListN.{length, take, drop, length-take, length-drop}
-use lib.IntN.{pos, _+ℤ_, _*ℤ_}
+use lib.IntN.{ℤ, pos, _+ℤ_, _*ℤ_}
 use Rattle.plan.specs.Layout.{rows, headLength, arrayLength, readings, drifts, cell, entry, readingOf, driftOf}
-use Rattle.plan.specs.inner.Sizes.{Fitting}
+use Rattle.plan.specs.inner.Sizes.{allRows, Fitting}
+use Rattle.plan.specs.declared.sizes.Sizes.{Sizes}
 use Rattle.plan.specs.Positions.{rowOf, passOf}
 use Rattle.plan.specs.Run.{readingOn, readingAt}
 
@@ -18,40 +19,39 @@ pub cell-lt : (v w row channel : ℕ) → row < w → channel < v → 4 * cell v
 unfolding cell arrayLength
 cell-lt v w row channel h k = let g : (row + 1) * v ≤ w * v = mul-le-mul-right v (omega arith) in omega arith
 
-module _ {plan : List ℕ} {v p c : ℕ} (fits : Fitting plan v p c) where
-  -- the parts that are handed on
-  pub readings-part : (a e : ℕ) → a ≡ headLength → e ≡ headLength + arrayLength v (p + c) → take (e - a) (drop a plan) ≡ readings plan
-  unfolding readings rows
-  readings-part a e f g =
-      let k : e - a ≡ arrayLength v (p + c) = omega arith in
-      rw (k, f, fits .v-is, fits .p-is, fits .c-is) refl
+module _ {plan : List ℕ} {z : Sizes} (fits : Fitting plan z) where
+  -- the bytes of one array
+  abbrev long : ℕ
+  long = arrayLength (z .channels) (allRows z)
 
-  pub drifts-part : (a e : ℕ) → a ≡ headLength + arrayLength v (p + c) → e ≡ a + arrayLength v (p + c) → take (e - a) (drop a plan) ≡ drifts plan
+  -- the two arrays are the parts that are handed on
+  readings-part : (a b : ℕ) → a ≡ headLength → b ≡ headLength + long → take (b - a) (drop a plan) ≡ readings plan
+  unfolding readings rows
+  readings-part a b f g = let k : b - a ≡ long = omega arith in rw (k, f, fits .v-is, fits .p-is, fits .c-is) refl
+
+  drifts-part : (b e : ℕ) → b ≡ headLength + long → e ≡ b + long → take (e - b) (drop b plan) ≡ drifts plan
   unfolding drifts rows
-  drifts-part a e f g =
-      let k : e - a ≡ arrayLength v (p + c) = omega arith in
-      rw (k, f, fits .v-is, fits .p-is, fits .c-is) refl
+  drifts-part b e f g = let k : e - b ≡ long = omega arith in rw (k, f, fits .v-is, fits .p-is, fits .c-is) refl
 
   module _ (row channel : ℕ) where
     -- the entry of a row and a channel lies in a part as long as an array
-    pub in-part : (a e i : ℕ) → i ≡ cell v row channel → e ≡ a + arrayLength v (p + c) → e ≤ length plan → row < p + c → channel < v
+    pub in-part : (a e i : ℕ) → i ≡ cell (z .channels) row channel → e ≡ a + long → e ≤ length plan → row < allRows z → channel < z .channels
         → 4 * i + 4 ≤ length (take (e - a) (drop a plan))
-    in-part a e i f g l h k = simp (length-take, length-drop) (omega (arith, cell-lt v (p + c) row channel h k))
+    in-part a e i f g l h k = simp (length-take, length-drop) (omega (arith, cell-lt (z .channels) (allRows z) row channel h k))
 
-    pub reading-entry : {R : List ℕ} {i : ℕ} → R ≡ readings plan → i ≡ cell v row channel → entry R i ≡ readingOf plan row channel
-    unfolding readingOf
-    reading-entry r e = rw (r, e, fits .v-is) refl
-
-    module _ {D : List ℕ} {i : ℕ} (d : D ≡ drifts plan) (e : i ≡ cell v row channel) where
-      pub drift-entry : entry D i ≡ driftOf plan row channel
+    -- what is read there, in the part from b to e, and with it in the part from a to b
+    module _ (b e i : ℕ) (hb : b ≡ headLength + long) (he : e ≡ b + long) (hi : i ≡ cell (z .channels) row channel) where
+      pub drift-read : {x : ℤ} → x ≡ entry (take (e - b) (drop b plan)) i → x ≡ driftOf plan row channel
       unfolding driftOf
-      drift-entry = rw (d, e, fits .v-is) refl
+      drift-read h = rw (fits .v-is, ← hi, ← drifts-part b e hb he) h
 
-      pub value-entry : {R : List ℕ} (pass : ℕ) → R ≡ readings plan → entry R i +ℤ pos pass *ℤ entry D i ≡ readingOn plan channel row pass
+      pub value-read : (a pass : ℕ) → a ≡ headLength → {x : ℤ}
+          → x ≡ entry (take (b - a) (drop a plan)) i +ℤ pos pass *ℤ entry (take (e - b) (drop b plan)) i → x ≡ readingOn plan channel row pass
       unfolding readingOn readingOf driftOf
-      value-entry pass r = rw (d, e, r, fits .v-is) refl
+      value-read a pass f h = rw (fits .v-is, ← hi, ← drifts-part b e hb he, ← readings-part a b f hb) h
 
   -- the value on the row and the pass of a position
-  pub value-at : (channel t : ℕ) {row pass : ℕ} → row ≡ rowOf p c t → pass ≡ passOf p c t → readingOn plan channel row pass ≡ readingAt plan channel t
+  pub value-at : (channel t : ℕ) {row pass : ℕ} → row ≡ rowOf (z .start) (z .cycle) t → pass ≡ passOf (z .start) (z .cycle) t
+      → readingOn plan channel row pass ≡ readingAt plan channel t
   unfolding readingAt
   value-at channel t e g = rw (e, g, fits .p-is, fits .c-is) refl

@@ -12,7 +12,8 @@ use borrow.Author.Tests.{eq-eqb, ne-eqb}
 use Rattle.fields.proofs.Differences.{sub-pos, sub-neg}
 use Rattle.plan.specs.Layout.{driftOf}
 use Rattle.plan.specs.inner.Sizes.{Fitting}
-use Rattle.plan.specs.inner.Lifted.{unbiased}
+use Rattle.plan.specs.declared.sizes.Sizes.{Sizes}
+use Rattle.fields.specs.inner.Biased.{bias, unbiased}
 use Rattle.plan.specs.Refusals.{isZero, anyBelow, driftsAt, drifting}
 
 -- A search for one that is true, going up.
@@ -31,32 +32,32 @@ module _ (f : ℕ → Bool) where
       (λ l. let same : k ≡ n = omega arith in ap (λ (b : Bool). anyBelow f n || b) (subst (λ (i : ℕ). f i ≡ true) same e) ∙ or-true (anyBelow f n))
 
 -- A field is 0 where it is kept as 2 ^ 31.
-zero-field : (n : ℕ) {z : ℤ} → unbiased n ≡ z → n ≡ 2147483648 → isZero z ≡ true
+zero-field : (n : ℕ) {z : ℤ} → unbiased n ≡ z → n ≡ bias → isZero z ≡ true
 unfolding isZero
-zero-field n e h = ap isZero (sym e ∙ sub-pos n 2147483648 (omega arith)) ∙ eq-eqb (n - 2147483648) 0 (omega arith)
+zero-field n e h = ap isZero (sym e ∙ sub-pos n bias (omega arith)) ∙ eq-eqb (n - bias) 0 (omega arith)
 
-other-field : (n : ℕ) {z : ℤ} → unbiased n ≡ z → (n ≡ 2147483648 → ⊥) → isZero z ≡ false
+other-field : (n : ℕ) {z : ℤ} → unbiased n ≡ z → (n ≡ bias → ⊥) → isZero z ≡ false
 unfolding isZero
 other-field n e h =
-    by-cases (decLt n 2147483648)
-    (λ l. ap isZero (sym e ∙ sub-neg n 2147483648 l))
-    (λ l. ap isZero (sym e ∙ sub-pos n 2147483648 (omega arith)) ∙ ne-eqb (n - 2147483648) 0 (λ g. h (omega arith)))
+    by-cases (decLt n bias)
+    (λ l. ap isZero (sym e ∙ sub-neg n bias l))
+    (λ l. ap isZero (sym e ∙ sub-pos n bias (omega arith)) ∙ ne-eqb (n - bias) 0 (λ g. h (omega arith)))
 
 module _ (plan : List ℕ) (row channel : ℕ) {n : ℕ} (e : unbiased n ≡ driftOf plan row channel) where
-  pub no-drift : n ≡ 2147483648 → driftsAt plan row channel ≡ false
+  pub no-drift : n ≡ bias → driftsAt plan row channel ≡ false
   unfolding driftsAt
   no-drift h = ap not (zero-field n e h)
 
-  pub a-drift : (n ≡ 2147483648 → ⊥) → driftsAt plan row channel ≡ true
+  pub a-drift : (n ≡ bias → ⊥) → driftsAt plan row channel ≡ true
   unfolding driftsAt
   a-drift h = ap not (other-field n e h)
 
 -- What is found of a row.
-module _ {plan : List ℕ} {v p c : ℕ} (fits : Fitting plan v p c) (row : ℕ) where
-  pub row-drifts : (channel : ℕ) → channel < v → driftsAt plan row channel ≡ true → drifting plan row ≡ true
+module _ {plan : List ℕ} {z : Sizes} (fits : Fitting plan z) (row : ℕ) where
+  pub row-drifts : (channel : ℕ) → channel < z .channels → driftsAt plan row channel ≡ true → drifting plan row ≡ true
   unfolding drifting
-  row-drifts channel h e = rw (fits .v-is) (one-here (driftsAt plan row) channel v h e)
+  row-drifts channel h e = rw (fits .v-is) (one-here (driftsAt plan row) channel (z .channels) h e)
 
-  pub row-still : anyBelow (driftsAt plan row) v ≡ false → drifting plan row ≡ false
+  pub row-still : (n : ℕ) → n ≡ z .channels → anyBelow (driftsAt plan row) n ≡ false → drifting plan row ≡ false
   unfolding drifting
-  row-still e = rw (fits .v-is) e
+  row-still n h e = rw (fits .v-is, ← h) e

@@ -8,8 +8,12 @@ use lib.ListN.{length}
 use lib.Dec.{leb, eqb}
 use borrow.Author.Tests.{le-leb, lt-leb, eq-eqb, ne-eqb, leb-true, eqb-true}
 use Rattle.plan.specs.Layout.{channels, startRows, cycleRows, rows, headLength, arrayLength, sizesFit}
-use Rattle.plan.specs.inner.Sizes.{sizesOf, Fitting}
-use Rattle.plan.specs.declared.sizes.Sizes.the-variants.{Counts, Wrong}
+use Rattle.plan.specs.Positions.{rowOf, passOf}
+use Rattle.plan.specs.inner.Lifted.{passes}
+use Rattle.plan.specs.inner.Sizes.{sizesIn, sizesRead, allRows, farthest, Fitting}
+use Rattle.plan.specs.declared.sizes.Sizes.{Sizes}
+use Rattle.plan.specs.declared.sizes.SizesRead.the-variants.{Counts, Wrong}
+use Rattle.plan.proofs.Rows.{row-lt, pass-lt}
 
 both : (a b : Bool) → a && b ≡ true → (a ≡ true) × (b ≡ true)
 both true b e = (refl, e)
@@ -24,7 +28,7 @@ all-of a b c d e f h =
     (range .0, range .1, cycle .0, whole .0, whole .1)
 
 -- What the test says of the sizes.
-pub fitting : (plan : List ℕ) → sizesFit plan ≡ true → Fitting plan (channels plan) (startRows plan) (cycleRows plan)
+pub fitting : (plan : List ℕ) → sizesFit plan ≡ true → Fitting plan (sizesIn plan)
 unfolding sizesFit rows
 fitting plan h =
     let long = headLength + 2 * arrayLength (channels plan) (startRows plan + cycleRows plan) in
@@ -40,9 +44,9 @@ fitting plan h =
       whole = eqb-true (length plan) long (all .4);
     }
 
-pub fits-true : {plan : List ℕ} {v p c : ℕ} → Fitting plan v p c → sizesFit plan ≡ true
+pub fits-true : {plan : List ℕ} {z : Sizes} → Fitting plan z → sizesFit plan ≡ true
 unfolding sizesFit rows
-fits-true {plan} {v} {p} {c} f =
+fits-true {plan} f =
     let long : 6 ≤ length plan = omega (arith, f .whole) in
     simp (
       f .v-is,
@@ -56,56 +60,64 @@ fits-true {plan} {v} {p} {c} f =
       eq-eqb _ _ (f .whole),
     )
 
--- What is read of a plan whose sizes fit, and of another.
-pub counts : {plan : List ℕ} {v p c : ℕ} → Fitting plan v p c → Counts v p c ≡ sizesOf plan
-unfolding sizesOf
-counts f = simp (fits-true f, f .v-is, f .p-is, f .c-is)
+pub sizes-are : {plan : List ℕ} {z : Sizes} → Fitting plan z → sizesIn plan ≡ z
+sizes-are f = rw (f .v-is, f .p-is, f .c-is) refl
 
-pub counted : (plan : List ℕ) {v p c : ℕ} → sizesOf plan ≡ Counts v p c → Fitting plan v p c
-unfolding sizesOf
-counted plan {v} {p} {c} e = go (sizesFit plan) refl e
+pub rows-are : {plan : List ℕ} {z : Sizes} → Fitting plan z → rows plan ≡ allRows z
+unfolding rows
+rows-are f = rw (f .p-is, f .c-is) refl
+
+-- A position before the end of the passes that the lookups reach: its row and its pass.
+pub reached : {plan : List ℕ} {z : Sizes} → Fitting plan z → (t : ℕ) → t < farthest z
+    → (rowOf (z .start) (z .cycle) t < allRows z) × (passOf (z .start) (z .cycle) t < passes)
+reached {plan} {z} f t h = (row-lt (z .start) (z .cycle) (f .a-cycle) t, pass-lt (z .start) (z .cycle) (f .a-cycle) t passes (omega arith) h)
+
+-- What is read of a plan whose sizes fit, and of another.
+pub counts : {plan : List ℕ} {z : Sizes} → Fitting plan z → Counts z ≡ sizesRead plan
+unfolding sizesRead
+counts f = simp (fits-true f, sizes-are f)
+
+pub counted : (plan : List ℕ) {z : Sizes} → sizesRead plan ≡ Counts z → Fitting plan z
+unfolding sizesRead
+counted plan {z} e = go (sizesFit plan) refl e
   where
-    go : (b : Bool) → sizesFit plan ≡ b → cond b (Counts (channels plan) (startRows plan) (cycleRows plan)) Wrong ≡ Counts v p c → Fitting plan v p c
-    go true h k =
-        let same-v : channels plan ≡ v = cc in
-        let same-p : startRows plan ≡ p = cc in
-        let same-c : cycleRows plan ≡ c = cc in
-        rw (same-v, same-p, same-c) at (fitting plan h)
+    go : (b : Bool) → sizesFit plan ≡ b → cond b (Counts (sizesIn plan)) Wrong ≡ Counts z → Fitting plan z
+    go true h k = let same : sizesIn plan ≡ z = cc in rw same at (fitting plan h)
     go false h k = let z : _≡_ {A = ℕ} 0 1 = cc in absurd (omega arith)
 
-pub unfit : (plan : List ℕ) → sizesOf plan ≡ Wrong → sizesFit plan ≡ false
-unfolding sizesOf
+pub unfit : (plan : List ℕ) → sizesRead plan ≡ Wrong → sizesFit plan ≡ false
+unfolding sizesRead
 unfit plan e = go (sizesFit plan) refl e
   where
-    go : (b : Bool) → sizesFit plan ≡ b → cond b (Counts (channels plan) (startRows plan) (cycleRows plan)) Wrong ≡ Wrong → sizesFit plan ≡ false
+    go : (b : Bool) → sizesFit plan ≡ b → cond b (Counts (sizesIn plan)) Wrong ≡ Wrong → sizesFit plan ≡ false
     go true h k = let z : _≡_ {A = ℕ} 0 1 = cc in absurd (omega arith)
     go false h k = h
 
 -- Each way in which sizes do not fit.
 module _ (plan : List ℕ) where
-  pub too-short : length plan < headLength → Wrong ≡ sizesOf plan
-  unfolding sizesOf sizesFit
+  pub too-short : length plan < headLength → Wrong ≡ sizesRead plan
+  unfolding sizesRead sizesFit
   too-short h = simp (lt-leb _ _ h)
 
   module _ {v : ℕ} (e : v ≡ channels plan) where
-    pub no-channel : v < 1 → Wrong ≡ sizesOf plan
-    unfolding sizesOf sizesFit
+    pub no-channel : v < 1 → Wrong ≡ sizesRead plan
+    unfolding sizesRead sizesFit
     no-channel h = simp (← e, lt-leb _ _ h, and-false)
 
-    pub many-channels : 8 < v → Wrong ≡ sizesOf plan
-    unfolding sizesOf sizesFit
+    pub many-channels : 8 < v → Wrong ≡ sizesRead plan
+    unfolding sizesRead sizesFit
     many-channels h = simp (← e, lt-leb _ _ h, and-false)
 
   module _ {c : ℕ} (e : c ≡ cycleRows plan) where
-    pub no-cycle : c < 1 → Wrong ≡ sizesOf plan
-    unfolding sizesOf sizesFit
+    pub no-cycle : c < 1 → Wrong ≡ sizesRead plan
+    unfolding sizesRead sizesFit
     no-cycle h = simp (← e, lt-leb _ _ h, and-false)
 
     module _ {p : ℕ} (f : p ≡ startRows plan) where
-      pub many-rows : 256 < p + c → Wrong ≡ sizesOf plan
-      unfolding sizesOf sizesFit rows
+      pub many-rows : 256 < p + c → Wrong ≡ sizesRead plan
+      unfolding sizesRead sizesFit rows
       many-rows h = simp (← e, ← f, lt-leb _ _ h, and-false)
 
-      pub other-length : {v : ℕ} → v ≡ channels plan → (length plan ≡ headLength + 2 * arrayLength v (p + c) → ⊥) → Wrong ≡ sizesOf plan
-      unfolding sizesOf sizesFit rows
+      pub other-length : {v : ℕ} → v ≡ channels plan → (length plan ≡ headLength + 2 * arrayLength v (p + c) → ⊥) → Wrong ≡ sizesRead plan
+      unfolding sizesRead sizesFit rows
       other-length g h = simp (← e, ← f, ← g, ne-eqb _ _ h, and-false)

@@ -6,6 +6,4 @@ pub mod Arrays
 pub mod Fits
 pub mod Drifts
 pub mod Outcomes
-pub mod Reach
-pub mod Through
 pub mod PlanNames

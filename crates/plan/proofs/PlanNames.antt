@@ -1,5 +1,5 @@
 -- A plan's refusals are 4 to 6, and two bytes hold the row that one names. Assumes nothing.
-use Prim.Native.Nat.{ℕ, _<_}
+use Prim.Native.Nat.{ℕ}
 use native.Mathlib.Omega.{arith}
 use mathlib.Core.List.{List}
 use lib.Dec.{eqb}

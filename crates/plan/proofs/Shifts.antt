@@ -2,19 +2,12 @@
 -- Assumes nothing.
 use Prim.Native.Nat.{ℕ, _+_, _-_, _≤_, _<_}
 use native.Mathlib.Omega.{arith}
-use mathlib.Core.Path.{_≡_, refl, sym, ap, ap₂, _∙_}
+use mathlib.Core.Path.{_≡_, refl, sym, ap₂, _∙_}
 use mathlib.Core.List.{List}
-use lib.IntN.{ℤ, pos, negsuc, subℕ, _+ℤ_}
+use lib.IntN.{ℤ, pos, subℕ, _+ℤ_}
 use Rattle.cltlb.specs.Run.{number, beforeRun}
 use Rattle.fields.proofs.Differences.{sub-pos, sub-neg, sub-same, sub-add, pos-sub}
 use Rattle.plan.specs.Run.{readingAt, runOf}
-
--- the code of a shift
-pub code-on : (n : ℕ) → subℕ (4 + n) 4 ≡ pos n
-code-on n = sub-pos (4 + n) 4 (omega arith) ∙ ap pos (omega arith)
-
-pub code-back : (n : ℕ) → n ≤ 3 → subℕ (3 - n) 4 ≡ negsuc n
-code-back n h = sub-neg (3 - n) 4 (omega arith) ∙ ap negsuc (omega arith)
 
 -- position t plus the shift that a code stands for
 pub shifted : (t code : ℕ) (shift : ℤ) → subℕ code 4 ≡ shift → pos t +ℤ shift ≡ subℕ (t + code) 4

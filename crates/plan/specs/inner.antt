@@ -1,4 +1,4 @@
 -- What only the contracts of inner functions cite: no promise of an entry point leans on it.
 pub mod Lifted
 pub mod Sizes
-pub mod View
+pub mod Read

@@ -1,24 +1,33 @@
 // Refusals 4 to 6.
 ghost use mathlib.Core.Path.{_≡_};
-ghost use Prim.Native.Nat.{_+_, _<_};
+ghost use Prim.Native.Nat.{_<_};
 ghost use Rattle.refusal.specs.First.{atLowest};
 ghost use Rattle.refusal.specs.declared.Refusal.the-variants.{StartDrift};
-ghost use Rattle.plan.specs.inner.Sizes.{Fitting};
+ghost use Rattle.plan.specs.inner.Sizes.{allRows, Fitting};
+ghost use Rattle.plan.specs.inner.Read.{planRead};
 ghost use Rattle.plan.specs.Refusals as refusals;
 use crate::lookup::drift_at;
 use crate::sizes::Sizes;
+use crate::sizes::SizesRead;
 use crate::sizes::read_sizes;
+use fields::BIAS;
 use refusal::Outcome;
 use refusal::Refusal;
 
+// What is read of a plan, for a rule: its sizes, or why it is refused.
+pub enum PlanRead {
+    Fits(Sizes),
+    Refused(Refusal),
+}
+
 // A row has a drift other than 0.
-fn drifting(plan: &[u8], v: usize, p: usize, c: usize, row: usize) -> bool
-    requires { ⌜ (Fitting (now plan) v p c) × (row < p + c) ⌝ }
+fn drifting(plan: &[u8], sizes: Sizes, row: usize) -> bool
+    requires { ⌜ (Fitting (now plan) sizes) × (row < allRows sizes) ⌝ }
     ensures { λ r. ⌜ r ≡ refusals.drifting (now (plan .entry)) row ⌝ }
 {
     let mut channel = 0;
-    while channel < v {
-        if drift_at(plan, v, p, c, channel, row) != 2147483648 {
+    while channel < sizes.channels {
+        if drift_at(plan, sizes, channel, row) != BIAS {
             return true;
         }
         channel += 1;
@@ -27,13 +36,13 @@ fn drifting(plan: &[u8], v: usize, p: usize, c: usize, row: usize) -> bool
 }
 
 // The lowest start row that has a drift other than 0 is refused.
-fn start_rows(plan: &[u8], v: usize, p: usize, c: usize) -> Outcome
-    requires { ⌜ Fitting (now plan) v p c ⌝ }
-    ensures { λ r. ⌜ r ≡ atLowest (refusals.drifting (now (plan .entry))) p StartDrift ⌝ }
+fn start_rows(plan: &[u8], sizes: Sizes) -> Outcome
+    requires { ⌜ Fitting (now plan) sizes ⌝ }
+    ensures { λ r. ⌜ r ≡ atLowest (refusals.drifting (now (plan .entry))) (sizes .start) StartDrift ⌝ }
 {
     let mut row = 0;
-    while row < p {
-        if drifting(plan, v, p, c, row) {
+    while row < sizes.start {
+        if drifting(plan, sizes, row) {
             return Outcome::Refused(Refusal::StartDrift { row });
         }
         row += 1;
@@ -42,20 +51,19 @@ fn start_rows(plan: &[u8], v: usize, p: usize, c: usize) -> Outcome
 }
 
 // Refusals 4, 5 and 6 of a plan, in this order, against a rule of `v` channels.
-pub fn check_plan(plan: &[u8], v: usize) -> Outcome
-    ensures { λ r. ⌜ r ≡ refusals.planOutcome v (now (plan .entry)) ⌝ }
+pub fn check_plan(plan: &[u8], v: usize) -> PlanRead
+    ensures { λ r. ⌜ r ≡ planRead v (now (plan .entry)) ⌝ }
 {
-    let sizes = read_sizes(plan);
-    let Sizes::Counts {
-        channels,
-        start,
-        cycle,
-    } = sizes
-    else {
-        return Outcome::Refused(Refusal::PlanSizes);
+    let read = read_sizes(plan);
+    let SizesRead::Counts(sizes) = read else {
+        return PlanRead::Refused(Refusal::PlanSizes);
     };
-    if channels != v {
-        return Outcome::Refused(Refusal::Channels);
+    if sizes.channels != v {
+        return PlanRead::Refused(Refusal::Channels);
     }
-    start_rows(plan, channels, start, cycle)
+    let drifts = start_rows(plan, sizes);
+    if let Outcome::Refused(refusal) = drifts {
+        return PlanRead::Refused(refusal);
+    }
+    PlanRead::Fits(sizes)
 }

@@ -1,21 +1,27 @@
 // Readings and drifts, and what is seen of a channel at a position. All numbers are lifted, so that none is below 0: a field
-// of 4 bytes is kept as the number + 2147483648, a value as the value + 1024 × 2147483648.
+// of 4 bytes is kept as the number + BIAS, a value as the value + (LAST_PASS + 1) × BIAS.
 ghost use mathlib.Core.Path.{_≡_};
 ghost use Prim.Native.Nat.{_+_, _*_, _≤_, _<_};
 ghost use lib.ListN.{length};
 ghost use lib.IntN.{pos, subℕ, _+ℤ_, _*ℤ_};
-ghost use Rattle.plan.specs.Layout.{entry, readingOf, driftOf};
-ghost use Rattle.plan.specs.inner.Sizes.{Fitting};
+ghost use Rattle.fields.specs.inner.Biased.{patterns, unbiased};
+ghost use Rattle.plan.specs.Layout.{entry, driftOf};
+ghost use Rattle.plan.specs.inner.Sizes.{allRows, farthest, Fitting};
 ghost use Rattle.plan.specs.Run.{readingOn, runOf};
-ghost use Rattle.plan.specs.inner.Lifted.{unbiased, lowered, seenOf, Small};
+ghost use Rattle.plan.specs.inner.Lifted.{passes, lowered, valueEnd, seenOf, Small};
 use crate::layout::array_length;
 use crate::layout::cell_of;
 use crate::layout::drifts_start;
 use crate::layout::head_length;
 use crate::positions::pass_of;
 use crate::positions::row_of;
+use crate::sizes::Sizes;
+use fields::BIAS;
 use fields::biased;
 use fields::u32_at;
+
+// The last pass that the lookups reach.
+pub const LAST_PASS: u64 = 1023;
 
 // A value, lifted, or nothing, because the position is before the run.
 pub enum Seen {
@@ -26,68 +32,55 @@ pub enum Seen {
 // The number at an index of an array.
 pub fn entry_at(array: &[u8], index: usize) -> u64
     requires { ⌜ 4 * index + 4 ≤ length (now array) ⌝ }
-    ensures { λ r. ⌜ (unbiased r ≡ entry (now (array .entry)) index) × (r < 4294967296) ⌝ }
+    ensures { λ r. ⌜ (unbiased r ≡ entry (now (array .entry)) index) × (r < patterns) ⌝ }
 {
     biased(u32_at(array, 4 * index))
 }
 
 // The value on a pass at an index of the two arrays.
 pub fn number_on(readings: &[u8], drifts: &[u8], index: usize, pass: usize) -> u64
-    requires { ⌜ (4 * index + 4 ≤ length (now readings)) × (4 * index + 4 ≤ length (now drifts)) × (pass < 1024) ⌝ }
-    ensures { λ r. ⌜ (lowered r ≡ entry (now (readings .entry)) index +ℤ pos pass *ℤ entry (now (drifts .entry)) index) × (r < 4398046511104) ⌝ }
+    requires { ⌜ (4 * index + 4 ≤ length (now readings)) × (4 * index + 4 ≤ length (now drifts)) × (pass < passes) ⌝ }
+    ensures { λ r. ⌜ (lowered r ≡ entry (now (readings .entry)) index +ℤ pos pass *ℤ entry (now (drifts .entry)) index) × (r < valueEnd) ⌝ }
 {
     let k = pass as u64;
-    entry_at(readings, index) + k * entry_at(drifts, index) + (1023 - k) * 2147483648
+    entry_at(readings, index) + k * entry_at(drifts, index) + (LAST_PASS - k) * BIAS
 }
 
 // The value of a channel on a row and a pass.
-pub fn number_at(
-    plan: &[u8],
-    v: usize,
-    p: usize,
-    c: usize,
-    channel: usize,
-    row: usize,
-    pass: usize,
-) -> u64
-    requires { ⌜ (Fitting (now plan) v p c) × (channel < v) × (row < p + c) × (pass < 1024) ⌝ }
-    ensures { λ r. ⌜ (lowered r ≡ readingOn (now (plan .entry)) channel row pass) × (r < 4398046511104) ⌝ }
+pub fn number_at(plan: &[u8], sizes: Sizes, channel: usize, row: usize, pass: usize) -> u64
+    requires { ⌜ (Fitting (now plan) sizes) × (channel < sizes .channels) × (row < allRows sizes) × (pass < passes) ⌝ }
+    ensures { λ r. ⌜ (lowered r ≡ readingOn (now (plan .entry)) channel row pass) × (r < valueEnd) ⌝ }
 {
     let a = head_length();
-    let b = drifts_start(v, p + c);
-    let e = b + array_length(v, p + c);
-    number_on(&plan[a..b], &plan[b..e], cell_of(v, row, channel), pass)
-}
-
-// The reading of a channel on a row.
-pub fn reading_at(plan: &[u8], v: usize, p: usize, c: usize, channel: usize, row: usize) -> u64
-    requires { ⌜ (Fitting (now plan) v p c) × (channel < v) × (row < p + c) ⌝ }
-    ensures { λ r. ⌜ (unbiased r ≡ readingOf (now (plan .entry)) row channel) × (r < 4294967296) ⌝ }
-{
-    let a = head_length();
-    let b = drifts_start(v, p + c);
-    entry_at(&plan[a..b], cell_of(v, row, channel))
+    let b = drifts_start(sizes.channels, sizes.start + sizes.cycle);
+    let e = b + array_length(sizes.channels, sizes.start + sizes.cycle);
+    number_on(
+        &plan[a..b],
+        &plan[b..e],
+        cell_of(sizes.channels, row, channel),
+        pass,
+    )
 }
 
 // The drift of a channel on a row.
-pub fn drift_at(plan: &[u8], v: usize, p: usize, c: usize, channel: usize, row: usize) -> u64
-    requires { ⌜ (Fitting (now plan) v p c) × (channel < v) × (row < p + c) ⌝ }
-    ensures { λ r. ⌜ (unbiased r ≡ driftOf (now (plan .entry)) row channel) × (r < 4294967296) ⌝ }
+pub fn drift_at(plan: &[u8], sizes: Sizes, channel: usize, row: usize) -> u64
+    requires { ⌜ (Fitting (now plan) sizes) × (channel < sizes .channels) × (row < allRows sizes) ⌝ }
+    ensures { λ r. ⌜ (unbiased r ≡ driftOf (now (plan .entry)) row channel) × (r < patterns) ⌝ }
 {
-    let b = drifts_start(v, p + c);
-    let e = b + array_length(v, p + c);
-    entry_at(&plan[b..e], cell_of(v, row, channel))
+    let b = drifts_start(sizes.channels, sizes.start + sizes.cycle);
+    let e = b + array_length(sizes.channels, sizes.start + sizes.cycle);
+    entry_at(&plan[b..e], cell_of(sizes.channels, row, channel))
 }
 
 // What is seen of a channel at the position `ahead` - 4: a term at position t whose shift has the code k, which is the shift
 // + 4, is seen at t + k.
-pub fn seen_at(plan: &[u8], v: usize, p: usize, c: usize, channel: usize, ahead: usize) -> Seen
-    requires { ⌜ (Fitting (now plan) v p c) × (channel < v) × (ahead ≤ p + 1024 * c) ⌝ }
+pub fn seen_at(plan: &[u8], sizes: Sizes, channel: usize, ahead: usize) -> Seen
+    requires { ⌜ (Fitting (now plan) sizes) × (channel < sizes .channels) × (ahead ≤ farthest sizes) ⌝ }
     ensures { λ r. ⌜ (seenOf r ≡ runOf (now (plan .entry)) channel (subℕ ahead 4)) × Small r ⌝ }
 {
     if ahead < 4 {
         return Seen::BeforeRun;
     }
     let t = ahead - 4;
-    Seen::Number(number_at(plan, v, p, c, channel, row_of(p, c, t), pass_of(p, c, t)))
+    Seen::Number(number_at(plan, sizes, channel, row_of(sizes, t), pass_of(sizes, t)))
 }

@@ -1,18 +1,28 @@
-// The row and the pass of a position, with `p` start rows and `c` cycle rows.
+// The row and the pass of a position.
 ghost use mathlib.Core.Path.{_≡_};
-ghost use Prim.Native.Nat.{_+_, _≤_, _<_};
+ghost use Prim.Native.Nat.{_≤_};
 ghost use Rattle.plan.specs.Positions.{rowOf, passOf};
+ghost use Rattle.plan.specs.inner.Sizes.{allRows};
+use crate::sizes::Sizes;
 
-pub fn row_of(p: usize, c: usize, t: usize) -> usize
-    requires { ⌜ (1 ≤ c) × (p + c ≤ 256) ⌝ }
-    ensures { λ r. ⌜ r ≡ rowOf p c t ⌝ }
+pub fn row_of(sizes: Sizes, t: usize) -> usize
+    requires { ⌜ (1 ≤ sizes .cycle) × (allRows sizes ≤ 256) ⌝ }
+    ensures { λ r. ⌜ r ≡ rowOf (sizes .start) (sizes .cycle) t ⌝ }
 {
-    if t < p + c { t } else { p + (t - p) % c }
+    if t < sizes.start + sizes.cycle {
+        t
+    } else {
+        sizes.start + (t - sizes.start) % sizes.cycle
+    }
 }
 
-pub fn pass_of(p: usize, c: usize, t: usize) -> usize
-    requires { ⌜ (1 ≤ c) × (p + c ≤ 256) ⌝ }
-    ensures { λ r. ⌜ r ≡ passOf p c t ⌝ }
+pub fn pass_of(sizes: Sizes, t: usize) -> usize
+    requires { ⌜ (1 ≤ sizes .cycle) × (allRows sizes ≤ 256) ⌝ }
+    ensures { λ r. ⌜ r ≡ passOf (sizes .start) (sizes .cycle) t ⌝ }
 {
-    if t < p + c { 0 } else { (t - p) / c }
+    if t < sizes.start + sizes.cycle {
+        0
+    } else {
+        (t - sizes.start) / sizes.cycle
+    }
 }

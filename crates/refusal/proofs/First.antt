@@ -1,5 +1,5 @@
 -- When tests made in order refuse nothing, and how loops make them. Assumes nothing.
-use mathlib.Core.Path.{_≡_, refl, ap, subst, sym}
+use mathlib.Core.Path.{_≡_, refl, subst, sym}
 use mathlib.Core.Bool.{Bool, true, false}
 use mathlib.Core.Option.{Option, none, some}
 use mathlib.Core.Logic.{_↔_, Iff·trans, by-cases, _⊎_, inl, inr, ⊎-elim}
@@ -8,12 +8,12 @@ use native.Mathlib.Decide.{decLt}
 use native.Mathlib.Numerals.{add-one}
 use native.Mathlib.Omega.{arith}
 use lib.Dec.{T}
-use Rattle.refusal.specs.Lowest.{lowestFrom, lowest}
+use Rattle.refusal.specs.Lowest.{lowest}
 use Rattle.refusal.specs.First.{_orElse_, unless, refusedAt, atLowest, inTurnFrom, inTurn}
 use Rattle.refusal.specs.declared.Refusal.{Refusal}
 use Rattle.refusal.specs.declared.Outcome.{Outcome}
 use Rattle.refusal.specs.declared.Outcome.the-variants.{Clear, Refused}
-use Rattle.refusal.proofs.Lowest.{lowest-none, passes, found, ended}
+use Rattle.refusal.proofs.Lowest.{lowest-none, found}
 
 pub clear-refused : {r : Refusal} → Refused r ≡ Clear → ⊥
 clear-refused e = let z : _≡_ {A = ℕ} 0 1 = cc in omega arith

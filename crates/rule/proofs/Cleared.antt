@@ -1,5 +1,4 @@
--- A sheet that clears refusals 1 to 3: its sizes are in their ranges, every part can be taken, names lower parts and has
--- terms that fit. Assumes nothing.
+-- A sheet that clears refusals 1 to 3: its sizes are in their ranges, every part can be taken, and it fits. Assumes nothing.
 use Prim.Native.Nat.{ℕ, _≤_, _<_}
 use native.Mathlib.Omega.{arith}
 use mathlib.Core.Path.{_≡_, refl}
@@ -9,15 +8,14 @@ use Rattle.refusal.specs.declared.Outcome.the-variants.{Clear}
 use Rattle.refusal.specs.declared.Refusal.the-variants.{RuleSizes, Kind, Operand}
 use Rattle.refusal.specs.First.{_orElse_, unless, atLowest}
 use Rattle.refusal.proofs.First.{orElse-clear, unless-clear, atLowest-clear}
-use Rattle.cltlb.specs.inner.Fits.{NamesLower, ComparisonFits}
+use Rattle.cltlb.specs.Fits.{viewFits}
 use Rattle.rule.specs.declared.Taken.{Taken}
 use Rattle.rule.specs.declared.Taken.the-variants as K
 use Rattle.rule.specs.Layout.{partCount, channelCount, sizesFit}
 use Rattle.rule.specs.Kinds.{kindUnknown}
-use Rattle.rule.specs.Take.{takeOf, partTaken, partsOf}
+use Rattle.rule.specs.Take.{takeOf, partTaken, partsOf, viewsOf}
 use Rattle.rule.specs.Sheet.{isRefused, untakeable, sheetOutcome}
 use Rattle.rule.proofs.SizesKnown.{sizes-known}
-use Rattle.rule.proofs.PartsFit.{part-fits}
 use Rattle.rule.proofs.TakenIsLaid.{taken-fits}
 
 unrefused : (t : Taken) → isRefused t ≡ false → t ≡ K.Part (partTaken t)
@@ -50,10 +48,7 @@ module _ (s : List ℕ) (clear : sheetOutcome s ≡ Clear) where
     unfolding partsOf untakeable
     cleared-taken = unrefused (takeOf s n) (tests .2 n present)
 
-    -- It names lower parts,
-    pub cleared-lower : NamesLower n (partsOf s n)
-    cleared-lower = part-fits (channelCount s) n (partsOf s n) (taken-fits s n (partsOf s n) cleared-taken) .1
-
-    -- and its terms have channels below V and shifts from -4 to 4.
-    pub cleared-terms : ComparisonFits (channelCount s) (partsOf s n)
-    cleared-terms = part-fits (channelCount s) n (partsOf s n) (taken-fits s n (partsOf s n) cleared-taken) .0
+    -- and it fits: its channels are below V and its shifts -4 to 4, and it names lower parts.
+    pub cleared-fits : viewFits (channelCount s) n (viewsOf s n) ≡ true
+    unfolding viewsOf
+    cleared-fits = taken-fits s n (partsOf s n) cleared-taken

@@ -10,7 +10,9 @@ use Rattle.rule.specs.declared.operands.Operand.the-variants.{Terms, One
 use Rattle.rule.specs.declared.operands.Shape.{Shape}
 use Rattle.rule.specs.declared.operands.Shape.the-variants.{Comparison, NamesOne, NamesTwo}
 use Rattle.rule.specs.Layout.{partCount, channelCount, kindByte, operandPlace, sizesFit}
-use Rattle.rule.specs.Operands.{operandBytes, operandFits}
+use Rattle.cltlb.specs.Views.{viewOf}
+use Rattle.cltlb.specs.Fits.{viewFits}
+use Rattle.rule.specs.Operands.{operandBytes}
 use Rattle.rule.specs.Kinds.{kindOf, operandOf}
 use Rattle.rule.specs.inner.Words.{WordOperand}
 
@@ -30,4 +32,4 @@ pub record Laid (sheet : List ℕ) (n : ℕ) (part : Part) : Type 0 where
   pub present : n < partCount sheet
   pub kind : kindByte sheet n ≡ kindOf part
   pub bytes : take 12 (drop (operandPlace (partCount sheet) n) sheet) ≡ operandBytes (operandOf part)
-  pub fits : operandFits (channelCount sheet) n (operandOf part) ≡ true
+  pub fits : viewFits (channelCount sheet) n (viewOf part) ≡ true

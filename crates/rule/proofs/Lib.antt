@@ -5,7 +5,6 @@ pub mod OperandsRead
 pub mod Overwriting
 pub mod TermsWritten
 pub mod OperandsWritten
-pub mod Fits
 pub mod Taking
 pub mod Putting
 pub mod WholeSheet
@@ -19,7 +18,7 @@ pub mod TakenIsLaid
 pub mod Written
 pub mod RoundTrips
 pub mod Promised
-pub mod PartsFit
 pub mod Cleared
 pub mod Examples
 pub mod SheetNames
+pub mod OnSheet

@@ -4,7 +4,7 @@ use Prim.Native.Nat.{ℕ, zero, suc, _+_, _≤_, _<_}
 use native.Mathlib.Omega.{arith}
 use mathlib.Core.Path.{_≡_, refl, sym, ap, ap₂, _∙_, subst}
 use mathlib.Core.List.{List, [], _∷_, _++_, append-assoc}
-use mathlib.Core.Bool.{Bool, true, false, cond}
+use mathlib.Core.Bool.{Bool, true, false, cond, and-eq-true-iff}
 use lib.Dec.{eqb}
 use lib.ListN.{length, take, drop, replicate, length-append, length-take, length-drop}
 use lib.Seq.{take-add, drop-drop}
@@ -21,11 +21,17 @@ use Rattle.rule.specs.declared.operands.OperandRead.{OperandRead}
 use Rattle.rule.specs.declared.operands.OperandRead.the-variants as O
 use Rattle.rule.specs.declared.operands.Shape.{Shape}
 use Rattle.rule.specs.declared.operands.Shape.the-variants as S
-use Rattle.rule.specs.Terms.{termBytes, termFits, termAt}
-use Rattle.rule.specs.Operands.{operandBytes, operandFits, allZero, bothTerms, operandAt}
+use Rattle.cltlb.specs.declared.Atom.the-variants as atom
+use Rattle.cltlb.specs.declared.Operator.the-variants as operator
+use Rattle.cltlb.specs.declared.View.{View}
+use Rattle.cltlb.specs.declared.View.the-variants as view
+use Rattle.cltlb.specs.Fits.{termFits, viewFits}
+use Rattle.cltlb.proofs.Fits.{less-fits, equal-fits, atom-fits, operator-fits, one-lower, two-lower}
+use Rattle.rule.specs.Terms.{termBytes, termAt}
+use Rattle.rule.specs.Operands.{operandBytes, allZero, bothTerms, operandAt}
+use Rattle.rule.specs.Kinds.{operandIn}
 use Rattle.rule.specs.inner.Words.{WordTerm, WordOperand}
 use Rattle.rule.proofs.Laid.{shapeIn}
-use Rattle.rule.proofs.Fits.{both-true, terms-fit, one-fits, two-fit}
 use Rattle.rule.proofs.Overwritten.{between}
 use Rattle.rule.proofs.TermsWritten.{term-length}
 use Rattle.rule.proofs.TermsLaid.{term-read, term-laid}
@@ -41,7 +47,7 @@ zeros-laid : (l : List ℕ) → allZero l ≡ true → l ≡ replicate (length l
 unfolding allZero
 zeros-laid [] h = refl
 zeros-laid (b ∷ bs) h =
-    let p = both-true (eqb b 0) (allZero bs) h in ap₂ (λ (x : ℕ) (l : List ℕ). x ∷ l) (eqb-true b 0 (p .0)) (zeros-laid bs (p .1))
+    let p = and-eq-true-iff (eqb b 0) (allZero bs) .0 h in ap₂ (λ (x : ℕ) (l : List ℕ). x ∷ l) (eqb-true b 0 (p .0)) (zeros-laid bs (p .1))
 
 -- two fields behind p, the second by itself
 second : (p a b r : List ℕ) → p ++ ((a ++ b) ++ r) ≡ (p ++ a) ++ (b ++ r)
@@ -87,14 +93,22 @@ module _ (l r : List ℕ) (at : ℕ) (e : length l ≡ at) where
       (sym (ap (λ (s : List ℕ). numberAt 2 s (at + 2)) (later ∙ first (l ++ bytesOf 2 a) (bytesOf 2 b) (replicate 8 0) r)
       ∙ read-written 2 b (l ++ bytesOf 2 a) (replicate 8 0 ++ r) (at + 2) two (omega arith))))
 
-  -- An operand that fits is read back off its bytes.
-  pub operand-read : (v n : ℕ) (o : Operand) → v ≤ 8 → n ≤ 64 → operandFits v n o ≡ true → WordOperand o
-      → operandAt (shapeIn o) (l ++ (operandBytes o ++ r)) at ≡ O.Operand o
-  unfolding operandBytes WordOperand
-  operand-read v n (Terms x y) h k f w = let p = terms-fit v n x y f in terms-read v x y h (p .0) (p .1) (w .0) (w .1)
-  operand-read v n (One a) h k f w = let low : a < n = one-fits v n f in one-back a (omega arith)
-  operand-read v n (Two a b) h k f w =
-      let p = two-fit v n f in let lowA : a < n = p .0 in let lowB : b < n = p .1 in two-back a b (omega arith) (omega arith)
+  -- The operand of a part that fits is read back off its bytes.
+  module _ (v n : ℕ) (h : v ≤ 8) (k : n ≤ 64) where
+    pub operand-read : (x : View) → viewFits v n x ≡ true → WordOperand (operandIn x)
+        → operandAt (shapeIn (operandIn x)) (l ++ (operandBytes (operandIn x) ++ r)) at ≡ O.Operand (operandIn x)
+    unfolding operandBytes WordOperand
+    operand-read (view.Atom (atom.Less x y)) f w =
+        let p = less-fits v x y (atom-fits v n (atom.Less x y) f) in terms-read v x y h (p .0) (p .1) (w .0) (w .1)
+    operand-read (view.Atom (atom.Equal x y)) f w =
+        let p = equal-fits v x y (atom-fits v n (atom.Equal x y) f) in terms-read v x y h (p .0) (p .1) (w .0) (w .1)
+    operand-read (view.Operator (operator.One o a)) f w =
+        let low : a < n = one-lower n o a (operator-fits v n (operator.One o a) f) in one-back a (omega arith)
+    operand-read (view.Operator (operator.Two o a b)) f w =
+        let p = two-lower n o a b (operator-fits v n (operator.Two o a b) f) in
+        let lowA : a < n = p .0 in
+        let lowB : b < n = p .1 in
+        two-back a b (omega arith) (omega arith)
 
 -- what an operand that was read says of the twelve bytes from `at` on
 module _ (s : List ℕ) (at : ℕ) (bytes : Bytes s) (long : at + 12 ≤ length s) where

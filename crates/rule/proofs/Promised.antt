@@ -1,6 +1,6 @@
 -- The definitions of take and put keep their promises. Assumes nothing.
 use Prim.Native.Nat.{ℕ, _<_}
-use mathlib.Core.Path.{_≡_, refl, sym, ap, _∙_, subst}
+use mathlib.Core.Path.{_≡_, refl, sym, ap, _∙_}
 use mathlib.Core.List.{List}
 use lib.ListN.{getD}
 use Rattle.refusal.specs.declared.Refusal.{Refusal}
@@ -9,8 +9,6 @@ use Rattle.refusal.proofs.First.{clear-refused}
 use Rattle.fields.specs.inner.Ranges.{Bytes}
 use Rattle.cltlb.specs.declared.Part.{Part}
 use Rattle.rule.specs.declared.Taken.{Taken}
-use Rattle.rule.specs.declared.Taken.the-variants as K
-use Rattle.rule.specs.declared.operands.Operand.{Operand}
 use Rattle.rule.specs.Kinds.{operandOf}
 use Rattle.rule.specs.Take.{takeOf}
 use Rattle.rule.specs.Put.{putOutcome, putBytes}
@@ -30,10 +28,10 @@ module _ (s : List ℕ) (n : ℕ) where
     put-refused p = record { isPut = p .0; bytes = p .1; unchanged = λ _ _. refl; taken = λ e. absurd (clear-refused e) }
 
     -- put, done: the constants of its operand are numbers of four bytes
-    pub put-kept : {t : List ℕ} {o : Operand} → o ≡ operandOf x → WordOperand o → (Clear ≡ putOutcome s n x) × (t ≡ putBytes s n x) → PutPromise s n x Clear t
-    put-kept same words p = record {
+    pub put-kept : {t : List ℕ} → WordOperand (operandOf x) → (Clear ≡ putOutcome s n x) × (t ≡ putBytes s n x) → PutPromise s n x Clear t
+    put-kept words p = record {
       isPut = p .0;
       bytes = p .1;
       unchanged = λ _ e. absurd (clear-refused (sym e));
-      taken = λ _. ap (λ (t : List ℕ). takeOf t n) (p .1) ∙ put-then-take s n x (sym (p .0)) (subst WordOperand same words);
+      taken = λ _. ap (λ (t : List ℕ). takeOf t n) (p .1) ∙ put-then-take s n x (sym (p .0)) words;
     }

@@ -2,44 +2,26 @@
 use Prim.Native.Nat.{ℕ, _+_, _≤_, _<_}
 use mathlib.Core.Path.{_≡_, sym, ap, _∙_, subst}
 use mathlib.Core.List.{List}
-use mathlib.Core.Bool.{true}
-use mathlib.Core.Logic.{_↔_, _⊎_}
-use lib.Dec.{ltb}
+use mathlib.Core.Logic.{_⊎_}
 use lib.ListN.{length, getD, set}
 use lib.Seq.{set-getD}
-use borrow.Author.Tests.{ltb-true, lt-ltb}
 use Rattle.refusal.specs.declared.Outcome.the-variants.{Clear}
-use Rattle.refusal.specs.declared.Refusal.the-variants.{RuleSizes, Operand, Absent}
-use Rattle.refusal.specs.First.{_orElse_, unless}
-use Rattle.refusal.proofs.First.{orElse-clear, unless-clear}
 use Rattle.fields.specs.inner.Ranges.{Bytes}
 use Rattle.cltlb.specs.declared.Part.{Part}
 use Rattle.rule.specs.declared.Taken.the-variants as K
-use Rattle.rule.specs.Layout.{partCount, channelCount, kindByte, kindPlace, operandPlace, sizesFit}
-use Rattle.rule.specs.Operands.{operandBytes, operandFits}
+use Rattle.rule.specs.Layout.{partCount, kindByte, kindPlace, operandPlace}
+use Rattle.rule.specs.Operands.{operandBytes}
 use Rattle.rule.specs.Kinds.{operandOf}
 use Rattle.rule.specs.Take.{takeOf}
 use Rattle.rule.specs.Put.{putOutcome, overwritten, written, afterPut, putBytes}
 use Rattle.rule.proofs.Laid.{Words, Laid}
+use Rattle.rule.proofs.Putting.{put-clear}
 use Rattle.rule.proofs.Overwritten.{same-bytes}
 use Rattle.rule.proofs.OperandsWritten.{operand-length}
 use Rattle.rule.proofs.Written.{written-length, written-kind, written-operand, written-elsewhere, written-parts, written-channels, written-sizes}
 use Rattle.rule.proofs.TakenIsLaid.{taken-laid, laid-taken}
 
 module _ (s : List ℕ) (n : ℕ) (p : Part) where
-  -- A put is unrefused where the sizes fit, the part is there and the operand fits.
-  pub put-clear : (putOutcome s n p ≡ Clear) ↔ ((sizesFit s ≡ true) × (n < partCount s) × (operandFits (channelCount s) n (operandOf p) ≡ true))
-  unfolding putOutcome
-  put-clear =
-      let a = orElse-clear (unless (sizesFit s) RuleSizes) (unless (ltb n (partCount s)) Absent orElse unless (operandFits (channelCount s) n (operandOf p)) (Operand n)) in
-      let b = orElse-clear (unless (ltb n (partCount s)) Absent) (unless (operandFits (channelCount s) n (operandOf p)) (Operand n)) in
-      let u = unless-clear (sizesFit s) RuleSizes in
-      let v = unless-clear (ltb n (partCount s)) Absent in
-      let w = unless-clear (operandFits (channelCount s) n (operandOf p)) (Operand n) in (
-        λ e. let f = a .0 e in let g = b .0 (f .1) in (u .0 (f .0), ltb-true n (partCount s) (v .0 (g .0)), w .0 (g .1)),
-        λ h. a .1 (u .1 (h .0), b .1 (v .1 (lt-ltb n (partCount s) (h .1)), w .1 (h .2))),
-      )
-
   put-writes : putOutcome s n p ≡ Clear → putBytes s n p ≡ written s n p
   unfolding putBytes afterPut
   put-writes e = simp e
@@ -47,7 +29,7 @@ module _ (s : List ℕ) (n : ℕ) (p : Part) where
   -- A part that is put unrefused lies on the sheet then,
   pub put-laid : putOutcome s n p ≡ Clear → Laid (putBytes s n p) n p
   put-laid e =
-      let c = put-clear .0 e in
+      let c = put-clear s n p .0 e in
       let parts : partCount (written s n p) ≡ partCount s = written-parts s n p (c .0) (c .1) in
       subst (λ (t : List ℕ). Laid t n p) (sym (put-writes e)) (record {
         sizes = written-sizes s n p (c .0) (c .1);
@@ -72,15 +54,15 @@ module _ (s : List ℕ) (n : ℕ) (p : Part) where
   pub take-then-put : Bytes s → takeOf s n ≡ K.Part p → (putOutcome s n p ≡ Clear) × (putBytes s n p ≡ s)
   take-then-put b e =
       let d = taken-laid s n p b e .0 in
-      let clear : putOutcome s n p ≡ Clear = put-clear .1 (d .sizes, d .present, d .fits) in
+      let clear : putOutcome s n p ≡ Clear = put-clear s n p .1 (d .sizes, d .present, d .fits) in
       (clear, put-writes clear ∙ rewritten d)
 
   -- A put leaves every byte but the kind byte and the twelve bytes of the operand,
   pub put-elsewhere : putOutcome s n p ≡ Clear → (i : ℕ) → (i ≡ kindPlace n → ⊥) → (i < operandPlace (partCount s) n) ⊎ (operandPlace (partCount s) n + 12 ≤ i)
       → getD (putBytes s n p) i 0 ≡ getD s i 0
   put-elsewhere e i other out =
-      let c = put-clear .0 e in ap (λ (t : List ℕ). getD t i 0) (put-writes e) ∙ written-elsewhere s n p (c .0) (c .1) i other out
+      let c = put-clear s n p .0 e in ap (λ (t : List ℕ). getD t i 0) (put-writes e) ∙ written-elsewhere s n p (c .0) (c .1) i other out
 
   -- and the length.
   pub put-length : putOutcome s n p ≡ Clear → length (putBytes s n p) ≡ length s
-  put-length e = let c = put-clear .0 e in ap length (put-writes e) ∙ written-length s n p (c .0) (c .1)
+  put-length e = let c = put-clear s n p .0 e in ap length (put-writes e) ∙ written-length s n p (c .0) (c .1)

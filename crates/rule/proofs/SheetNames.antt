@@ -1,5 +1,5 @@
 -- A rule sheet's refusals are 1 to 3, and two bytes hold the part that one names. Assumes nothing.
-use Prim.Native.Nat.{ℕ, _<_}
+use Prim.Native.Nat.{ℕ}
 use native.Mathlib.Omega.{arith}
 use mathlib.Core.List.{List}
 use Rattle.refusal.specs.declared.Refusal.the-variants.{RuleSizes, Kind, Operand}

@@ -2,13 +2,14 @@
 use Prim.Native.Nat.{ℕ, suc, _+_, _-_, _≤_, _<_}
 use native.Mathlib.Nat.{add-comm}
 use native.Mathlib.Omega.{arith}
-use mathlib.Core.Path.{_≡_, refl, sym, ap, _∙_}
+use mathlib.Core.Path.{_≡_, refl, sym, ap}
 use mathlib.Core.Bool.{Bool, true, false, cond, not, _&&_}
 use lib.Dec.{ltb}
 use lib.IntN.{ℤ, pos, negsuc, subℕ, _+ℤ_}
 use lib.Signed.{mag, ltZ, leZ}
 use borrow.Author.Tests.{ltb-false, leb-true, le-ltb, lt-ltb, le-leb}
-use Rattle.rule.specs.Terms.{shiftOf, codeOf, shiftFits}
+use Rattle.cltlb.specs.Fits.{shiftFits}
+use Rattle.rule.specs.Terms.{shiftOf, codeOf}
 
 -- a difference of naturals below a bound is in the range that the bound gives
 by-test : (t : Bool) (a b bound : ℕ) → a < bound → b ≤ bound → mag (cond t (negsuc (b - suc a)) (pos (a - b))) < bound

@@ -1,15 +1,16 @@
 -- The sizes of a sheet by the tests that the reader makes, one law for each way out. Assumes nothing.
 use Prim.Native.Nat.{ℕ, _+_, _*_, _≤_, _<_}
-use mathlib.Core.Path.{_≡_, refl, sym, ap, _∙_}
+use mathlib.Core.Path.{_≡_, refl}
 use mathlib.Core.List.{List}
 use mathlib.Core.Bool.{Bool, true, false, _&&_}
+use lib.Dec.{leb, eqb}
 use lib.ListN.{length}
 use native.Mathlib.Omega.{arith}
-use borrow.Author.Tests.{le-leb, lt-leb, eq-eqb, ne-eqb}
+use borrow.Author.Tests.{le-leb, lt-leb}
 use Rattle.fields.specs.LittleEndian.{numberAt}
 use Rattle.rule.specs.declared.sizes.Sizes.the-variants.{Counts, Wrong}
 use Rattle.rule.specs.Layout.{partCount, channelCount, sizesFit}
-use Rattle.rule.specs.inner.Sizes.{sizesOf, Counted}
+use Rattle.rule.specs.inner.Sizes.{sizesOf}
 
 module _ (sheet : List ℕ) where
   pub wrong : sizesFit sheet ≡ false → Wrong ≡ sizesOf sheet
@@ -21,33 +22,14 @@ module _ (sheet : List ℕ) where
   short h = simp (lt-leb _ _ h)
 
   module _ {n v : ℕ} (e : n ≡ numberAt 2 sheet 0) (f : v ≡ numberAt 2 sheet 2) (h : 4 ≤ length sheet) where
-    pub no-parts : n < 1 → sizesFit sheet ≡ false
-    unfolding sizesFit partCount
-    no-parts p = simp (le-leb _ _ h, ← e, lt-leb _ _ p)
-
-    pub many-parts : 1 ≤ n → 64 < n → sizesFit sheet ≡ false
-    unfolding sizesFit partCount
-    many-parts p q = simp (le-leb _ _ h, ← e, le-leb _ _ p, lt-leb _ _ q)
-
-    pub no-channels : 1 ≤ n → n ≤ 64 → v < 1 → sizesFit sheet ≡ false
+    -- the one test that is made of both sizes and the length
+    pub tested : {b : Bool} → (leb 1 n && leb n 64) && ((leb 1 v && leb v 8) && eqb (length sheet) (4 + 13 * n)) ≡ b → sizesFit sheet ≡ b
     unfolding sizesFit partCount channelCount
-    no-channels p q r = simp (le-leb _ _ h, ← e, ← f, le-leb _ _ p, le-leb _ _ q, lt-leb _ _ r)
+    tested t = rw (le-leb 4 (length sheet) h, ← e, ← f) t
 
-    pub many-channels : 1 ≤ n → n ≤ 64 → 1 ≤ v → 8 < v → sizesFit sheet ≡ false
-    unfolding sizesFit partCount channelCount
-    many-channels p q r t = simp (le-leb _ _ h, ← e, ← f, le-leb _ _ p, le-leb _ _ q, le-leb _ _ r, lt-leb _ _ t)
-
-    pub other-length : 1 ≤ n → n ≤ 64 → 1 ≤ v → v ≤ 8 → (length sheet ≡ 4 + 13 * n → ⊥) → sizesFit sheet ≡ false
-    unfolding sizesFit partCount channelCount
-    other-length p q r t l = simp (le-leb _ _ h, ← e, ← f, le-leb _ _ p, le-leb _ _ q, le-leb _ _ r, le-leb _ _ t, ne-eqb _ _ l)
-
-    fits : 1 ≤ n → n ≤ 64 → 1 ≤ v → v ≤ 8 → length sheet ≡ 4 + 13 * n → sizesFit sheet ≡ true
-    unfolding sizesFit partCount channelCount
-    fits p q r t l = simp (le-leb _ _ h, ← e, ← f, le-leb _ _ p, le-leb _ _ q, le-leb _ _ r, le-leb _ _ t, eq-eqb _ _ l)
-
-    pub counts : 1 ≤ n → n ≤ 64 → 1 ≤ v → v ≤ 8 → length sheet ≡ 4 + 13 * n → (Counts n v ≡ sizesOf sheet) × Counted sheet (Counts n v)
+    pub counts : (leb 1 n && leb n 64) && ((leb 1 v && leb v 8) && eqb (length sheet) (4 + 13 * n)) ≡ true → Counts n v ≡ sizesOf sheet
     unfolding sizesOf partCount channelCount
-    counts p q r t l = (simp (fits p q r t l, e, f), (p, q, r, t, l, e, f))
+    counts t = simp (tested t, e, f)
 
   -- what the sizes that were read say of the test
   pub wrong-sizes : sizesOf sheet ≡ Wrong → sizesFit sheet ≡ false

@@ -20,7 +20,9 @@ use Rattle.rule.specs.declared.operands.Operand.{Operand}
 use Rattle.rule.specs.declared.operands.OperandRead.{OperandRead}
 use Rattle.rule.specs.declared.operands.OperandRead.the-variants as O
 use Rattle.rule.specs.Layout.{partCount, channelCount, kindByte, operandPlace, sizesFit}
-use Rattle.rule.specs.Operands.{operandBytes, operandFits, operandAt}
+use Rattle.cltlb.specs.Views.{viewOf}
+use Rattle.cltlb.specs.Fits.{viewFits}
+use Rattle.rule.specs.Operands.{operandBytes, operandAt}
 use Rattle.rule.specs.Kinds.{kindOf, operandOf, shapeOf, isUnknown, kindUnknown, partOf}
 use Rattle.rule.specs.Take.{takenOperand, takeOf}
 use Rattle.rule.specs.inner.Words.{WordOperand}
@@ -38,16 +40,18 @@ past p false r t e = (refl, e)
 pub record OperandTaken (v n k : ℕ) (x : OperandRead) (p : Part) : Type 0 where
   pub operand : Operand
   pub found : x ≡ O.Operand operand
-  pub fits : operandFits v n operand ≡ true
+  pub fits : viewFits v n (viewOf p) ≡ true
   pub made : partOf k operand ≡ p
 
 operand-taken : (v n k : ℕ) (x : OperandRead) (p : Part) → takenOperand v n k x ≡ K.Part p → OperandTaken v n k x p
 unfolding takenOperand
 operand-taken v n k O.Broken p e = absurd (let z : _≡_ {A = ℕ} 0 1 = cc in omega arith)
-operand-taken v n k (O.Operand o) p e = by-fit (operandFits v n o) refl e
+operand-taken v n k (O.Operand o) p e = by-fit (viewFits v n (viewOf (partOf k o))) refl e
   where
-    by-fit : (b : Bool) → operandFits v n o ≡ b → cond b (K.Part (partOf k o)) (K.Refused (N.Operand n)) ≡ K.Part p → OperandTaken v n k (O.Operand o) p
-    by-fit true f g = record { operand = o; found = refl; fits = f; made = cc }
+    by-fit : (b : Bool) → viewFits v n (viewOf (partOf k o)) ≡ b → cond b (K.Part (partOf k o)) (K.Refused (N.Operand n)) ≡ K.Part p → OperandTaken v n k (O.Operand o) p
+    by-fit true f g =
+        let made : partOf k o ≡ p = cc in
+        record { operand = o; found = refl; fits = ap (λ (q : Part). viewFits v n (viewOf q)) (sym made) ∙ f; made = made }
     by-fit false f g = absurd (let z : _≡_ {A = ℕ} 0 1 = cc in omega arith)
 
 -- a part that is taken, by the tests that it passed
@@ -76,10 +80,8 @@ module _ (s : List ℕ) (n : ℕ) (p : Part) where
       }
 
   -- A part that is taken fits its sheet.
-  pub taken-fits : takeOf s n ≡ K.Part p → operandFits (channelCount s) n (operandOf p) ≡ true
-  taken-fits e =
-      let o = passed e .from in
-      ap (operandFits (channelCount s) n) (sym (ap operandOf (o .made)) ∙ operand-back (kindByte s n) (o .operand)) ∙ o .fits
+  pub taken-fits : takeOf s n ≡ K.Part p → viewFits (channelCount s) n (viewOf p) ≡ true
+  taken-fits e = passed e .from .fits
 
   -- A part that is taken lies on the sheet, and its constants are numbers of four bytes.
   pub taken-laid : Bytes s → takeOf s n ≡ K.Part p → Laid s n p × Words p
@@ -116,9 +118,9 @@ module _ (s : List ℕ) (n : ℕ) (p : Part) where
       ap (λ k. operandAt k s (operandPlace (partCount s) n)) shape
       ∙ ap (λ (t : List ℕ). operandAt (shapeIn (operandOf p)) t (operandPlace (partCount s) n)) parted
       ∙ operand-read (take (operandPlace (partCount s) n) s) (drop 12 (drop (operandPlace (partCount s) n) s)) (operandPlace (partCount s) n)
-      (length-take-le (operandPlace (partCount s) n) s (omega arith)) (channelCount s) n (operandOf p) (size .3) (omega (arith, size .1)) (d .fits) w in
+      (length-take-le (operandPlace (partCount s) n) s (omega arith)) (channelCount s) n (size .3) (omega (arith, size .1)) (viewOf p) (d .fits) w in
       let made : partOf (kindByte s n) (operandOf p) ≡ p = ap (λ (k : ℕ). partOf k (operandOf p)) (d .kind) ∙ part-back p in
-      simp (d .sizes, lt-leb (partCount s) n (d .present), known, read, d .fits, made)
+      simp (d .sizes, lt-leb (partCount s) n (d .present), known, read, made, d .fits)
 
   -- The layout is the bytes of a part, and take reads exactly it.
   pub taken-is-laid : Bytes s → (takeOf s n ≡ K.Part p) ↔ (Laid s n p × Words p)

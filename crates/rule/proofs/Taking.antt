@@ -1,12 +1,10 @@
 -- Take by the tests that it makes, one law for each way out. Assumes nothing.
 use Prim.Native.Nat.{ℕ, _+_, _*_, _≤_, _<_}
-use native.Mathlib.Omega.{arith}
-use mathlib.Core.Path.{_≡_, refl, sym, ap, _∙_}
+use mathlib.Core.Path.{_≡_, sym, ap, _∙_}
 use mathlib.Core.List.{List}
 use mathlib.Core.Bool.{Bool, true, false, cond}
 use lib.ListN.{getD}
 use borrow.Author.Tests.{le-leb, lt-leb}
-use Rattle.refusal.specs.declared.Refusal.{Refusal}
 use Rattle.refusal.specs.declared.Refusal.the-variants.{RuleSizes, Kind, Absent}
 use Rattle.refusal.specs.declared.Refusal.the-variants as N
 use Rattle.cltlb.specs.declared.Part.{Part}
@@ -17,11 +15,13 @@ use Rattle.rule.specs.declared.operands.Operand.{Operand}
 use Rattle.rule.specs.declared.operands.OperandRead.{OperandRead}
 use Rattle.rule.specs.declared.operands.OperandRead.the-variants as O
 use Rattle.rule.specs.declared.operands.Shape.{Shape}
-use Rattle.rule.specs.Layout.{partCount, channelCount, kindByte, kindPlace, operandPlace, sizesFit}
+use Rattle.rule.specs.Layout.{kindByte, kindPlace, operandPlace}
 use Rattle.rule.specs.inner.Sizes.{sizesOf}
-use Rattle.rule.specs.Operands.{operandAt, operandFits}
+use Rattle.cltlb.specs.Views.{viewOf}
+use Rattle.cltlb.specs.Fits.{viewFits}
+use Rattle.rule.specs.Operands.{operandAt}
 use Rattle.rule.specs.Kinds.{shapeOf, isUnknown, kindUnknown, partOf}
-use Rattle.rule.specs.Take.{takenOperand, takeOf}
+use Rattle.rule.specs.Take.{takenPart, takenOperand, takeOf}
 use Rattle.rule.proofs.SizesRead.{wrong-sizes, right-sizes}
 
 -- the reader's test of a kind byte is the definition's
@@ -54,10 +54,10 @@ module _ (v n k : ℕ) {x : OperandRead} where
   unfolding takenOperand
   broken-operand e = simp e
 
-  pub misfit-operand : {o : Operand} → x ≡ O.Operand o → operandFits v n o ≡ false → K.Refused (N.Operand n) ≡ takenOperand v n k x
+  pub whole-operand : {o : Operand} {p : Part} {t : Taken} → x ≡ O.Operand o → p ≡ partOf k o → t ≡ takenPart v n p → t ≡ takenOperand v n k x
   unfolding takenOperand
-  misfit-operand e f = simp (e, f)
+  whole-operand {o} e g d = d ∙ ap (takenPart v n) g ∙ sym (ap (takenOperand v n k) e)
 
-  pub fit-operand : {o : Operand} {p : Part} → x ≡ O.Operand o → operandFits v n o ≡ true → p ≡ partOf k o → K.Part p ≡ takenOperand v n k x
-  unfolding takenOperand
-  fit-operand e f g = simp (e, f, g)
+-- a part by the test whether it fits
+pub part-tested : (v n : ℕ) (p : Part) → {b : Bool} → viewFits v n (viewOf p) ≡ b → cond b (K.Part p) (K.Refused (N.Operand n)) ≡ takenPart v n p
+part-tested v n p e = ap (λ (b : Bool). cond b (K.Part p) (K.Refused (N.Operand n))) (sym e)

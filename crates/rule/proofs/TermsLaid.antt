@@ -20,10 +20,11 @@ use Rattle.cltlb.specs.declared.Term.{Term}
 use Rattle.cltlb.specs.declared.Term.the-variants as T
 use Rattle.rule.specs.declared.terms.TermRead.{TermRead}
 use Rattle.rule.specs.declared.terms.TermRead.the-variants as R
-use Rattle.rule.specs.Terms.{shiftOf, codeOf, termBytes, termFits, termAt}
+use Rattle.cltlb.specs.Fits.{termFits}
+use Rattle.cltlb.proofs.Fits.{reading-fits}
+use Rattle.rule.specs.Terms.{shiftOf, codeOf, termBytes, termAt}
 use Rattle.rule.specs.inner.Words.{WordTerm}
 use Rattle.rule.proofs.Shifts.{coded}
-use Rattle.rule.proofs.Fits.{reading-fits}
 use Rattle.rule.proofs.TermsRead.{constant, reading}
 
 -- every code is the code of its shift
@@ -61,7 +62,7 @@ term-read v (T.Constant z) l r at e h f w =
     sym (constant (six l r 0 4 (patternOf 4 z) at e) at (form-read l r 0 4 (patternOf 4 z) at e) (code-read l r 0 4 (patternOf 4 z) at e)
     (sym (ap (signedOf 4) (number-read l r 0 4 (patternOf 4 z) at e (pattern-lt 4 z w)) ∙ signed-pattern 4 z w)))
 term-read v (T.Reading k d) l r at e h f w =
-    let p = reading-fits v refl f in
+    let p = reading-fits v k d f in
     let low : k < v = p .0 in
     let c = coded d (p .1) in
     sym (reading (six l r 1 (codeOf d) k at e) at (form-read l r 1 (codeOf d) k at e)

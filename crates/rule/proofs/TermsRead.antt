@@ -1,18 +1,15 @@
 -- A term by the tests that the reader makes, one law for each way out. Assumes nothing.
-use Prim.Native.Nat.{ℕ, _+_, _≤_, _<_}
-use mathlib.Core.Path.{_≡_, refl, sym, ap, _∙_}
+use Prim.Native.Nat.{ℕ, _+_}
+use mathlib.Core.Path.{_≡_}
 use mathlib.Core.List.{List}
-use mathlib.Core.Bool.{Bool, true, false, _&&_, not}
 use lib.ListN.{getD}
-use lib.IntN.{ℤ, pos, negsuc}
-use lib.Signed.{ltZ, leZ}
-use borrow.Author.Tests.{lt-ltb, le-ltb, ne-eqb}
+use lib.IntN.{ℤ}
+use borrow.Author.Tests.{ne-eqb}
 use Rattle.fields.specs.LittleEndian.{numberAt}
 use Rattle.fields.specs.TwosComplement.{signedAt}
-use Rattle.cltlb.specs.declared.Term.{Term}
 use Rattle.cltlb.specs.declared.Term.the-variants as T
 use Rattle.rule.specs.declared.terms.TermRead.the-variants as R
-use Rattle.rule.specs.Terms.{shiftOf, shiftFits, termAt, termFits}
+use Rattle.rule.specs.Terms.{shiftOf, termAt}
 
 module _ (s : List ℕ) (at : ℕ) where
   pub constant : {z : ℤ} → getD s at 0 ≡ 0 → getD s (at + 1) 0 ≡ 4 → z ≡ signedAt 4 s (at + 2) → R.Term (T.Constant z) ≡ termAt s at
@@ -30,20 +27,3 @@ module _ (s : List ℕ) (at : ℕ) where
   pub no-form : (getD s at 0 ≡ 0 → ⊥) → (getD s at 0 ≡ 1 → ⊥) → R.Broken ≡ termAt s at
   unfolding termAt
   no-form p q = simp (ne-eqb _ _ p, ne-eqb _ _ q)
-
-pub fits-constant : (v : ℕ) {x : Term} {z : ℤ} → x ≡ T.Constant z → true ≡ termFits v x
-unfolding termFits
-fits-constant v e = rw e refl
-
-module _ (v : ℕ) {x : Term} {k : ℕ} {d : ℤ} (e : x ≡ T.Reading k d) where
-  pub fits-channel : v ≤ k → false ≡ termFits v x
-  unfolding termFits
-  fits-channel h = simp (e, le-ltb _ _ h)
-
-  pub fits-low : k < v → ltZ d (negsuc 3) ≡ true → false ≡ termFits v x
-  unfolding termFits shiftFits
-  fits-low h l = simp (e, lt-ltb _ _ h, l)
-
-  pub fits-high : k < v → ltZ d (negsuc 3) ≡ false → leZ d (pos 4) ≡ termFits v x
-  unfolding termFits shiftFits
-  fits-high h l = simp (e, lt-ltb _ _ h, l)

@@ -1,14 +1,13 @@
 -- A term's six bytes, by its fields. Assumes nothing.
-use Prim.Native.Nat.{ℕ, _≤_, _<_}
+use Prim.Native.Nat.{ℕ, _≤_}
 use native.Mathlib.Omega.{arith}
-use mathlib.Core.Path.{_≡_, refl, sym, ap, _∙_, subst⁻¹}
+use mathlib.Core.Path.{_≡_, refl, subst⁻¹}
 use mathlib.Core.List.{List, [], _∷_, _++_}
 use lib.ListN.{length, drop, set}
 use lib.IntN.{ℤ}
 use Rattle.fields.specs.LittleEndian.{bytesOf}
 use Rattle.fields.specs.TwosComplement.{patternOf}
 use Rattle.fields.specs.inner.Ranges.{SignedFits}
-use Rattle.fields.proofs.Widths.{length-bytes}
 use Rattle.cltlb.specs.declared.Term.{Term}
 use Rattle.cltlb.specs.declared.Term.the-variants as T
 use Rattle.rule.specs.Terms.{codeOf, termBytes}

@@ -1,8 +1,8 @@
 -- The whole sheet: refusals 1, 2 and 3 by the tests that the check makes, and what a sheet that clears them is known for.
 -- Assumes nothing.
-use Prim.Native.Nat.{ℕ, _≤_, _<_}
+use Prim.Native.Nat.{ℕ, _<_}
 use native.Mathlib.Omega.{arith}
-use mathlib.Core.Path.{_≡_, refl, sym, ap, _∙_, subst}
+use mathlib.Core.Path.{_≡_, sym, ap, ap₂, _∙_, subst}
 use mathlib.Core.List.{List}
 use mathlib.Core.Bool.{Bool, true, false, cond}
 use borrow.Author.Tests.{lt-leb}
@@ -18,9 +18,13 @@ use Rattle.rule.specs.declared.Taken.the-variants as K
 use Rattle.rule.specs.declared.sizes.Sizes.the-variants.{Counts, Wrong}
 use Rattle.rule.specs.declared.operands.OperandRead.{OperandRead}
 use Rattle.rule.specs.declared.operands.OperandRead.the-variants as O
-use Rattle.rule.specs.Layout.{partCount, channelCount, kindByte, operandPlace, sizesFit}
+use Rattle.rule.specs.Layout.{partCount, channelCount, kindByte, operandPlace}
 use Rattle.rule.specs.inner.Sizes.{sizesOf}
-use Rattle.rule.specs.Operands.{operandAt, operandFits}
+use Rattle.cltlb.specs.Views.{viewOf}
+use Rattle.cltlb.specs.Fits.{viewFits}
+use Rattle.rule.specs.declared.SheetRead.the-variants as R
+use Rattle.rule.specs.inner.Read.{countsUnless, sheetRead}
+use Rattle.rule.specs.Operands.{operandAt}
 use Rattle.rule.specs.Kinds.{shapeOf, kindUnknown, partOf}
 use Rattle.rule.specs.Take.{takenOperand, takeOf}
 use Rattle.rule.specs.inner.Known.{KindsKnown}
@@ -32,7 +36,7 @@ use Rattle.rule.proofs.SizesRead.{wrong-sizes, right-sizes}
 operand-alone : (v n k : ℕ) (x : OperandRead) (r : Refusal) → takenOperand v n k x ≡ K.Refused r → r ≡ N.Operand n
 unfolding takenOperand
 operand-alone v n k O.Broken r e = cc
-operand-alone v n k (O.Operand o) r e = by-fit (operandFits v n o) e
+operand-alone v n k (O.Operand o) r e = by-fit (viewFits v n (viewOf (partOf k o))) e
   where
     by-fit : (b : Bool) → cond b (K.Part (partOf k o)) (K.Refused (N.Operand n)) ≡ K.Refused r → r ≡ N.Operand n
     by-fit true f = absurd (let z : _≡_ {A = ℕ} 0 1 = cc in omega arith)
@@ -78,3 +82,13 @@ module _ (s : List ℕ) where
     pub kinds-known : x ≡ Clear → KindsKnown s p
     unfolding KindsKnown
     kinds-known g = let z = right-sizes s e in (z .0, z .1, atLowest-clear (kindUnknown s) p Kind .0 (sym f ∙ g))
+
+-- what the check answers, by the first outcome that refuses, or where none does
+module _ (s : List ℕ) {x : Outcome} (e : x ≡ sheetOutcome s) where
+  pub read-refused : {r : Refusal} → x ≡ Refused r → R.Refused r ≡ sheetRead s
+  unfolding sheetRead countsUnless
+  read-refused g = ap (λ (y : Outcome). countsUnless y s) (sym g ∙ e)
+
+  pub read-counts : {p v : ℕ} → sizesOf s ≡ Counts p v → x ≡ Clear → R.Counts p v ≡ sheetRead s
+  unfolding sheetRead countsUnless
+  read-counts f g = let z = right-sizes s f in ap₂ R.Counts (z .1) (z .2) ∙ ap (λ (y : Outcome). countsUnless y s) (sym g ∙ e)

@@ -6,6 +6,11 @@ use mathlib.Core.Bool.{Bool, true, false, cond}
 use Rattle.rule.specs.Layout.{kindByte}
 use Rattle.cltlb.specs.declared.Part.{Part}
 use Rattle.cltlb.specs.declared.Part.the-variants.{Less, Equal, Not, And, Or, Next, Until, Release, Yesterday, WeakYesterday, Since, Trigger}
+use Rattle.cltlb.specs.declared.Atom.the-variants as atom
+use Rattle.cltlb.specs.declared.Operator.the-variants as operator
+use Rattle.cltlb.specs.declared.View.{View}
+use Rattle.cltlb.specs.declared.View.the-variants as view
+use Rattle.cltlb.specs.Views.{viewOf}
 use Rattle.rule.specs.declared.operands.Operand.{Operand}
 use Rattle.rule.specs.declared.operands.Operand.the-variants.{Terms, One, Two}
 use Rattle.rule.specs.declared.operands.Shape.{Shape}
@@ -26,19 +31,15 @@ kindOf (WeakYesterday a) = 10
 kindOf (Since a b) = 11
 kindOf (Trigger a b) = 12
 
+-- An atom's operand is its two terms, an operator's the parts that it names.
+abbrev pub operandIn : View → Operand
+operandIn (view.Atom (atom.Less x y)) = Terms x y
+operandIn (view.Atom (atom.Equal x y)) = Terms x y
+operandIn (view.Operator (operator.One o a)) = One a
+operandIn (view.Operator (operator.Two o a b)) = Two a b
+
 abbrev pub operandOf : Part → Operand
-operandOf (Less x y) = Terms x y
-operandOf (Equal x y) = Terms x y
-operandOf (Not a) = One a
-operandOf (And a b) = Two a b
-operandOf (Or a b) = Two a b
-operandOf (Next a) = One a
-operandOf (Until a b) = Two a b
-operandOf (Release a b) = Two a b
-operandOf (Yesterday a) = One a
-operandOf (WeakYesterday a) = One a
-operandOf (Since a b) = Two a b
-operandOf (Trigger a b) = Two a b
+operandOf part = operandIn (viewOf part)
 
 -- Kinds 1 and 2 compare two terms; 3, 6, 9 and 10 name one part; 4, 5, 7, 8, 11 and 12 name two.
 unfoldable pub shapeOf : ℕ → Shape

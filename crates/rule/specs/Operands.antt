@@ -1,11 +1,11 @@
 -- An operand in twelve bytes: two terms, one named part, or two. Assumes nothing.
 use Prim.Native.Nat.{ℕ, _+_}
 use mathlib.Core.List.{List, [], _∷_, _++_}
-use mathlib.Core.Bool.{Bool, true, false, _&&_, cond}
-use lib.Dec.{ltb, eqb}
+use mathlib.Core.Bool.{Bool, true, _&&_, cond}
+use lib.Dec.{eqb}
 use lib.ListN.{take, drop, replicate}
 use Rattle.fields.specs.LittleEndian.{numberAt, bytesOf}
-use Rattle.rule.specs.Terms.{termBytes, termFits, termAt}
+use Rattle.rule.specs.Terms.{termBytes, termAt}
 use Rattle.rule.specs.declared.terms.TermRead.{TermRead}
 use Rattle.rule.specs.declared.terms.TermRead.the-variants as R
 use Rattle.rule.specs.declared.operands.Operand.{Operand}
@@ -21,12 +21,6 @@ unfoldable pub operandBytes : Operand → List ℕ
 operandBytes (Terms left right) = termBytes left ++ termBytes right
 operandBytes (One a) = bytesOf 2 a ++ replicate 10 0
 operandBytes (Two a b) = bytesOf 2 a ++ (bytesOf 2 b ++ replicate 8 0)
-
--- A named part has a lower number than its user, which is part n; terms fit V channels.
-unfoldable pub operandFits : ℕ → ℕ → Operand → Bool
-operandFits v n (Terms left right) = termFits v left && termFits v right
-operandFits v n (One a) = ltb a n
-operandFits v n (Two a b) = ltb a n && ltb b n
 
 unfoldable pub allZero : List ℕ → Bool
 allZero [] = true

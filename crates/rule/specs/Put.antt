@@ -1,7 +1,6 @@
 -- "Put" writes one part at a stated number into a lent sheet. Assumes nothing.
 use Prim.Native.Nat.{ℕ, _+_}
 use mathlib.Core.List.{List, _++_}
-use mathlib.Core.Bool.{_&&_, cond}
 use lib.Dec.{ltb}
 use lib.ListN.{length, take, drop, set}
 use Rattle.refusal.specs.declared.Outcome.{Outcome}
@@ -9,16 +8,18 @@ use Rattle.refusal.specs.declared.Outcome.the-variants.{Clear, Refused}
 use Rattle.refusal.specs.declared.Refusal.the-variants.{RuleSizes, Operand, Absent}
 use Rattle.refusal.specs.First.{_orElse_, unless}
 use Rattle.cltlb.specs.declared.Part.{Part}
+use Rattle.cltlb.specs.Views.{viewOf}
+use Rattle.cltlb.specs.Fits.{viewFits}
 use Rattle.rule.specs.Layout.{partCount, channelCount, kindPlace, operandPlace, sizesFit}
-use Rattle.rule.specs.Operands.{operandBytes, operandFits}
+use Rattle.rule.specs.Operands.{operandBytes}
 use Rattle.rule.specs.Kinds.{kindOf, operandOf}
 
--- Put: 1, 12, 3, the operand being held against that number and the sheet's V.
+-- Put: 1, 12, 3, the part being held against that number and the sheet's V.
 unfoldable pub putOutcome : List ℕ → ℕ → Part → Outcome
 putOutcome sheet n part =
     unless (sizesFit sheet) RuleSizes
     orElse unless (ltb n (partCount sheet)) Absent
-    orElse unless (operandFits (channelCount sheet) n (operandOf part)) (Operand n)
+    orElse unless (viewFits (channelCount sheet) n (viewOf part)) (Operand n)
 
 -- a list with other bytes from `at` on
 unfoldable pub overwritten : List ℕ → ℕ → List ℕ → List ℕ

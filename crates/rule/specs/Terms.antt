@@ -1,11 +1,10 @@
 -- A term in six bytes: form, shift code, number (4 bytes, signed). Assumes nothing.
 use Prim.Native.Nat.{ℕ, _+_, _-_}
-use mathlib.Core.List.{List, [], _∷_}
-use mathlib.Core.Bool.{Bool, true, _&&_, not, cond}
-use lib.Dec.{ltb, eqb}
+use mathlib.Core.List.{List, _∷_}
+use mathlib.Core.Bool.{cond}
+use lib.Dec.{eqb}
 use lib.ListN.{getD}
 use lib.IntN.{ℤ, pos, negsuc, subℕ}
-use lib.Signed.{ltZ, leZ}
 use Rattle.fields.specs.LittleEndian.{numberAt, bytesOf}
 use Rattle.fields.specs.TwosComplement.{signedAt, patternOf}
 use Rattle.cltlb.specs.declared.Term.{Term}
@@ -25,15 +24,6 @@ codeOf (negsuc n) = 3 - n
 unfoldable pub termBytes : Term → List ℕ
 termBytes (Constant z) = 0 ∷ 4 ∷ bytesOf 4 (patternOf 4 z)
 termBytes (Reading channel shift) = 1 ∷ codeOf shift ∷ bytesOf 4 channel
-
--- a shift of -4 to 4
-unfoldable pub shiftFits : ℤ → Bool
-shiftFits shift = not (ltZ shift (negsuc 3)) && leZ shift (pos 4)
-
--- The channel is 0 to V - 1, and the shift -4 to 4.
-unfoldable pub termFits : ℕ → Term → Bool
-termFits v (Constant z) = true
-termFits v (Reading channel shift) = ltb channel v && shiftFits shift
 
 -- the term that six bytes from `at` on stand for
 unfoldable pub termAt : List ℕ → ℕ → TermRead

@@ -3,3 +3,4 @@ pub mod Sizes
 pub mod Words
 pub mod Known
 pub mod Untaken
+pub mod Read

@@ -1,6 +1,6 @@
-// A part as its kind byte and its operand, and back.
+// The kind byte of a part, and a part off its kind byte and its operand.
 ghost use mathlib.Core.Path.{_≡_};
-ghost use Rattle.rule.specs.Kinds.{kindOf, operandOf, shapeOf, isUnknown, partOf};
+ghost use Rattle.rule.specs.Kinds.{kindOf, shapeOf, isUnknown, partOf};
 use crate::operands::Operand;
 use crate::operands::Shape;
 use cltlb::Part;
@@ -21,25 +21,6 @@ pub fn kind_of(part: Part) -> u8
         Part::WeakYesterday(_) => 10,
         Part::Since(_, _) => 11,
         Part::Trigger(_, _) => 12,
-    }
-}
-
-pub fn operand_of(part: Part) -> Operand
-    ensures { λ r. ⌜ r ≡ operandOf part ⌝ }
-{
-    match part {
-        Part::Less(x, y) => Operand::Terms(x, y),
-        Part::Equal(x, y) => Operand::Terms(x, y),
-        Part::Not(a) => Operand::One(a),
-        Part::And(a, b) => Operand::Two(a, b),
-        Part::Or(a, b) => Operand::Two(a, b),
-        Part::Next(a) => Operand::One(a),
-        Part::Until(a, b) => Operand::Two(a, b),
-        Part::Release(a, b) => Operand::Two(a, b),
-        Part::Yesterday(a) => Operand::One(a),
-        Part::WeakYesterday(a) => Operand::One(a),
-        Part::Since(a, b) => Operand::Two(a, b),
-        Part::Trigger(a, b) => Operand::Two(a, b),
     }
 }
 

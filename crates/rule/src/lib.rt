@@ -1,17 +1,27 @@
 // The rule sheet: one part of it taken and put, and the whole of it checked.
 ghost use mathlib.Core.Path.{_≡_};
 ghost use Rattle.rule.specs.inner.Known.{KindsKnown};
+ghost use Rattle.rule.specs.inner.Read.{sheetRead};
+ghost use Rattle.rule.specs.inner.Sizes.{sizesOf};
 ghost use Rattle.rule.specs.inner.Untaken.{refusalTaken};
+ghost use Rattle.rule.specs.inner.Words.{WordOperand};
 ghost use Rattle.rule.specs.Promise.{TakePromise, PutPromise};
-ghost use Rattle.rule.specs.Sheet.{untakeable, sheetOutcome};
-ghost use Rattle.rule.specs.Kinds.{kindUnknown};
+ghost use Rattle.rule.specs.Sheet.{untakeable};
+ghost use Rattle.rule.specs.Layout.{partCount};
+ghost use Rattle.rule.specs.Kinds.{operandOf, kindUnknown};
+ghost use Rattle.rule.specs.Take.{takenPart, takeOf};
+ghost use Rattle.rule.specs.Put.{putOutcome, written};
+ghost use Rattle.cltlb.specs.Views.{viewOf};
+ghost use Rattle.cltlb.specs.Fits.{viewFits};
 ghost use Rattle.refusal.specs.First.{atLowest};
-ghost use Prim.Native.Nat.{_+_, _≤_};
+ghost use Prim.Native.Nat.{_+_, _≤_, _<_};
 ghost use lib.ListN.{length};
 use cltlb::Part;
+use operands::OPERAND_BYTES;
 use operands::OperandRead;
 use refusal::Outcome;
 use refusal::Refusal;
+use sizes::KINDS_AT;
 use sizes::Sizes;
 
 pub mod kinds;
@@ -25,6 +35,50 @@ pub enum Taken {
     Refused(Refusal),
 }
 
+// The number of parts and of channels of a sheet that clears every check, or why it does not.
+pub enum SheetRead {
+    Counts { parts: usize, channels: usize },
+    Refused(Refusal),
+}
+
+// Whether a part fits so many channels at number `n`.
+fn part_fits(part: Part, channels: usize, n: usize) -> bool
+    ensures { λ r. ⌜ r ≡ viewFits channels n (viewOf part) ⌝ }
+{
+    cltlb::view_fits(cltlb::view_of(part), channels, n)
+}
+
+// A part that was read for number `n`: refused by 3 unless it fits.
+fn fitting(part: Part, channels: usize, n: usize) -> Taken
+    ensures { λ r. ⌜ r ≡ takenPart channels n part ⌝ }
+{
+    if part_fits(part, channels, n) {
+        Taken::Part(part)
+    } else {
+        Taken::Refused(Refusal::Operand { part: n })
+    }
+}
+
+// The part with number `n` of a sheet that has it. Refused: 2 and 3 on that part.
+fn part_at(sheet: &[u8], parts: usize, channels: usize, n: usize) -> Taken
+    requires { ⌜ (sizesOf (now sheet) ≡ Sizes.Counts parts channels) × (n < parts) ⌝ }
+    ensures { λ r. ⌜ r ≡ takeOf (now (sheet .entry)) n ⌝ }
+{
+    let kind = sheet[KINDS_AT + n];
+    let shape = kinds::shape_of(kind);
+    if kinds::is_unknown(shape) {
+        return Taken::Refused(Refusal::Kind { part: n });
+    }
+    let OperandRead::Operand(operand) = operands::operand_at(
+        sheet,
+        KINDS_AT + parts + OPERAND_BYTES * n,
+        shape,
+    ) else {
+        return Taken::Refused(Refusal::Operand { part: n });
+    };
+    fitting(kinds::part_of(kind, operand), channels, n)
+}
+
 // The part with number `n`. Refused: 1, 12, then 2 and 3 on that part.
 pub fn take(sheet: &[u8], n: usize) -> Taken
     ensures { λ r. ⌜ TakePromise (now (sheet .entry)) n r ⌝ }
@@ -35,24 +89,22 @@ pub fn take(sheet: &[u8], n: usize) -> Taken
     if parts <= n {
         return Taken::Refused(Refusal::Absent);
     }
-    let kind = sheet[4 + n];
-    let shape = kinds::shape_of(kind);
-    if kinds::is_unknown(shape) {
-        return Taken::Refused(Refusal::Kind { part: n });
-    }
-    let OperandRead::Operand(operand) = operands::operand_at(sheet, 4 + parts + 12 * n, shape)
-    else {
-        return Taken::Refused(Refusal::Operand { part: n });
-    };
-    if operands::operand_fits(operand, channels, n) {
-        Taken::Part(kinds::part_of(kind, operand))
-    } else {
-        Taken::Refused(Refusal::Operand { part: n })
-    }
+    part_at(sheet, parts, channels, n)
 }
 
-// Writes a part at number `n`: its kind byte and the twelve bytes of its operand. Refused, with every byte as it was: 1,
-// 12, then 3 on the part.
+// Writes a part of which a put is unrefused: its kind byte and the twelve bytes of its operand.
+fn write_part(sheet: &mut [u8], parts: usize, n: usize, part: Part)
+    requires { ⌜ (parts ≡ partCount (now sheet)) × (putOutcome (now sheet) n part ≡ Outcome.Clear) ⌝ }
+    ensures { λ _. ⌜ (now (sheet .exit) ≡ written (now (sheet .entry)) n part) × WordOperand (operandOf part) ⌝ }
+{
+    sheet[KINDS_AT + n] = kinds::kind_of(part);
+    operands::put_operand(
+        &mut sheet[KINDS_AT + parts + OPERAND_BYTES * n..],
+        cltlb::view_of(part),
+    );
+}
+
+// Puts a part at number `n`. Refused, with every byte as it was: 1, 12, then 3 on the part.
 pub fn put(sheet: &mut [u8], n: usize, part: Part) -> Outcome
     ensures { λ r. ⌜ PutPromise (now (sheet .entry)) n part r (now (sheet .exit)) ⌝ }
 {
@@ -62,10 +114,8 @@ pub fn put(sheet: &mut [u8], n: usize, part: Part) -> Outcome
     if parts <= n {
         return Outcome::Refused(Refusal::Absent);
     }
-    let operand = kinds::operand_of(part);
-    if operands::operand_fits(operand, channels, n) {
-        sheet[4 + n] = kinds::kind_of(part);
-        operands::put_operand(sheet, 4 + parts + 12 * n, operand);
+    if part_fits(part, channels, n) {
+        write_part(sheet, parts, n, part);
         Outcome::Clear
     } else {
         Outcome::Refused(Refusal::Operand { part: n })
@@ -79,7 +129,7 @@ fn check_kinds(sheet: &[u8], parts: usize) -> Outcome
 {
     let mut n = 0;
     while n < parts {
-        if kinds::is_unknown(kinds::shape_of(sheet[4 + n])) {
+        if kinds::is_unknown(kinds::shape_of(sheet[KINDS_AT + n])) {
             return Outcome::Refused(Refusal::Kind { part: n });
         }
         n += 1;
@@ -114,15 +164,22 @@ fn check_operands(sheet: &[u8], parts: usize) -> Outcome
 }
 
 // The whole sheet: refusals 1, 2 and 3, in that order.
-pub fn check_sheet(sheet: &[u8]) -> Outcome
-    ensures { λ r. ⌜ r ≡ sheetOutcome (now (sheet .entry)) ⌝ }
+pub fn check_sheet(sheet: &[u8]) -> SheetRead
+    ensures { λ r. ⌜ r ≡ sheetRead (now (sheet .entry)) ⌝ }
 {
-    let Sizes::Counts { parts, channels: _ } = sizes::read_sizes(sheet) else {
-        return Outcome::Refused(Refusal::RuleSizes);
+    let Sizes::Counts { parts, channels } = sizes::read_sizes(sheet) else {
+        return SheetRead::Refused(Refusal::RuleSizes);
     };
     let kinds = check_kinds(sheet, parts);
-    let Outcome::Clear = kinds else {
-        return kinds;
-    };
-    check_operands(sheet, parts)
+    if let Outcome::Refused(refusal) = kinds {
+        return SheetRead::Refused(refusal);
+    }
+    let operands = check_operands(sheet, parts);
+    if let Outcome::Refused(refusal) = operands {
+        return SheetRead::Refused(refusal);
+    }
+    SheetRead::Counts {
+        parts: parts,
+        channels: channels,
+    }
 }

@@ -1,14 +1,20 @@
-// An operand in twelve bytes: read, held against the channels and the part's own number, and written.
+// An operand in twelve bytes: read and written.
 ghost use mathlib.Core.Path.{_≡_};
 ghost use mathlib.Core.Bool.{true};
 ghost use mathlib.Core.List.{_++_};
 ghost use Prim.Native.Nat.{_+_, _≤_, _<_};
 ghost use lib.ListN.{length, drop, replicate};
-ghost use Rattle.rule.specs.Operands.{operandAt, operandFits, operandBytes, allZero};
-ghost use Rattle.rule.specs.Put.{overwritten};
+ghost use Rattle.rule.specs.Operands.{operandAt, operandBytes, allZero};
+ghost use Rattle.rule.specs.Kinds.{operandIn};
+ghost use Rattle.cltlb.specs.Fits.{termFits, atomFits, namesLower, viewFits};
 ghost use Rattle.rule.specs.inner.Words.{WordOperand};
 use crate::terms::TermRead;
+use cltlb::Atom;
+use cltlb::Operator;
 use cltlb::Term;
+use cltlb::View;
+
+pub const OPERAND_BYTES: usize = 12;
 
 // What a part works on: two terms, or one or two parts that it names.
 pub enum Operand {
@@ -60,7 +66,7 @@ fn one_name(s: &[u8], at: usize) -> OperandRead
     requires { ⌜ at + 12 ≤ length (now s) ⌝ }
     ensures { λ r. ⌜ r ≡ operandAt Shape.NamesOne (now (s .entry)) at ⌝ }
 {
-    if all_zero(&s[at + 2..at + 12]) {
+    if all_zero(&s[at + 2..at + OPERAND_BYTES]) {
         OperandRead::Operand(Operand::One(fields::u16_at(s, at)))
     } else {
         OperandRead::Broken
@@ -71,7 +77,7 @@ fn two_names(s: &[u8], at: usize) -> OperandRead
     requires { ⌜ at + 12 ≤ length (now s) ⌝ }
     ensures { λ r. ⌜ r ≡ operandAt Shape.NamesTwo (now (s .entry)) at ⌝ }
 {
-    if all_zero(&s[at + 4..at + 12]) {
+    if all_zero(&s[at + 4..at + OPERAND_BYTES]) {
         OperandRead::Operand(Operand::Two(fields::u16_at(s, at), fields::u16_at(s, at + 2)))
     } else {
         OperandRead::Broken
@@ -91,62 +97,69 @@ pub fn operand_at(s: &[u8], at: usize, shape: Shape) -> OperandRead
     }
 }
 
-// An operand of part `n` names lower parts, and its terms fit `v` channels.
-pub fn operand_fits(x: Operand, v: usize, n: usize) -> bool
-    ensures { λ r. ⌜ r ≡ operandFits v n x ⌝ }
-{
-    match x {
-        Operand::Terms(left, right) => crate::terms::term_fits(left, v)
-            & crate::terms::term_fits(right, v),
-        Operand::One(a) => a < n,
-        Operand::Two(a, b) => (a < n) & (b < n),
-    }
-}
-
-// Writes zeros over a lent part.
+// Writes zeros over the twelve bytes at the front of a lent part.
 fn clear(t: &mut [u8])
-    ensures { λ _. ⌜ now (t .exit) ≡ replicate (length (now (t .entry))) 0 ⌝ }
+    requires { ⌜ 12 ≤ length (now t) ⌝ }
+    ensures { λ _. ⌜ now (t .exit) ≡ replicate 12 0 ++ drop 12 (now (t .entry)) ⌝ }
 {
     let mut i = 0;
-    while i < t.len() {
+    while i < OPERAND_BYTES {
         t[i] = 0;
         i += 1;
     }
 }
 
-fn put_terms(s: &mut [u8], at: usize, left: Term, right: Term)
-    requires { ⌜ (at + 12 ≤ length (now s)) × (operandFits 8 64 (Operand.Terms left right) ≡ true) ⌝ }
-    ensures { λ _. ⌜ (now (s .exit) ≡ overwritten (now (s .entry)) at (operandBytes (Operand.Terms left right))) × WordOperand (Operand.Terms left right) ⌝ }
+fn put_terms(t: &mut [u8], left: Term, right: Term)
+    requires { ⌜ (12 ≤ length (now t)) × (termFits 8 left ≡ true) × (termFits 8 right ≡ true) ⌝ }
+    ensures { λ _. ⌜ (now (t .exit) ≡ operandBytes (Operand.Terms left right) ++ drop 12 (now (t .entry))) × WordOperand (Operand.Terms left right) ⌝ }
 {
-    crate::terms::put_term(&mut s[at..], left);
-    crate::terms::put_term(&mut s[at + 6..at + 12], right);
+    crate::terms::put_term(t, left);
+    crate::terms::put_term(&mut t[6..], right);
 }
 
-fn put_one(s: &mut [u8], at: usize, a: usize)
-    requires { ⌜ (at + 12 ≤ length (now s)) × (a < 64) ⌝ }
-    ensures { λ _. ⌜ now (s .exit) ≡ overwritten (now (s .entry)) at (operandBytes (Operand.One a)) ⌝ }
+fn put_one(t: &mut [u8], a: usize)
+    requires { ⌜ (12 ≤ length (now t)) × (a < 64) ⌝ }
+    ensures { λ _. ⌜ now (t .exit) ≡ operandBytes (Operand.One a) ++ drop 12 (now (t .entry)) ⌝ }
 {
-    fields::put_u16(&mut s[at..], a);
-    clear(&mut s[at + 2..at + 12]);
+    clear(t);
+    fields::put_u16(t, a);
 }
 
-fn put_two(s: &mut [u8], at: usize, a: usize, b: usize)
-    requires { ⌜ (at + 12 ≤ length (now s)) × (a < 64) × (b < 64) ⌝ }
-    ensures { λ _. ⌜ now (s .exit) ≡ overwritten (now (s .entry)) at (operandBytes (Operand.Two a b)) ⌝ }
+fn put_two(t: &mut [u8], a: usize, b: usize)
+    requires { ⌜ (12 ≤ length (now t)) × (a < 64) × (b < 64) ⌝ }
+    ensures { λ _. ⌜ now (t .exit) ≡ operandBytes (Operand.Two a b) ++ drop 12 (now (t .entry)) ⌝ }
 {
-    fields::put_u16(&mut s[at..], a);
-    fields::put_u16(&mut s[at + 2..], b);
-    clear(&mut s[at + 4..at + 12]);
+    put_one(t, a);
+    fields::put_u16(&mut t[2..], b);
 }
 
-// Writes an operand over the twelve bytes of a sheet from `at` on.
-pub fn put_operand(s: &mut [u8], at: usize, x: Operand)
-    requires { ⌜ (at + 12 ≤ length (now s)) × (operandFits 8 64 x ≡ true) ⌝ }
-    ensures { λ _. ⌜ (now (s .exit) ≡ overwritten (now (s .entry)) at (operandBytes x)) × WordOperand x ⌝ }
+fn put_atom(t: &mut [u8], x: Atom)
+    requires { ⌜ (12 ≤ length (now t)) × (atomFits 8 x ≡ true) ⌝ }
+    ensures { λ _. ⌜ (now (t .exit) ≡ operandBytes (operandIn (View.Atom x)) ++ drop 12 (now (t .entry))) × WordOperand (operandIn (View.Atom x)) ⌝ }
 {
     match x {
-        Operand::Terms(left, right) => put_terms(s, at, left, right),
-        Operand::One(a) => put_one(s, at, a),
-        Operand::Two(a, b) => put_two(s, at, a, b),
+        Atom::Less(left, right) => put_terms(t, left, right),
+        Atom::Equal(left, right) => put_terms(t, left, right),
+    }
+}
+
+fn put_names(t: &mut [u8], x: Operator)
+    requires { ⌜ (12 ≤ length (now t)) × (namesLower 64 x ≡ true) ⌝ }
+    ensures { λ _. ⌜ (now (t .exit) ≡ operandBytes (operandIn (View.Operator x)) ++ drop 12 (now (t .entry))) × WordOperand (operandIn (View.Operator x)) ⌝ }
+{
+    match x {
+        Operator::One(_, a) => put_one(t, a),
+        Operator::Two(_, a, b) => put_two(t, a, b),
+    }
+}
+
+// Writes the operand of a part over the twelve bytes at the front of a lent part of a sheet.
+pub fn put_operand(t: &mut [u8], x: View)
+    requires { ⌜ (12 ≤ length (now t)) × (viewFits 8 64 x ≡ true) ⌝ }
+    ensures { λ _. ⌜ (now (t .exit) ≡ operandBytes (operandIn x) ++ drop 12 (now (t .entry))) × WordOperand (operandIn x) ⌝ }
+{
+    match x {
+        View::Atom(atom) => put_atom(t, atom),
+        View::Operator(operator) => put_names(t, operator),
     }
 }

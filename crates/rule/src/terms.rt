@@ -1,4 +1,4 @@
-// A term in six bytes: read, held against the channels, and written.
+// A term in six bytes: read and written.
 ghost use mathlib.Core.Path.{_≡_};
 ghost use mathlib.Core.Bool.{true};
 ghost use mathlib.Core.List.{_∷_, _++_};
@@ -6,7 +6,8 @@ ghost use Prim.Native.Nat.{_+_, _≤_};
 ghost use lib.ListN.{length, drop};
 ghost use Rattle.fields.specs.LittleEndian.{bytesOf};
 ghost use Rattle.rule.specs.inner.Words.{WordTerm};
-ghost use Rattle.rule.specs.Terms.{shiftOf, codeOf, shiftFits, termAt, termFits, termBytes};
+ghost use Rattle.rule.specs.Terms.{shiftOf, codeOf, termAt, termBytes};
+ghost use Rattle.cltlb.specs.Fits.{shiftFits, termFits};
 use cltlb::Term;
 
 pub enum TermRead {
@@ -41,24 +42,6 @@ pub fn term_at(s: &[u8], at: usize) -> TermRead
         });
     }
     TermRead::Broken
-}
-
-// A term's channel is below `v`, and its shift is -4 to 4.
-pub fn term_fits(x: Term, v: usize) -> bool
-    ensures { λ r. ⌜ r ≡ termFits v x ⌝ }
-{
-    match x {
-        Term::Constant(_) => true,
-        Term::Reading { channel, shift } => {
-            if v <= channel {
-                return false;
-            }
-            if shift < -4 {
-                return false;
-            }
-            shift <= 4
-        }
-    }
 }
 
 // The code of a shift from -4 to 4.

@@ -1,11 +1,14 @@
 // Printing of what was found, one line a try.
+use cltlb::Atom;
+use cltlb::Operator;
 use cltlb::Part;
 use cltlb::Term;
+use cltlb::View;
 use libc::STDOUT_FILENO;
 use refusal::Outcome;
 use refusal::Refusal;
+use rule::SheetRead;
 use rule::Taken;
-use rule::operands::Operand;
 
 pub fn say(text: &[u8]) {
     io::write_all(STDOUT_FILENO, text);
@@ -55,24 +58,49 @@ fn say_term(term: Term) {
     }
 }
 
-fn say_operand(operand: Operand) {
-    match operand {
-        Operand::Terms(x, y) => {
-            say_term(x);
-            say_term(y);
-        }
-        Operand::One(a) => say_number(a as u64),
-        Operand::Two(a, b) => {
+fn say_terms(x: Term, y: Term) {
+    say_term(x);
+    say_term(y);
+}
+
+fn say_atom(atom: Atom) {
+    match atom {
+        Atom::Less(x, y) => say_terms(x, y),
+        Atom::Equal(x, y) => say_terms(x, y),
+    }
+}
+
+fn say_names(operator: Operator) {
+    match operator {
+        Operator::One(_, a) => say_number(a as u64),
+        Operator::Two(_, a, b) => {
             say_number(a as u64);
             say_number(b as u64);
         }
     }
 }
 
+fn say_view(view: View) {
+    match view {
+        View::Atom(atom) => say_atom(atom),
+        View::Operator(operator) => say_names(operator),
+    }
+}
+
 fn say_part(part: Part) {
     say(b"kind");
     say_number(rule::kinds::kind_of(part) as u64);
-    say_operand(rule::kinds::operand_of(part));
+    say_view(cltlb::view_of(part));
+}
+
+pub fn say_check(answer: SheetRead) {
+    match answer {
+        SheetRead::Counts {
+            parts: _,
+            channels: _,
+        } => say(b"clear"),
+        SheetRead::Refused(refusal) => say_refusal(refusal),
+    }
 }
 
 pub fn say_taken(taken: Taken) {

@@ -1,4 +1,5 @@
 // The sheets that are tried.
+ghost use Prim.Native.Nat.{_<_};
 
 // E1's sheet: the rule x < 25.
 pub fn first_example() -> [u8; 17] {
@@ -75,5 +76,16 @@ pub fn four_parts() -> [u8; 56] {
 pub fn set_byte(sheet: &mut [u8], at: usize, x: u8) {
     if at < sheet.len() {
         sheet[at] = x;
+    }
+}
+
+// So many bytes from `at` on set to x, as far as they are there.
+pub fn fill(sheet: &mut [u8], at: usize, count: usize, x: u8)
+    requires { ⌜ (at < 64) × (count < 64) ⌝ }
+{
+    let mut i = at;
+    while i < at + count {
+        set_byte(sheet, i, x);
+        i += 1;
     }
 }

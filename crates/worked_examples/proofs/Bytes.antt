@@ -2,15 +2,12 @@
 use Prim.Native.Nat.{ℕ, zero, suc, _<_}
 use native.Mathlib.Omega.{arith}
 use mathlib.Core.Path.{_≡_, refl, ap₂}
-use mathlib.Core.Bool.{Bool, true, _&&_}
+use mathlib.Core.Bool.{Bool, true, _&&_, and-eq-true-iff}
 use mathlib.Core.List.{List, [], _∷_}
 use lib.Dec.{ltb, ltb→lt}
 use borrow.Author.Tests.{lt-ltb}
 use Rattle.fields.specs.inner.Ranges.{Bytes}
-use Rattle.marks.proofs.AllBelow.{and-true}
 use Rattle.worked_examples.specs.Rows.{All}
-use Rattle.worked_examples.specs.Questions.{Question}
-use Rattle.worked_examples.specs.Calls.{Call}
 use Rattle.worked_examples.specs.Handed.{questionBytes, callBytes}
 use Rattle.worked_examples.specs.Table.{examples}
 use Rattle.worked_examples.specs.MoreSheets.{copies}
@@ -25,9 +22,9 @@ pub bytes : (s : List ℕ) → areBytes s ≡ true → Bytes s
 unfolding areBytes allPass Bytes
 bytes [] e i = omega arith
 bytes (b ∷ bs) e zero =
-    let below : ltb b 256 ≡ true = and-true (ltb b 256) (areBytes bs) e .0 in
+    let below : ltb b 256 ≡ true = and-eq-true-iff (ltb b 256) (areBytes bs) .0 e .0 in
     ltb→lt b 256 (rw below tt)
-bytes (b ∷ bs) e (suc i) = bytes bs (and-true (ltb b 256) (areBytes bs) e .1) i
+bytes (b ∷ bs) e (suc i) = bytes bs (and-eq-true-iff (ltb b 256) (areBytes bs) .0 e .1) i
 
 -- every row of a table hands over bytes, as a test
 module _ {Row : Type 0} (handed : Row → List (List ℕ)) where

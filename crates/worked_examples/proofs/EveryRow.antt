@@ -1,8 +1,7 @@
 -- From what is computed of a whole table to a statement about every row. Assumes nothing.
 use mathlib.Core.Path.{_≡_}
-use mathlib.Core.Bool.{Bool, true, _&&_}
+use mathlib.Core.Bool.{Bool, true, _&&_, and-eq-true-iff}
 use mathlib.Core.List.{List, [], _∷_, map}
-use Rattle.marks.proofs.AllBelow.{and-true}
 use Rattle.worked_examples.specs.Rows.{All}
 
 -- two functions give the same list, and where they give the same the statement holds
@@ -20,5 +19,5 @@ pub all-pass : {A : Type 0} (test : A → Bool) (P : A → Type 0) → ((row : A
 unfolding All allPass
 all-pass test P law [] e = tt
 all-pass test P law (row ∷ rows) e =
-    let both = and-true (test row) (allPass test rows) e in
+    let both = and-eq-true-iff (test row) (allPass test rows) .0 e in
     (law row (both .0), all-pass test P law rows (both .1))

@@ -1,5 +1,5 @@
 -- The rule sheets and plans of the examples read as stated. Assumes nothing.
-use Prim.Native.Nat.{ℕ, _+_, _*_}
+use Prim.Native.Nat.{ℕ}
 use mathlib.Core.Path.{_≡_, refl, ap}
 use mathlib.Core.List.{List, map}
 use Rattle.fields.specs.LittleEndian.{numberAt}
@@ -8,8 +8,9 @@ use Rattle.cltlb.specs.Run.{Seen}
 use Rattle.cltlb.specs.declared.Part.{Part}
 use Rattle.rule.specs.Layout.{partCount, channelCount, kindPlace, operandPlace, kindByte}
 use Rattle.rule.specs.Layout as rule
-use Rattle.rule.specs.Terms.{shiftOf, shiftFits, termFits, termAt}
-use Rattle.rule.specs.Operands.{operandFits, allZero, bothTerms, operandAt}
+use Rattle.cltlb.specs.Fits.{shiftFits, termFits, atomFits, namesLower, viewFits}
+use Rattle.rule.specs.Terms.{shiftOf, termAt}
+use Rattle.rule.specs.Operands.{allZero, bothTerms, operandAt}
 use Rattle.rule.specs.Kinds.{shapeOf, kindUnknown, partOf}
 use Rattle.rule.specs.Take.{takenOperand, takeOf, partTaken, partsOf}
 use Rattle.plan.specs.Layout.{channels, startRows, cycleRows, rows, arrayLength, readings, drifts, cell, entry, readingOf, driftOf}
@@ -32,7 +33,7 @@ unfolding sheetRead sheetStated ReadsAs
 sheet-read (reads sheet v parts) e = (ap (λ (r : ℕ × List Part). r .0) e, ap (λ (r : ℕ × List Part). r .1) e)
 
 sheets-computed : map sheetRead sheets ≡ map sheetStated sheets
-unfolding sheetRead sheetStated sheets partsFrom allParts numberAt signedOf signedAt partCount channelCount kindPlace operandPlace kindByte rule.sizesFit shiftOf shiftFits termFits termAt operandFits allZero bothTerms operandAt shapeOf kindUnknown partOf takenOperand takeOf partTaken partsOf
+unfolding sheetRead sheetStated sheets partsFrom allParts numberAt signedOf signedAt partCount channelCount kindPlace operandPlace kindByte rule.sizesFit shiftOf shiftFits termFits atomFits namesLower viewFits termAt allZero bothTerms operandAt shapeOf kindUnknown partOf takenOperand takeOf partTaken partsOf
 sheets-computed = refl
 
 pub sheets-read : All ReadsAs sheets

@@ -5,7 +5,7 @@ use mathlib.Core.Path.{_≡_, refl, ap, _∙_}
 use mathlib.Core.Bool.{Bool, true, false, _&&_}
 use lib.Dec.{ltb, leb·zero}
 use borrow.Author.Tests.{le-ltb}
-use Rattle.marks.specs.Layout.{markByte, marked}
+use Rattle.table.specs.Layout.{markByte, marked}
 use Rattle.marks.specs.Parts.{isCycleRow}
 use Rattle.worked_examples.specs.Table.{marksE10-1}
 

@@ -6,12 +6,12 @@ use lib.Dec.{T}
 use Rattle.cltlb.specs.Truth.{Holds}
 use Rattle.cltlb.specs.Parts.{formulaOf}
 use Rattle.rule.specs.Layout.{partCount}
-use Rattle.rule.specs.Take.{partsOf}
+use Rattle.rule.specs.Take.{viewsOf}
 use Rattle.plan.specs.Layout.{startRows, cycleRows}
 use Rattle.plan.specs.Run.{runOf}
 use Rattle.judge.specs.declared.Judged.{Judged}
 use Rattle.judge.specs.declared.Judged.the-variants as J
-use Rattle.judge.specs.Meaning.{VerdictMeans}
+use Rattle.verdict.specs.Meaning.{VerdictMeans}
 use Rattle.judge.specs.Judge.{JudgePromise}
 use Rattle.acceptance.specs.declared.Checked.{Checked}
 use Rattle.acceptance.specs.declared.Checked.the-variants as C
@@ -32,7 +32,7 @@ CheckedMeans rule plan marks (C.Refused r) = ¬ TableRight rule plan marks
 -- What judge's answer says: a verdict, of the part's published truth on every pass of the row.
 unfoldable pub JudgedMeans : List ℕ → List ℕ → ℕ → ℕ → Judged → Type 0
 JudgedMeans rule plan part row (J.Verdict v) =
-    VerdictMeans (startRows plan) (cycleRows plan) row (Holds (runOf plan) (formulaOf (partsOf rule) part)) v
+    VerdictMeans (startRows plan) (cycleRows plan) row (Holds (runOf plan) (formulaOf (viewsOf rule) part)) v
 JudgedMeans rule plan part row (J.Refused r) = ⊥
 
 -- The answer is what the check gives and promises, the bytes clear refusals 1 to 8, and the answer's meaning is a fact.

@@ -3,7 +3,7 @@ use Prim.Native.Nat.{ℕ}
 use mathlib.Core.Bool.{true, false}
 use mathlib.Core.List.{List, [], _∷_}
 use Rattle.refusal.specs.declared.Refusal.the-variants.{Closing, Witness}
-use Rattle.judge.specs.declared.Verdict.the-variants.{AlwaysTrue, AlwaysFalse, Changes}
+use Rattle.verdict.specs.declared.Verdict.the-variants.{AlwaysTrue, AlwaysFalse, Changes}
 use Rattle.judge.specs.declared.Judged.the-variants as J
 use Rattle.acceptance.specs.declared.Checked.the-variants as C
 use Rattle.worked_examples.specs.Questions.{Question, checks, judges}

@@ -25,22 +25,41 @@ enum-known-refusal c = search needs
 
 -- src/lib.rt:42:38
 refusal-word-requires : tie.Need-refusal-word-requires
-refusal-word-requires c κs = check-names (now (c .before .before .before .before .before .before .before .args .rule)) (now (c .before .before .before .before .before .before .before .args .plan)) (now (c .before .before .before .before .before .before .before .args .marks)) (c .before .before .before .check .ensures .isCheck) _ (c .before .refusal .given .1)
+refusal-word-requires c κs =
+    let start = c .before .before .before .before .before .before .before in
+    let check = c .before .before .before .check in
+    let refusal = c .before .refusal in
+    check-names (now (start .args .rule)) (now (start .args .plan)) (now (start .args .marks)) (check .ensures .isCheck) _ (refusal .given .1)
 
 -- src/lib.rt:34:1
 returns : tie.Need-returns
 unfolding checkWord
-returns c = check-word (now (c .before .before .before .before .before .before .before .before .args .rule)) (now (c .before .before .before .before .before .before .before .before .args .plan)) (now (c .before .before .before .before .before .before .before .before .args .marks)) (sym (ap checkWord (c .before .before .holds .given .1) ∙ ap verdictBit (c .if1 .taken))) (c .before .before .before .before .check .ensures)
+returns c =
+    let start = c .before .before .before .before .before .before .before .before in
+    let check = c .before .before .before .before .check in
+    let holds = c .before .before .holds in
+    let if1 = c .if1 in
+    check-word (now (start .args .rule)) (now (start .args .plan)) (now (start .args .marks)) (sym (ap checkWord (holds .given .1) ∙ ap verdictBit (if1 .taken))) (check .ensures)
 
 -- src/lib.rt:34:1
 returns-2 : tie.Need-returns-2
 unfolding checkWord
-returns-2 c = check-word (now (c .before .before .before .before .before .before .before .before .args .rule)) (now (c .before .before .before .before .before .before .before .before .args .plan)) (now (c .before .before .before .before .before .before .before .before .args .marks)) (sym (ap checkWord (c .before .before .holds .given .1) ∙ ap verdictBit (c .if1 .left))) (c .before .before .before .before .check .ensures)
+returns-2 c =
+    let start = c .before .before .before .before .before .before .before .before in
+    let check = c .before .before .before .before .check in
+    let holds = c .before .before .holds in
+    let if1 = c .if1 in
+    check-word (now (start .args .rule)) (now (start .args .plan)) (now (start .args .marks)) (sym (ap checkWord (holds .given .1) ∙ ap verdictBit (if1 .left))) (check .ensures)
 
 -- src/lib.rt:34:1
 returns-3 : tie.Need-returns-3
 unfolding checkWord
-returns-3 c = check-word (now (c .before .before .before .before .before .before .before .before .args .rule)) (now (c .before .before .before .before .before .before .before .before .args .plan)) (now (c .before .before .before .before .before .before .before .before .args .marks)) (c .refusal-word .ensures ∙ sym (ap checkWord (c .before .before .refusal .given .1))) (c .before .before .before .before .check .ensures)
+returns-3 c =
+    let start = c .before .before .before .before .before .before .before .before in
+    let check = c .before .before .before .before .check in
+    let refusal = c .before .before .refusal in
+    let refusal-word = c .refusal-word in
+    check-word (now (start .args .rule)) (now (start .args .plan)) (now (start .args .marks)) (refusal-word .ensures ∙ sym (ap checkWord (refusal .given .1))) (check .ensures)
 
 pub endless-run-check-spec : {M : Type 1} → statement M
 endless-run-check-spec =

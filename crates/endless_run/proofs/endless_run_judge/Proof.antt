@@ -30,17 +30,31 @@ enum-known-refusal c = search needs
 
 -- src/lib.rt:52:37
 refusal-word-requires : tie.Need-refusal-word-requires
-refusal-word-requires c κs = judge-names (now (c .before .before .before .before .before .before .args .rule)) (now (c .before .before .before .before .before .before .args .plan)) (c .before .before .before .before .before .before .args .part) (c .before .before .before .before .before .before .args .row) (c .before .before .before .judge .ensures .isJudge) _ (c .before .refusal .given .1)
+refusal-word-requires c κs =
+    let start = c .before .before .before .before .before .before in
+    let judge = c .before .before .before .judge in
+    let refusal = c .before .refusal in
+    judge-names (now (start .args .rule)) (now (start .args .plan)) (start .args .part) (start .args .row) (judge .ensures .isJudge) _ (refusal .given .1)
 
 -- src/lib.rt:46:1
 returns : tie.Need-returns
 unfolding judgeWord
-returns c = judge-word (now (c .before .before .before .before .before .before .before .args .rule)) (now (c .before .before .before .before .before .before .before .args .plan)) (c .before .before .before .before .before .before .before .args .part) (c .before .before .before .before .before .before .before .args .row) (c .verdict-word .ensures ∙ sym (ap judgeWord (c .before .before .verdict .given .1))) (c .before .before .before .before .judge .ensures)
+returns c =
+    let start = c .before .before .before .before .before .before .before in
+    let judge = c .before .before .before .before .judge in
+    let verdict = c .before .before .verdict in
+    let verdict-word = c .verdict-word in
+    judge-word (now (start .args .rule)) (now (start .args .plan)) (start .args .part) (start .args .row) (verdict-word .ensures ∙ sym (ap judgeWord (verdict .given .1))) (judge .ensures)
 
 -- src/lib.rt:46:1
 returns-2 : tie.Need-returns-2
 unfolding judgeWord
-returns-2 c = judge-word (now (c .before .before .before .before .before .before .before .args .rule)) (now (c .before .before .before .before .before .before .before .args .plan)) (c .before .before .before .before .before .before .before .args .part) (c .before .before .before .before .before .before .before .args .row) (c .refusal-word .ensures ∙ sym (ap judgeWord (c .before .before .refusal .given .1))) (c .before .before .before .before .judge .ensures)
+returns-2 c =
+    let start = c .before .before .before .before .before .before .before in
+    let judge = c .before .before .before .before .judge in
+    let refusal = c .before .before .refusal in
+    let refusal-word = c .refusal-word in
+    judge-word (now (start .args .rule)) (now (start .args .plan)) (start .args .part) (start .args .row) (refusal-word .ensures ∙ sym (ap judgeWord (refusal .given .1))) (judge .ensures)
 
 pub endless-run-judge-spec : {M : Type 1} → statement M
 endless-run-judge-spec =

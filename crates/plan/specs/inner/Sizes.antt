@@ -5,19 +5,33 @@ use mathlib.Core.Bool.{cond}
 use mathlib.Core.List.{List}
 use lib.ListN.{length}
 use Rattle.plan.specs.Layout.{channels, startRows, cycleRows, headLength, arrayLength, sizesFit}
+use Rattle.plan.specs.inner.Lifted.{passes}
 use Rattle.plan.specs.declared.sizes.Sizes.{Sizes}
-use Rattle.plan.specs.declared.sizes.Sizes.the-variants.{Counts, Wrong}
+use Rattle.plan.specs.declared.sizes.SizesRead.{SizesRead}
+use Rattle.plan.specs.declared.sizes.SizesRead.the-variants.{Counts, Wrong}
 
-unfoldable pub sizesOf : List ℕ → Sizes
-sizesOf plan = cond (sizesFit plan) (Counts (channels plan) (startRows plan) (cycleRows plan)) Wrong
+-- the sizes that stand in the bytes
+abbrev pub sizesIn : List ℕ → Sizes
+sizesIn plan = record { channels = channels plan; start = startRows plan; cycle = cycleRows plan }
 
--- v, p and c are the plan's sizes, and they fit
-pub record Fitting (plan : List ℕ) (v p c : ℕ) : Type 0 where
-  pub v-is : channels plan ≡ v
-  pub p-is : startRows plan ≡ p
-  pub c-is : cycleRows plan ≡ c
-  pub a-channel : 1 ≤ v
-  pub few-channels : v ≤ 8
-  pub a-cycle : 1 ≤ c
-  pub few-rows : p + c ≤ 256
-  pub whole : length plan ≡ headLength + 2 * arrayLength v (p + c)
+unfoldable pub sizesRead : List ℕ → SizesRead
+sizesRead plan = cond (sizesFit plan) (Counts (sizesIn plan)) Wrong
+
+-- W, the start rows and the cycle rows
+abbrev pub allRows : Sizes → ℕ
+allRows z = z .start + z .cycle
+
+-- the end of the passes that the lookups reach
+abbrev pub farthest : Sizes → ℕ
+farthest z = z .start + passes * z .cycle
+
+-- z are the plan's sizes, and they fit
+pub record Fitting (plan : List ℕ) (z : Sizes) : Type 0 where
+  pub v-is : channels plan ≡ z .channels
+  pub p-is : startRows plan ≡ z .start
+  pub c-is : cycleRows plan ≡ z .cycle
+  pub a-channel : 1 ≤ z .channels
+  pub few-channels : z .channels ≤ 8
+  pub a-cycle : 1 ≤ z .cycle
+  pub few-rows : allRows z ≤ 256
+  pub whole : length plan ≡ headLength + 2 * arrayLength (z .channels) (allRows z)

@@ -1,18 +1,13 @@
-use Prim.Native.Nat.{_≤_, _-_, _+_}
+use Prim.Native.Nat.{_≤_, _-_}
 use native.Mathlib.Omega.{arith}
 use borrow.Author.Needs.{needs}
-use mathlib.Core.Path.{_≡_, refl, sym, ap, _∙_}
-use mathlib.Core.List.{List}
-use lib.ListN.{length, getD}
+use mathlib.Core.Path.{_≡_, sym, _∙_}
 use denote.Ref.{now}
-use mathlib.Core.Bool.{Bool}
-use Prim.Native.Nat.{ℕ}
-use Rattle.rule.specs.declared.operands.Shape.{Shape}
 use Rattle.refusal.specs.First.{atLowest}
 use Rattle.refusal.specs.declared.Refusal.the-variants.{Kind}
 use Rattle.refusal.proofs.Search.{searchFrom, search-starts, search-on, search-stops, search-ends}
 use Rattle.rule.proofs.Taking.{kind-tested}
-use Rattle.rule.specs.Kinds.{kindUnknown, isUnknown, shapeOf}
+use Rattle.rule.specs.Kinds.{kindUnknown}
 use Rattle.rule.proofs.check_kinds.Statement.{statement}
 use Rattle.rule.proofs.check_kinds.Tie as tie
 use Rattle.rule.proofs.check_kinds.Reads as reads
@@ -48,7 +43,14 @@ is-unknown-requires c κs = search needs
 
 -- src/lib.rt:80:13
 returns : tie.Need-returns Inv-loop μ-loop
-returns c = search-stops (kindUnknown (now (c .before .before .before .before .before .before .before .args .sheet))) (c .before .before .before .before .before .before .before .args .parts) Kind (c .before .before .before .before .before .loop .n) (c .before .before .before .before .loop-test .taken) (kind-tested (now (c .before .before .before .before .before .before .before .args .sheet)) (c .before .before .before .before .before .loop .n) (c .before .is-unknown .ensures) (c .before .before .shape-of .ensures) (c .if1 .taken)) ∙ sym (c .before .before .before .before .before .loop .inv .1)
+returns c =
+    let start = c .before .before .before .before .before .before .before in
+    let loop = c .before .before .before .before .before .loop in
+    let loop-test = c .before .before .before .before .loop-test in
+    let shape-of = c .before .before .shape-of in
+    let is-unknown = c .before .is-unknown in
+    let if1 = c .if1 in
+    search-stops (kindUnknown (now (start .args .sheet))) (start .args .parts) Kind (loop .n) (loop-test .taken) (kind-tested (now (start .args .sheet)) (loop .n) (is-unknown .ensures) (shape-of .ensures) (if1 .taken)) ∙ sym (loop .inv .1)
 
 -- src/lib.rt:82:9
 add-n : tie.Need-add-n Inv-loop μ-loop
@@ -60,7 +62,14 @@ loop-less c = omega arith
 
 -- src/lib.rt:78:5
 loop-again : tie.Need-loop-again Inv-loop μ-loop
-loop-again c = (omega arith, c .before .before .before .before .before .loop .inv .1 ∙ search-on (kindUnknown (now (c .before .before .before .before .before .before .before .args .sheet))) (c .before .before .before .before .before .before .before .args .parts) Kind (c .before .before .before .before .before .loop .n) (c .before .before .before .before .loop-test .taken) (kind-tested (now (c .before .before .before .before .before .before .before .args .sheet)) (c .before .before .before .before .before .loop .n) (c .before .is-unknown .ensures) (c .before .before .shape-of .ensures) (c .if1 .left)))
+loop-again c =
+    let start = c .before .before .before .before .before .before .before in
+    let loop = c .before .before .before .before .before .loop in
+    let loop-test = c .before .before .before .before .loop-test in
+    let shape-of = c .before .before .shape-of in
+    let is-unknown = c .before .is-unknown in
+    let if1 = c .if1 in
+    (omega arith, loop .inv .1 ∙ search-on (kindUnknown (now (start .args .sheet))) (start .args .parts) Kind (loop .n) (loop-test .taken) (kind-tested (now (start .args .sheet)) (loop .n) (is-unknown .ensures) (shape-of .ensures) (if1 .left)))
 
 -- src/lib.rt:73:1
 returns-2 : tie.Need-returns-2 Inv-loop μ-loop

@@ -44,7 +44,14 @@ refusal-of-requires c κs = search needs
 
 -- src/lib.rt:106:13
 returns : tie.Need-returns Inv-loop μ-loop
-returns c = ap (λ (r : Refusal). Refused r) (law.refused-operand (now (c .before .before .before .before .before .before .before .args .sheet)) (c .before .before .before .before .before .before .before .args .parts) (c .before .before .before .before .before .before .before .pre) (c .before .before .before .before .before .loop .n) (c .before .before .before .before .loop-test .taken) (c .before .before .before .take .ensures .isTake) (c .before .enum-told2 .given .1) (c .refusal-of .ensures)) ∙ search-stops (untakeable (now (c .before .before .before .before .before .before .before .args .sheet))) (c .before .before .before .before .before .before .before .args .parts) Operand (c .before .before .before .before .before .loop .n) (c .before .before .before .before .loop-test .taken) (law.untaken (now (c .before .before .before .before .before .before .before .args .sheet)) (c .before .before .before .before .before .loop .n) (c .before .before .before .take .ensures .isTake) (c .before .enum-told2 .given .1)) ∙ sym (c .before .before .before .before .before .loop .inv .1)
+returns c =
+    let start = c .before .before .before .before .before .before .before in
+    let loop = c .before .before .before .before .before .loop in
+    let loop-test = c .before .before .before .before .loop-test in
+    let take = c .before .before .before .take in
+    let enum-told2 = c .before .enum-told2 in
+    let refusal-of = c .refusal-of in
+    ap (λ (r : Refusal). Refused r) (law.refused-operand (now (start .args .sheet)) (start .args .parts) (start .pre) (loop .n) (loop-test .taken) (take .ensures .isTake) (enum-told2 .given .1) (refusal-of .ensures)) ∙ search-stops (untakeable (now (start .args .sheet))) (start .args .parts) Operand (loop .n) (loop-test .taken) (law.untaken (now (start .args .sheet)) (loop .n) (take .ensures .isTake) (enum-told2 .given .1)) ∙ sym (loop .inv .1)
 
 -- src/lib.rt:108:9
 add-n : tie.Need-add-n Inv-loop μ-loop
@@ -56,7 +63,13 @@ loop-less c = omega arith
 
 -- src/lib.rt:103:5
 loop-again : tie.Need-loop-again Inv-loop μ-loop
-loop-again c = (omega arith, c .before .before .before .before .loop .inv .1 ∙ search-on (untakeable (now (c .before .before .before .before .before .before .args .sheet))) (c .before .before .before .before .before .before .args .parts) Operand (c .before .before .before .before .loop .n) (c .before .before .before .loop-test .taken) (law.taken (now (c .before .before .before .before .before .before .args .sheet)) (c .before .before .before .before .loop .n) (c .before .before .take .ensures .isTake) _ (c .enum-told .given .1)))
+loop-again c =
+    let start = c .before .before .before .before .before .before in
+    let loop = c .before .before .before .before .loop in
+    let loop-test = c .before .before .before .loop-test in
+    let take = c .before .before .take in
+    let enum-told = c .enum-told in
+    (omega arith, loop .inv .1 ∙ search-on (untakeable (now (start .args .sheet))) (start .args .parts) Operand (loop .n) (loop-test .taken) (law.taken (now (start .args .sheet)) (loop .n) (take .ensures .isTake) _ (enum-told .given .1)))
 
 -- src/lib.rt:98:1
 returns-2 : tie.Need-returns-2 Inv-loop μ-loop

@@ -1,7 +1,7 @@
 use denote.Ref.{now}
 use native.Mathlib.Omega.{arith}
-use mathlib.Core.Path.{sym, subst, _∙_}
-use Rattle.rule.specs.inner.Sizes.{Counted}
+use mathlib.Core.Path.{refl, sym, _∙_}
+use Rattle.rule.proofs.SizesKnown.{counts-known}
 use Rattle.rule.proofs.WholeSheet as law
 use borrow.Author.Needs.{needs}
 use Rattle.rule.proofs.check_sheet.Statement.{statement}
@@ -12,44 +12,63 @@ use Rattle.rule.proofs.check_kinds.Reads as check-kinds-reads
 use Rattle.rule.proofs.check_operands.Reads as check-operands-reads
 use Rattle.rule.proofs.sizes.read_sizes.Reads as read-sizes-reads
 
--- src/lib.rt:117:48
+-- src/lib.rt:153:45
 read-sizes-requires : tie.Need-read-sizes-requires
 read-sizes-requires c κs = search needs
 
--- src/lib.rt:117:25
+-- src/lib.rt:153:25
 enum-known-parts : tie.Need-enum-known-parts
 enum-known-parts c = search needs
 
--- src/lib.rt:118:33
+-- src/lib.rt:154:35
 enum-told : tie.Need-enum-told
 enum-told c = search needs
 
--- src/lib.rt:118:9
+-- src/lib.rt:154:9
 returns : tie.Need-returns
-returns c = law.sheet-sizes _ (sym (c .before .before .read-sizes .ensures .0) ∙ c .enum-told .given .1)
+returns c = law.read-refused (now (c .before .before .before .before .args .sheet)) (law.sheet-sizes (now (c .before .before .before .before .args .sheet)) (sym (c .before .before .read-sizes .ensures) ∙ c .enum-told .given .1)) refl
 
--- src/lib.rt:120:9
+-- src/lib.rt:156:9
 check-kinds-requires : tie.Need-check-kinds-requires
-check-kinds-requires c κs = omega (arith, subst (Counted (now (c .before .before .before .before .before .args .sheet))) (c .before .parts .given .1) (c .before .before .before .read-sizes .ensures .1))
+check-kinds-requires c κs = omega (arith, counts-known (now (c .before .before .before .before .before .args .sheet)) (sym (c .before .before .before .read-sizes .ensures) ∙ c .before .parts .given .1))
+
+-- src/lib.rt:157:29
+enum-known-kinds : tie.Need-enum-known-kinds
+enum-known-kinds c = search needs
+
+-- src/lib.rt:158:9
+returns-2 : tie.Need-returns-2
+returns-2 c = law.read-refused (now (c .before .before .before .before .before .before .before .before .before .args .sheet)) (law.sheet-kinds (now (c .before .before .before .before .before .before .before .before .before .args .sheet))
+    (sym (c .before .before .before .before .before .before .before .read-sizes .ensures) ∙ c .before .before .before .before .before .parts .given .1)
+    (c .before .before .before .check-kinds .ensures) (c .before .kinds .given .1)) (c .before .kinds .given .1)
 
 enum-told-2 : tie.Need-enum-told-2
 enum-told-2 c = search needs
 
--- src/lib.rt:122:9
+-- src/lib.rt:160:9
+check-operands-requires : tie.Need-check-operands-requires
+check-operands-requires c κs = law.kinds-known (now (c .before .before .before .before .before .before .before .before .args .sheet)) (sym (c .before .before .before .before .before .before .read-sizes .ensures) ∙ c .before .before .before .before .parts .given .1) (c .before .before .check-kinds .ensures) (c .enum-told2 .given .1)
+
+-- src/lib.rt:161:29
+enum-known-operands : tie.Need-enum-known-operands
+enum-known-operands c = search needs
+
+-- src/lib.rt:162:9
+returns-3 : tie.Need-returns-3
+returns-3 c = law.read-refused (now (c .before .before .before .before .before .before .before .before .before .before .before .before .args .sheet))
+    (law.sheet-operands (now (c .before .before .before .before .before .before .before .before .before .before .before .before .args .sheet)) (sym (c .before .before .before .before .before .before .before .before .before .before .read-sizes .ensures) ∙ c .before .before .before .before .before .before .before .before .parts .given .1)
+    (c .before .before .before .before .before .before .check-kinds .ensures) (c .before .before .before .before .enum-told2 .given .1) (c .before .before .before .check-operands .ensures))
+    (c .before .operands .given .1)
+
 enum-told-3 : tie.Need-enum-told-3
 enum-told-3 c = search needs
 
--- src/lib.rt:122:9
-returns-2 : tie.Need-returns-2
-returns-2 c = law.sheet-kinds (now (c .before .before .before .before .before .before .before .before .args .sheet)) (sym (c .before .before .before .before .before .before .read-sizes .ensures .0) ∙ c .before .before .before .before .parts .given .1) (c .before .before .check-kinds .ensures) (c .enum-told3 .given .1)
-
--- src/lib.rt:124:5
-check-operands-requires : tie.Need-check-operands-requires
-check-operands-requires c κs = law.kinds-known (now (c .before .before .before .before .before .before .before .before .args .sheet)) (sym (c .before .before .before .before .before .before .read-sizes .ensures .0) ∙ c .before .before .before .before .parts .given .1) (c .before .before .check-kinds .ensures) (c .enum-told2 .given .1)
-
--- src/lib.rt:114:1
-returns-3 : tie.Need-returns-3
-returns-3 c = law.sheet-operands (now (c .before .before .before .before .before .before .before .before .before .args .sheet)) (sym (c .before .before .before .before .before .before .before .read-sizes .ensures .0) ∙ c .before .before .before .before .before .parts .given .1) (c .before .before .before .check-kinds .ensures) (c .before .enum-told2 .given .1) (c .check-operands .ensures)
+-- src/lib.rt:150:1
+returns-4 : tie.Need-returns-4
+returns-4 c = law.read-counts (now (c .before .before .before .before .before .before .before .before .before .before .before .args .sheet))
+    (law.sheet-operands (now (c .before .before .before .before .before .before .before .before .before .before .before .args .sheet)) (sym (c .before .before .before .before .before .before .before .before .before .read-sizes .ensures) ∙ c .before .before .before .before .before .before .before .parts .given .1)
+    (c .before .before .before .before .before .check-kinds .ensures) (c .before .before .before .enum-told2 .given .1) (c .before .before .check-operands .ensures))
+    (sym (c .before .before .before .before .before .before .before .before .before .read-sizes .ensures) ∙ c .before .before .before .before .before .before .before .parts .given .1) (c .enum-told3 .given .1)
 
 pub check-sheet-spec : {M : Type 1} → statement M
 check-sheet-spec =
@@ -60,8 +79,11 @@ check-sheet-spec =
     enum-told
     returns
     check-kinds-requires
-    enum-told-2
-    enum-told-3
+    enum-known-kinds
     returns-2
+    enum-told-2
     check-operands-requires
-    returns-3)
+    enum-known-operands
+    returns-3
+    enum-told-3
+    returns-4)

@@ -1,4 +1,3 @@
--- `marks::equations::row_after` meets its contract. Assumes nothing.
 use mathlib.Core.Path.{sym, ap, _∙_}
 use native.Mathlib.Omega.{arith}
 use Rattle.plan.specs.Positions.{last, after}
@@ -9,26 +8,26 @@ use Rattle.marks.proofs.equations.row_after.Tie as tie
 use Rattle.marks.proofs.equations.row_after.Reads as reads
 use Rattle.marks.proofs.equations.row_after.Lts as lts
 
--- src/equations.rt:101:15
+-- src/equations.rt:53:15
 add-if1 : tie.Need-add-if1
 add-if1 c = search needs
 
--- src/equations.rt:101:15
+-- src/equations.rt:53:15
 sub-if1 : tie.Need-sub-if1
 sub-if1 c = search needs
 
--- src/equations.rt:101:38
+-- src/equations.rt:56:9
 add-result : tie.Need-add-result
 add-result c = search needs
 
--- src/equations.rt:97:1
+-- src/equations.rt:49:1
 returns : tie.Need-returns
 unfolding last
-returns c = (sym (ap (after (c .before .args .p) (c .before .args .c)) (c .if1 .taken) ∙ after-last (c .before .args .p) (c .before .args .c)), omega arith)
+returns c = (sym (ap (after (c .before .before .args .sizes .start) (c .before .before .args .sizes .cycle)) (c .if1 .taken) ∙ after-last (c .before .before .args .sizes .start) (c .before .before .args .sizes .cycle)), omega arith)
 
--- src/equations.rt:97:1
+-- src/equations.rt:49:1
 returns-2 : tie.Need-returns-2
-returns-2 c = (sym (after-other (c .before .args .p) (c .before .args .c) (c .before .args .row) (omega (arith, c .if1 .left))), omega (arith, c .if1 .left))
+returns-2 c = (sym (after-other (c .before .before .args .sizes .start) (c .before .before .args .sizes .cycle) (c .before .before .args .row) (omega (arith, c .if1 .left))), omega (arith, c .if1 .left))
 
 pub row-after-spec : {M : Type 1} → statement M
 row-after-spec = tie.close (tie.spec add-if1 sub-if1 add-result returns returns-2)

@@ -1,40 +1,39 @@
-use native.Mathlib.Omega.{arith}
--- `marks::witness::names_row` meets its contract. Assumes nothing.
-use mathlib.Core.Path.{ap, _∙_}
-use Rattle.marks.specs.inner.Tables.{flipped}
-use Rattle.marks.proofs.Tests.{xor-flips}
-use Rattle.marks.proofs.ByKind.{before-cycle, after-cycle, in-cycle}
+use mathlib.Core.Path.{refl}
+use denote.Ref.{now}
+use Rattle.plan.specs.inner.Sizes.{allRows}
+use Rattle.table.specs.Layout.{marked}
+use Rattle.marks.proofs.WitnessTests as law
 use borrow.Author.Needs.{needs}
 use Rattle.marks.proofs.witness.names_row.Statement.{statement}
 use Rattle.marks.proofs.witness.names_row.Tie as tie
 use Rattle.marks.proofs.witness.names_row.Reads as reads
 use Rattle.marks.proofs.witness.names_row.Lts as lts
-use Rattle.marks.proofs.table.mark_at.Reads as mark-at-reads
+use Rattle.table.proofs.bytes.mark_at.Reads as mark-at-reads
 
--- src/witness.rt:18:9
+-- src/witness.rt:26:16
+add-rows : tie.Need-add-rows
+add-rows c = search needs
+
+-- src/witness.rt:28:9
 returns : tie.Need-returns
-returns c = before-cycle _ _ _ _ (c .if1 .taken)
+returns c = law.before-cycle (c .before .before .before .before .args .sizes .start) (c .before .before .before .before .args .sizes .cycle) (c .before .before .before .before .args .w) _ (c .if1 .taken)
 
--- src/witness.rt:20:8
-add-if2 : tie.Need-add-if2
-add-if2 c = search needs
-
--- src/witness.rt:21:9
+-- src/witness.rt:31:9
 returns-2 : tie.Need-returns-2
-returns-2 c = after-cycle (c .before .before .before .args .p) (c .before .before .before .args .c) (c .before .before .before .args .row) _ (c .before .if1 .left) (omega arith)
+returns-2 c = law.after-cycle (c .before .before .before .before .before .args .sizes .start) (c .before .before .before .before .before .args .sizes .cycle) (c .before .before .before .before .before .args .w) _ (c .before .if1 .left) (c .if2 .taken)
 
--- src/witness.rt:23:23
-add-mark-at : tie.Need-add-mark-at
-add-mark-at c = search needs
-
--- src/witness.rt:23:5
+-- src/witness.rt:33:5
 mark-at-requires : tie.Need-mark-at-requires
 mark-at-requires c κs = search needs
 
--- src/witness.rt:13:1
+-- src/witness.rt:22:1
 returns-3 : tie.Need-returns-3
-returns-3 c = xor-flips (c .mark-at .result) (c .before .before .before .before .args .opposite) ∙ ap (flipped (c .before .before .before .before .args .opposite)) (c .mark-at .ensures) ∙ in-cycle _ _ _ _ (c .before .before .if1 .left) (c .before .if2 .left)
+returns-3 c =
+    let start = c .before .before .before .before .before .before in
+    let if1 = c .before .before .if1 in
+    let if2 = c .before .if2 in
+    let mark-at = c .mark-at in
+    law.flipped-in-cycle (start .args .sizes .start) (start .args .sizes .cycle) (start .args .w) _ (marked (allRows (start .args .sizes)) (now (start .args .table)) (start .args .b)) (start .args .opposite) refl (if1 .left) (if2 .left) (mark-at .ensures)
 
 pub names-row-spec : {M : Type 1} → statement M
-names-row-spec =
-    tie.close (tie.spec returns add-if2 returns-2 add-mark-at mark-at-requires returns-3)
+names-row-spec = tie.close (tie.spec add-rows returns returns-2 mark-at-requires returns-3)

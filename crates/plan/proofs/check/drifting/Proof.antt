@@ -1,20 +1,20 @@
 -- `plan::check::drifting` meets its contract. The loop's invariant: no channel below `channel` has a drift. Assumes nothing.
-use Prim.Native.Nat.{ℕ, _-_, _≤_}
+use Prim.Native.Nat.{_-_, _≤_}
 use native.Mathlib.Omega.{arith}
-use mathlib.Core.Path.{_≡_, refl, sym, subst}
+use mathlib.Core.Path.{_≡_, refl, sym}
 use mathlib.Core.Bool.{false}
 use denote.Ref.{now}
-use borrow.Author.Needs.{needs}
 use Rattle.plan.specs.Refusals.{anyBelow, driftsAt}
 use Rattle.plan.proofs.Drifts as drifts
+use borrow.Author.Needs.{needs}
 use Rattle.plan.proofs.check.drifting.Statement.{statement}
 use Rattle.plan.proofs.check.drifting.Tie as tie
 
 abbrev Inv-loop : tie.InvT-loop
-Inv-loop plan v p c row channel₀ channel = (channel ≤ v) × (anyBelow (driftsAt plan row) channel ≡ false)
+Inv-loop plan sizes row channel₀ channel = (channel ≤ sizes .channels) × (anyBelow (driftsAt plan row) channel ≡ false)
 
 abbrev μ-loop : tie.MeasureT-loop
-μ-loop plan v p c row channel₀ channel = v - channel
+μ-loop plan sizes row channel₀ channel = sizes .channels - channel
 
 loop-holds : tie.Need-loop-holds Inv-loop μ-loop
 unfolding anyBelow
@@ -25,24 +25,30 @@ drift-at-requires c κs = search needs
 
 returns : tie.Need-returns Inv-loop μ-loop
 returns c =
-    let start = c .before .before .before .before .before in
-    sym (drifts.row-drifts (start .pre .0) (start .args .row) (c .before .before .before .loop .channel) (c .before .before .loop-test .taken) (drifts.a-drift (now (start .args .plan)) (start .args .row) (c .before .before .before .loop .channel) (c .before .drift-at .ensures .0) (c .if1 .taken)))
+    let start = c .before .before .before .before .before .before in
+    let loop = c .before .before .before .before .loop in
+    let if1 = c .before .before .if1 in
+    let drift = drifts.a-drift (now (start .args .plan)) (start .args .row) (loop .channel) (c .before .drift-at .ensures .0) (c .if2 .taken) in
+    sym (drifts.row-drifts (start .pre .0) (start .args .row) (loop .channel) (if1 .taken) drift)
 
 add-channel : tie.Need-add-channel Inv-loop μ-loop
-add-channel c = omega arith
+add-channel c = search needs
 
 loop-less : tie.Need-loop-less Inv-loop μ-loop
 loop-less c = omega arith
 
 loop-again : tie.Need-loop-again Inv-loop μ-loop
 loop-again c =
-    let start = c .before .before .before .before .before in
-    (omega arith, drifts.none-more (driftsAt (now (start .args .plan)) (start .args .row)) (c .before .before .before .loop .channel) (c .before .before .before .loop .inv .1) (drifts.no-drift (now (start .args .plan)) (start .args .row) (c .before .before .before .loop .channel) (c .before .drift-at .ensures .0) (c .if1 .left)))
+    let start = c .before .before .before .before .before .before in
+    let loop = c .before .before .before .before .loop in
+    let still = drifts.no-drift (now (start .args .plan)) (start .args .row) (loop .channel) (c .before .drift-at .ensures .0) (c .if2 .left) in
+    (omega arith, drifts.none-more (driftsAt (now (start .args .plan)) (start .args .row)) (loop .channel) (loop .inv .1) still)
 
 returns-2 : tie.Need-returns-2 Inv-loop μ-loop
 returns-2 c =
-    let start = c .before .before .before in
-    let done : c .before .loop .channel ≡ start .args .v = omega arith in sym (drifts.row-still (start .pre .0) (start .args .row) (subst (λ (n : ℕ). anyBelow (driftsAt (now (start .args .plan)) (start .args .row)) n ≡ false) done (c .before .loop .inv .1)))
+    let start = c .before .before .before .before in
+    let loop = c .before .before .loop in
+    sym (drifts.row-still (start .pre .0) (start .args .row) (loop .channel) (omega arith) (loop .inv .1))
 
 pub drifting-spec : {M : Type 1} → statement M
 drifting-spec =

@@ -1,7 +1,6 @@
 -- `plan::lookup::drift_at` meets its contract. Assumes nothing.
 use Prim.Native.Nat.{_+_}
 use native.Mathlib.Omega.{arith}
-use mathlib.Core.Path.{_∙_}
 use Rattle.plan.proofs.Arrays as arrays
 use borrow.Author.Needs.{needs}
 use Rattle.plan.proofs.lookup.drift_at.Statement.{statement}
@@ -36,13 +35,21 @@ cell-of-requires c κs = search needs
 
 entry-at-requires : tie.Need-entry-at-requires
 entry-at-requires c κs =
-    let start = c .before .before .before .before .before in
-    arrays.in-part (start .pre .0) (start .args .row) (start .args .channel) (c .before .before .before .drifts-start .result) (c .before .before .before .drifts-start .result + c .before .before .array-length .result) _ (c .cell-of .ensures) (omega arith) (omega arith) (start .pre .2) (start .pre .1)
+    let start = c .before .before .before .before .before .before .before in
+    let drifts-start = c .before .before .before .before .drifts-start in
+    let array-length = c .before .before .array-length in
+    arrays.in-part (start .pre .0) (start .args .row) (start .args .channel) (drifts-start .result) (drifts-start .result + array-length .result) _
+    (c .cell-of .ensures) (omega arith) (omega arith) (start .pre .2) (start .pre .1)
 
 returns : tie.Need-returns
 returns c =
-    let start = c .before .before .before .before .before .before in
-    (c .entry-at .ensures .0 ∙ arrays.drift-entry (start .pre .0) (start .args .row) (start .args .channel) (arrays.drifts-part (start .pre .0) _ _ (c .before .before .before .before .drifts-start .ensures .0) (omega arith)) (c .before .cell-of .ensures), c .entry-at .ensures .1)
+    let start = c .before .before .before .before .before .before .before .before in
+    let drifts-start = c .before .before .before .before .before .drifts-start in
+    let array-length = c .before .before .before .array-length in (
+      arrays.drift-read (start .pre .0) (start .args .row) (start .args .channel) (drifts-start .result) (drifts-start .result + array-length .result) _
+          (drifts-start .ensures .0) (omega arith) (c .before .cell-of .ensures) (c .entry-at .ensures .0),
+      c .entry-at .ensures .1,
+    )
 
 pub drift-at-spec : {M : Type 1} → statement M
 drift-at-spec =

@@ -1,7 +1,6 @@
 -- `plan::lookup::number_at` meets its contract. Assumes nothing.
 use Prim.Native.Nat.{_+_}
 use native.Mathlib.Omega.{arith}
-use mathlib.Core.Path.{_∙_}
 use Rattle.plan.proofs.Arrays as arrays
 use borrow.Author.Needs.{needs}
 use Rattle.plan.proofs.lookup.number_at.Statement.{statement}
@@ -48,10 +47,10 @@ cell-of-requires c κs = search needs
 
 number-on-requires : tie.Need-number-on-requires
 number-on-requires c κs =
-    let start = c .before .before .before .before .before .before .before in
+    let start = c .before .before .before .before .before .before .before .before .before in
+    let head-length = c .before .before .before .before .before .before .before .head-length in
+    let drifts-start = c .before .before .before .before .before .drifts-start in
     let array-length = c .before .before .before .array-length in
-    let drifts-start = c .before .before .before .before .drifts-start in
-    let head-length = c .before .before .before .before .before .head-length in
     let inside = arrays.in-part (start .pre .0) (start .args .row) (start .args .channel) in (
       inside (head-length .result) (drifts-start .result) _ (c .cell-of .ensures) (omega arith) (omega arith) (start .pre .2) (start .pre .1),
       inside (drifts-start .result) (drifts-start .result + array-length .result) _ (c .cell-of .ensures) (omega arith) (omega arith) (start .pre .2) (start .pre .1),
@@ -59,7 +58,15 @@ number-on-requires c κs =
     )
 
 returns : tie.Need-returns
-returns c = (c .number-on .ensures .0 ∙ arrays.value-entry (c .before .before .before .before .before .before .before .before .pre .0) (c .before .before .before .before .before .before .before .before .args .row) (c .before .before .before .before .before .before .before .before .args .channel) (arrays.drifts-part (c .before .before .before .before .before .before .before .before .pre .0) _ _ (c .before .before .before .before .before .drifts-start .ensures .0) (omega arith)) (c .before .cell-of .ensures) (c .before .before .before .before .before .before .before .before .args .pass) (arrays.readings-part (c .before .before .before .before .before .before .before .before .pre .0) _ _ (c .before .before .before .before .before .before .head-length .ensures) (c .before .before .before .before .before .drifts-start .ensures .0)), c .number-on .ensures .1)
+returns c =
+    let start = c .before .before .before .before .before .before .before .before .before .before in
+    let head-length = c .before .before .before .before .before .before .before .before .head-length in
+    let drifts-start = c .before .before .before .before .before .before .drifts-start in
+    let array-length = c .before .before .before .before .array-length in (
+      arrays.value-read (start .pre .0) (start .args .row) (start .args .channel) (drifts-start .result) (drifts-start .result + array-length .result) _
+          (drifts-start .ensures .0) (omega arith) (c .before .cell-of .ensures) _ (start .args .pass) (head-length .ensures) (c .number-on .ensures .0),
+      c .number-on .ensures .1,
+    )
 
 pub number-at-spec : {M : Type 1} → statement M
 number-at-spec =

@@ -17,13 +17,13 @@ div-result c = search needs
 
 returns : tie.Need-returns
 returns c =
-    let start = c .before in
-    sym (pass-start (start .args .p) (start .args .c) (start .args .t) (c .if1 .taken))
+    let start = c .before .before in
+    sym (pass-start (start .args .sizes .start) (start .args .sizes .cycle) (start .args .t) (c .if1 .taken))
 
 returns-2 : tie.Need-returns-2
 returns-2 c =
-    let start = c .before in
-    sym (pass-cycle (start .args .p) (start .args .c) (start .args .t) (omega arith))
+    let start = c .before .before .before .before in
+    sym (pass-cycle (start .args .sizes .start) (start .args .sizes .cycle) (start .args .t) (omega arith))
 
 pub pass-of-spec : {M : Type 1} → statement M
 pass-of-spec = tie.close (tie.spec add-if1 sub-result div-result returns returns-2)

@@ -19,18 +19,18 @@ rem-result c = search needs
 
 add-result : tie.Need-add-result
 add-result c =
-    let start = c .before in
-    omega (arith, mod-lt (start .args .t - start .args .p) (start .pre .0))
+    let start = c .before .before .before .before .before in
+    omega (arith, mod-lt (start .args .t - start .args .sizes .start) (start .pre .0))
 
 returns : tie.Need-returns
 returns c =
-    let start = c .before in
-    sym (row-start (start .args .p) (start .args .c) (start .args .t) (c .if1 .taken))
+    let start = c .before .before in
+    sym (row-start (start .args .sizes .start) (start .args .sizes .cycle) (start .args .t) (c .if1 .taken))
 
 returns-2 : tie.Need-returns-2
 returns-2 c =
-    let start = c .before in
-    sym (row-cycle (start .args .p) (start .args .c) (start .args .t) (omega arith))
+    let start = c .before .before .before .before .before in
+    sym (row-cycle (start .args .sizes .start) (start .args .sizes .cycle) (start .args .t) (omega arith))
 
 pub row-of-spec : {M : Type 1} → statement M
 row-of-spec = tie.close (tie.spec add-if1 sub-result rem-result add-result returns returns-2)

@@ -12,7 +12,9 @@ head-length-requires : tie.Need-head-length-requires
 head-length-requires c κs = search needs
 
 returns : tie.Need-returns
-returns c = fits.too-short (now (c .before .before .before .args .plan)) (omega arith)
+returns c =
+    let start = c .before .before .before in
+    fits.too-short (now (start .args .plan)) (omega arith)
 
 u16-at-requires : tie.Need-u16-at-requires
 u16-at-requires c κs = search needs
@@ -24,23 +26,36 @@ u16-at-requires-3 : tie.Need-u16-at-requires-3
 u16-at-requires-3 c κs = search needs
 
 returns-2 : tie.Need-returns-2
-unfolding channels startRows cycleRows
-returns-2 c = fits.no-channel (now (c .before .before .before .before .before .before .before .args .plan)) (c .before .before .before .u16-at .ensures .0) (c .if2 .taken)
+unfolding channels
+returns-2 c =
+    let start = c .before .before .before .before .before .before .before in
+    let u16-at = c .before .before .before .u16-at in
+    fits.no-channel (now (start .args .plan)) (u16-at .ensures .0) (c .if2 .taken)
 
 returns-3 : tie.Need-returns-3
-unfolding channels startRows cycleRows
-returns-3 c = fits.many-channels (now (c .before .before .before .before .before .before .before .before .args .plan)) (c .before .before .before .before .u16-at .ensures .0) (c .if3 .taken)
+unfolding channels
+returns-3 c =
+    let start = c .before .before .before .before .before .before .before .before in
+    let u16-at = c .before .before .before .before .u16-at in
+    fits.many-channels (now (start .args .plan)) (u16-at .ensures .0) (c .if3 .taken)
 
 returns-4 : tie.Need-returns-4
-unfolding channels startRows cycleRows
-returns-4 c = fits.no-cycle (now (c .before .before .before .before .before .before .before .before .before .args .plan)) (c .before .before .before .u16-at3 .ensures .0) (c .if4 .taken)
+unfolding cycleRows
+returns-4 c =
+    let start = c .before .before .before .before .before .before .before .before .before in
+    let u16-at3 = c .before .before .before .u16-at3 in
+    fits.no-cycle (now (start .args .plan)) (u16-at3 .ensures .0) (c .if4 .taken)
 
 add-if5 : tie.Need-add-if5
 add-if5 c = search needs
 
 returns-5 : tie.Need-returns-5
-unfolding channels startRows cycleRows
-returns-5 c = fits.many-rows (now (c .before .before .before .before .before .before .before .before .before .before .args .plan)) (c .before .before .before .before .u16-at3 .ensures .0) (c .before .before .before .before .before .u16-at2 .ensures .0) (c .if5 .taken)
+unfolding startRows cycleRows
+returns-5 c =
+    let start = c .before .before .before .before .before .before .before .before .before .before in
+    let u16-at2 = c .before .before .before .before .before .u16-at2 in
+    let u16-at3 = c .before .before .before .before .u16-at3 in
+    fits.many-rows (now (start .args .plan)) (u16-at3 .ensures .0) (u16-at2 .ensures .0) (c .if5 .taken)
 
 head-length-requires-2 : tie.Need-head-length-requires-2
 head-length-requires-2 c κs = search needs
@@ -59,11 +74,33 @@ add-if6 c = search needs
 
 returns-6 : tie.Need-returns-6
 unfolding channels startRows cycleRows
-returns-6 c = fits.other-length (now (c .before .before .before .before .before .before .before .before .before .before .before .before .before .args .plan)) (c .before .before .before .before .before .before .before .u16-at3 .ensures .0) (c .before .before .before .before .before .before .before .before .u16-at2 .ensures .0) (c .before .before .before .before .before .before .before .before .before .u16-at .ensures .0) (λ e. c .if6 .taken (omega arith))
+returns-6 c =
+    let start = c .before .before .before .before .before .before .before .before .before .before .before .before .before in
+    let u16-at = c .before .before .before .before .before .before .before .before .before .u16-at in
+    let u16-at2 = c .before .before .before .before .before .before .before .before .u16-at2 in
+    let u16-at3 = c .before .before .before .before .before .before .before .u16-at3 in
+    fits.other-length (now (start .args .plan)) (u16-at3 .ensures .0) (u16-at2 .ensures .0) (u16-at .ensures .0) (λ e. c .if6 .taken (omega arith))
 
 returns-7 : tie.Need-returns-7
 unfolding channels startRows cycleRows
-returns-7 c = fits.counts (record { v-is = sym (c .before .before .before .before .before .before .before .before .before .u16-at .ensures .0); p-is = sym (c .before .before .before .before .before .before .before .before .u16-at2 .ensures .0); c-is = sym (c .before .before .before .before .before .before .before .u16-at3 .ensures .0); a-channel = c .before .before .before .before .before .before .if2 .left; few-channels = c .before .before .before .before .before .if3 .left; a-cycle = c .before .before .before .before .if4 .left; few-rows = c .before .before .before .if5 .left; whole = omega arith })
+returns-7 c =
+    let u16-at = c .before .before .before .before .before .before .before .before .before .u16-at in
+    let u16-at2 = c .before .before .before .before .before .before .before .before .u16-at2 in
+    let u16-at3 = c .before .before .before .before .before .before .before .u16-at3 in
+    let if2 = c .before .before .before .before .before .before .if2 in
+    let if3 = c .before .before .before .before .before .if3 in
+    let if4 = c .before .before .before .before .if4 in
+    let if5 = c .before .before .before .if5 in
+    fits.counts (record {
+      v-is = sym (u16-at .ensures .0);
+      p-is = sym (u16-at2 .ensures .0);
+      c-is = sym (u16-at3 .ensures .0);
+      a-channel = if2 .left;
+      few-channels = if3 .left;
+      a-cycle = if4 .left;
+      few-rows = if5 .left;
+      whole = omega arith;
+    })
 
 pub read-sizes-spec : {M : Type 1} → statement M
 read-sizes-spec =

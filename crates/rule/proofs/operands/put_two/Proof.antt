@@ -1,5 +1,4 @@
 use denote.Ref.{now}
-use mathlib.Core.Path.{refl}
 use Rattle.rule.proofs.OperandsWritten as law
 use borrow.Author.Needs.{needs}
 use Rattle.rule.proofs.operands.put_two.Statement.{statement}
@@ -7,94 +6,47 @@ use Rattle.rule.proofs.operands.put_two.Tie as tie
 use Rattle.rule.proofs.operands.put_two.Reads as reads
 use Rattle.rule.proofs.operands.put_two.Lts as lts
 use Rattle.fields.proofs.put_u16.Reads as put-u16-reads
-use Rattle.rule.proofs.operands.clear.Reads as clear-reads
+use Rattle.rule.proofs.operands.put_one.Reads as put-one-reads
 
--- src/operands.rt:135:21
+-- src/operands.rt:137:5
+put-one-requires : tie.Need-put-one-requires
+put-one-requires c κs = search needs
+
+-- src/operands.rt:138:21
 sub-put-u16 : tie.Need-sub-put-u16
 sub-put-u16 c = search needs
 
--- src/operands.rt:135:21
+-- src/operands.rt:138:21
 part-put-u16-start : tie.Need-part-put-u16-start
 part-put-u16-start c = search needs
 
--- src/operands.rt:135:21
+-- src/operands.rt:138:21
 part-put-u16-end : tie.Need-part-put-u16-end
 part-put-u16-end c = search needs
 
--- src/operands.rt:135:5
+-- src/operands.rt:138:5
 put-u16-requires : tie.Need-put-u16-requires
 put-u16-requires c κs = search needs
 
--- src/operands.rt:136:28
-add-put-u16 : tie.Need-add-put-u16
-add-put-u16 c = search needs
-
--- src/operands.rt:136:21
-sub-put-u16-2 : tie.Need-sub-put-u16-2
-sub-put-u16-2 c = search needs
-
--- src/operands.rt:136:21
-part-put-u16-start-2 : tie.Need-part-put-u16-start-2
-part-put-u16-start-2 c = search needs
-
--- src/operands.rt:136:21
-part-put-u16-end-2 : tie.Need-part-put-u16-end-2
-part-put-u16-end-2 c = search needs
-
--- src/operands.rt:136:5
-put-u16-requires-2 : tie.Need-put-u16-requires-2
-put-u16-requires-2 c κs = search needs
-
--- src/operands.rt:137:18
-add-clear : tie.Need-add-clear
-add-clear c = search needs
-
--- src/operands.rt:137:26
-add-clear-2 : tie.Need-add-clear-2
-add-clear-2 c = search needs
-
--- src/operands.rt:137:11
-sub-clear : tie.Need-sub-clear
-sub-clear c = search needs
-
--- src/operands.rt:137:11
-part-clear-start : tie.Need-part-clear-start
-part-clear-start c = search needs
-
--- src/operands.rt:137:11
-part-clear-end : tie.Need-part-clear-end
-part-clear-end c = search needs
-
--- src/operands.rt:137:5
-clear-requires : tie.Need-clear-requires
-clear-requires c κs = search needs
-
--- src/operands.rt:131:1
+-- src/operands.rt:133:1
 same-length : tie.Need-same-length
 same-length c = search needs
 
--- src/operands.rt:131:1
+-- src/operands.rt:133:1
 returns : tie.Need-returns
-returns c = law.two-names (now (c .before .before .before .before .before .before .before .before .before .before .before .before .before .args .s)) (c .before .before .before .before .before .before .before .before .before .before .before .before .before .args .at) (c .before .before .before .before .before .before .before .before .before .before .before .before .before .pre .0) (c .before .before .before .before .before .before .before .before .before .before .put-u16 .last .0) (c .before .before .before .before .before .before .put-u162 .last .0) (c .before .before .clear .last .0) (c .before .before .before .before .before .before .before .before .before .before .before .before .before .args .a) (c .before .before .before .before .before .before .before .before .before .before .before .before .before .args .b) _ (c .before .before .before .before .before .before .before .before .before .before .put-u16 .ensures) refl (c .before .before .before .before .before .before .put-u162 .ensures) (c .before .before .clear .ensures)
+returns c = law.two-names (now (c .before .before .before .before .before .before .before .before .before .args .t)) (c .before .before .before .before .before .before .before .before .before .pre .0)
+    (c .before .before .before .before .before .before .put-one .last .0) (c .before .before .put-u16 .last .0) (c .before .before .before .before .before .before .before .before .before .args .a)
+    (c .before .before .before .before .before .before .before .before .before .args .b) (c .before .before .before .before .before .before .put-one .ensures)
+    (c .before .before .put-u16 .ensures)
 
 pub put-two-spec : {M : Type 1} → statement M
 put-two-spec =
     tie.close
     (tie.spec
+    put-one-requires
     sub-put-u16
     part-put-u16-start
     part-put-u16-end
     put-u16-requires
-    add-put-u16
-    sub-put-u16-2
-    part-put-u16-start-2
-    part-put-u16-end-2
-    put-u16-requires-2
-    add-clear
-    add-clear-2
-    sub-clear
-    part-clear-start
-    part-clear-end
-    clear-requires
     same-length
     returns)

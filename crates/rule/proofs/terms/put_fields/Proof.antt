@@ -41,11 +41,17 @@ put-u32-requires c κs = simp (length-take, length-drop, length-set) (omega arit
 
 -- src/terms.rt:72:1
 same-length : tie.Need-same-length
-same-length c = same-len-mid 2 (length (set (set (now (c .before .before .before .before .before .args .t)) 0 (c .before .before .before .before .before .args .form)) 1 (c .before .before .before .before .before .args .code)) - 2) (set (set (now (c .before .before .before .before .before .args .t)) 0 (c .before .before .before .before .before .args .form)) 1 (c .before .before .before .before .before .args .code)) (c .before .before .put-u32 .last .0) (c .before .before .put-u32 .kept .0) ∙ simp length-set
+same-length c =
+    let start = c .before .before .before .before .before in
+    let put-u32 = c .before .before .put-u32 in
+    same-len-mid 2 (length (set (set (now (start .args .t)) 0 (start .args .form)) 1 (start .args .code)) - 2) (set (set (now (start .args .t)) 0 (start .args .form)) 1 (start .args .code)) (put-u32 .last .0) (put-u32 .kept .0) ∙ simp length-set
 
 -- src/terms.rt:72:1
 returns : tie.Need-returns
-returns c = lent-front (set (set (now (c .before .before .before .before .before .args .t)) 0 (c .before .before .before .before .before .args .form)) 1 (c .before .before .before .before .before .args .code)) (c .before .before .put-u32 .last .0) (bytesOf 4 (c .before .before .before .before .before .args .number)) 2 (length (set (set (now (c .before .before .before .before .before .args .t)) 0 (c .before .before .before .before .before .args .form)) 1 (c .before .before .before .before .before .args .code))) 4 (length-bytes 4 (c .before .before .before .before .before .args .number)) (simp length-set (omega arith)) (omega arith) (simp length-set (omega arith)) (c .before .before .put-u32 .ensures) ∙ law.fields (now (c .before .before .before .before .before .args .t)) _ _ _ (c .before .before .before .before .before .pre)
+returns c =
+    let start = c .before .before .before .before .before in
+    let put-u32 = c .before .before .put-u32 in
+    lent-front (set (set (now (start .args .t)) 0 (start .args .form)) 1 (start .args .code)) (put-u32 .last .0) (bytesOf 4 (start .args .number)) 2 (length (set (set (now (start .args .t)) 0 (start .args .form)) 1 (start .args .code))) 4 (length-bytes 4 (start .args .number)) (simp length-set (omega arith)) (omega arith) (simp length-set (omega arith)) (put-u32 .ensures) ∙ law.fields (now (start .args .t)) _ _ _ (start .pre)
 
 pub put-fields-spec : {M : Type 1} → statement M
 put-fields-spec =

@@ -1,0 +1,99 @@
+use native.Mathlib.Omega.{arith}
+use denote.Ref.{now}
+use Rattle.acceptance.proofs.Entry as law
+use borrow.Author.Needs.{needs}
+use Rattle.acceptance.proofs.check_marks.Statement.{statement}
+use Rattle.acceptance.proofs.check_marks.Tie as tie
+use Rattle.acceptance.proofs.check_marks.Reads as reads
+use Rattle.acceptance.proofs.check_marks.Lts as lts
+use Rattle.acceptance.proofs.check_parts.Reads as check-parts-reads
+use Rattle.table.proofs.bytes.check_table.Reads as check-table-reads
+use Rattle.table.proofs.bytes.mark_at.Reads as mark-at-reads
+
+-- src/lib.rt:65:13
+add-w : tie.Need-add-w
+add-w c = omega (arith, c .before .before .before .before .pre .fits .few-rows)
+
+-- src/lib.rt:66:9
+check-table-requires : tie.Need-check-table-requires
+check-table-requires c κs = law.table-small (now (c .before .before .before .before .args .rule)) (now (c .before .before .before .before .args .plan)) (now (c .before .before .before .before .args .marks)) (c .before .before .before .before .pre)
+
+-- src/lib.rt:67:29
+enum-known-table : tie.Need-enum-known-table
+enum-known-table c = search needs
+
+-- src/lib.rt:68:9
+returns : tie.Need-returns
+returns c =
+    let start = c .before .before .before .before .before .before .before .before in
+    let check-table = c .before .before .before .check-table in
+    let table = c .before .table in
+    law.table-refused (now (start .args .rule)) (now (start .args .plan)) (now (start .args .marks)) (start .pre) (check-table .ensures) (table .given .1)
+
+enum-told : tie.Need-enum-told
+enum-told c = search needs
+
+-- src/lib.rt:70:9
+check-parts-requires : tie.Need-check-parts-requires
+check-parts-requires c κs =
+    let start = c .before .before .before .before .before .before .before in
+    let check-table = c .before .before .check-table in
+    let enum-told = c .enum-told in
+    law.prepared (now (start .args .rule)) (now (start .args .plan)) (now (start .args .marks)) (start .pre) (check-table .ensures) (enum-told .given .1)
+
+-- src/lib.rt:71:29
+enum-known-all : tie.Need-enum-known-all
+enum-known-all c = search needs
+
+-- src/lib.rt:72:9
+returns-2 : tie.Need-returns-2
+returns-2 c =
+    let start = c .before .before .before .before .before .before .before .before .before .before .before in
+    let check-table = c .before .before .before .before .before .before .check-table in
+    let enum-told = c .before .before .before .before .enum-told in
+    let check-parts = c .before .before .before .check-parts in
+    let all = c .before .all in
+    law.parts-refused (now (start .args .rule)) (now (start .args .plan)) (now (start .args .marks)) (start .pre) (check-table .ensures) (enum-told .given .1) (check-parts .ensures) (all .given .1)
+
+enum-told-2 : tie.Need-enum-told-2
+enum-told-2 c = search needs
+
+-- src/lib.rt:74:44
+sub-mark-at : tie.Need-sub-mark-at
+sub-mark-at c =
+    let start = c .before .before .before .before .before .before .before .before .before .before in
+    let check-table = c .before .before .before .before .before .check-table in
+    let enum-told = c .before .before .before .enum-told in
+    law.last-there (now (start .args .rule)) (now (start .args .plan)) (now (start .args .marks)) (start .pre) (check-table .ensures) (enum-told .given .1) .0
+
+-- src/lib.rt:74:23
+mark-at-requires : tie.Need-mark-at-requires
+mark-at-requires c κs = let l = law.last-there (now (c .before .before .before .before .before .before .before .before .before .before .args .rule)) (now (c .before .before .before .before .before .before .before .before .before .before .args .plan)) (now (c .before .before .before .before .before .before .before .before .before .before .args .marks)) (c .before .before .before .before .before .before .before .before .before .before .pre) (c .before .before .before .before .before .check-table .ensures) (c .before .before .before .enum-told .given .1) in (law.prepared (now (c .before .before .before .before .before .before .before .before .before .before .args .rule)) (now (c .before .before .before .before .before .before .before .before .before .before .args .plan)) (now (c .before .before .before .before .before .before .before .before .before .before .args .marks)) (c .before .before .before .before .before .before .before .before .before .before .pre) (c .before .before .before .before .before .check-table .ensures) (c .before .before .before .enum-told .given .1) .sized, l .1, l .2)
+
+-- src/lib.rt:61:1
+returns-3 : tie.Need-returns-3
+returns-3 c =
+    let start = c .before .before .before .before .before .before .before .before .before .before .before in
+    let check-table = c .before .before .before .before .before .before .check-table in
+    let enum-told = c .before .before .before .before .enum-told in
+    let check-parts = c .before .before .before .check-parts in
+    let enum-told2 = c .before .enum-told2 in
+    let mark-at = c .mark-at in
+    law.all-accepted (now (start .args .rule)) (now (start .args .plan)) (now (start .args .marks)) (start .pre) (check-table .ensures) (enum-told .given .1) (check-parts .ensures) (enum-told2 .given .1) (mark-at .ensures)
+
+pub check-marks-spec : {M : Type 1} → statement M
+check-marks-spec =
+    tie.close
+    (tie.spec
+    add-w
+    check-table-requires
+    enum-known-table
+    returns
+    enum-told
+    check-parts-requires
+    enum-known-all
+    returns-2
+    enum-told-2
+    sub-mark-at
+    mark-at-requires
+    returns-3)

@@ -1,0 +1,174 @@
+// Refusals 9 to 11 of part `i` of a table of `n` parts.
+ghost use mathlib.Core.Path.{_≡_};
+ghost use mathlib.Core.Bool.{true};
+ghost use Prim.Native.Nat.{_<_};
+ghost use Rattle.cltlb.specs.Fits.{atomFits};
+ghost use Rattle.refusal.specs.First.{_orElse_};
+ghost use Rattle.plan.specs.inner.Sizes.{allRows, Fitting};
+ghost use Rattle.verdict.specs.Rows.{judgeRow};
+ghost use Rattle.verdict.specs.inner.Reach.{TermsFit};
+ghost use Rattle.table.specs.Layout.{marked, witnessOf};
+ghost use Rattle.marks.specs.Parts.{isChanges, breaks, closingOutcome, witnessOutcome, steadyOutcome};
+ghost use Rattle.table.specs.inner.Tables.{allBelow, Sized};
+ghost use Rattle.marks.specs.inner.PartsRead.{verdictAgrees, Readable, Met, PartClear};
+use crate::equations::expected_mark;
+use crate::equations::meets_all;
+use crate::equations::wraps_round;
+use crate::witness::witness_in_order;
+use cltlb::Atom;
+use cltlb::View;
+use plan::sizes::Sizes;
+use refusal::Outcome;
+use refusal::Refusal;
+use table::bytes::mark_at;
+use table::sweeps::agree;
+use verdict::Comparison;
+use verdict::Verdict;
+use verdict::rows::comparison_of;
+use verdict::rows::judge_comparison;
+use verdict::rows::judge_row;
+
+// A verdict that says on every pass what the mark says.
+fn verdict_agrees(verdict: Verdict, mark: bool) -> bool
+    ensures { λ r. ⌜ r ≡ verdictAgrees verdict mark ⌝ }
+{
+    match verdict {
+        Verdict::AlwaysTrue => mark,
+        Verdict::AlwaysFalse => !mark,
+        Verdict::Changes => false,
+    }
+}
+
+// A comparison's verdict agrees with its mark on every row.
+fn verdicts_agree(
+    plan: &[u8],
+    table: &[u8],
+    n: usize,
+    sizes: Sizes,
+    i: usize,
+    comparison: Comparison,
+) -> bool
+    requires { ⌜ (Fitting (now plan) sizes) × (Sized (now table) n (allRows sizes)) × (i < n) × (TermsFit sizes comparison) ⌝ }
+    ensures { λ r. ⌜ r ≡ allBelow (λ row. verdictAgrees (judgeRow (now (plan .entry)) comparison row) (marked (allRows sizes) (now (table .entry)) i row)) (allRows sizes) ⌝ }
+{
+    let w = sizes.start + sizes.cycle;
+    let mut all = true;
+    let mut row = 0;
+    while row < w {
+        let verdict = judge_comparison(plan, sizes, comparison, row);
+        all = all & verdict_agrees(verdict, mark_at(table, n, w, i, row));
+        row += 1;
+    }
+    all
+}
+
+// All rows at once: where this is true, part `i` meets its equation on every row and closes.
+pub fn surely_clear(plan: &[u8], table: &[u8], n: usize, sizes: Sizes, i: usize, view: View) -> bool
+    requires { ⌜ Readable (now plan) (now table) n sizes i view ⌝ }
+    ensures { λ r. ⌜ (r ≡ true → PartClear (now (plan .entry)) (now (table .entry)) sizes view i) ⌝ }
+{
+    match view {
+        View::Atom(atom) => verdicts_agree(plan, table, n, sizes, i, comparison_of(atom)),
+        View::Operator(operator) => meets_all(table, n, sizes, i, operator)
+            & wraps_round(table, n, sizes, i, operator),
+    }
+}
+
+// The mark of part `i` on a row breaks its equation.
+pub fn breaks_on(
+    plan: &[u8],
+    table: &[u8],
+    n: usize,
+    sizes: Sizes,
+    i: usize,
+    view: View,
+    row: usize,
+) -> bool
+    requires { ⌜ (Readable (now plan) (now table) n sizes i view) × (row < allRows sizes) ⌝ }
+    ensures { λ r. ⌜ r ≡ breaks (now (plan .entry)) (marked (allRows sizes) (now (table .entry))) view i row ⌝ }
+{
+    let w = sizes.start + sizes.cycle;
+    !agree(
+        mark_at(table, n, w, i, row),
+        expected_mark(plan, table, n, sizes, i, view, row),
+    )
+}
+
+fn is_changes(verdict: Verdict) -> bool
+    ensures { λ r. ⌜ r ≡ isChanges verdict ⌝ }
+{
+    match verdict {
+        Verdict::AlwaysTrue => false,
+        Verdict::AlwaysFalse => false,
+        Verdict::Changes => true,
+    }
+}
+
+// The lowest cycle row on which an atom changes.
+fn check_steady(plan: &[u8], sizes: Sizes, i: usize, atom: Atom) -> Outcome
+    requires { ⌜ (Fitting (now plan) sizes) × (atomFits (sizes .channels) atom ≡ true) ⌝ }
+    ensures { λ r. ⌜ r ≡ steadyOutcome (now (plan .entry)) atom i ⌝ }
+{
+    let w = sizes.start + sizes.cycle;
+    let mut row = sizes.start;
+    while row < w {
+        if is_changes(judge_row(plan, sizes, atom, row)) {
+            return Outcome::Refused(Refusal::Closing { part: i, row: row });
+        }
+        row += 1;
+    }
+    Outcome::Clear
+}
+
+// Refusal 10 of part `i`. Its marks meet the equation, so that they are its truth.
+fn check_closing(plan: &[u8], table: &[u8], n: usize, sizes: Sizes, i: usize, view: View) -> Outcome
+    requires { ⌜ (Readable (now plan) (now table) n sizes i view) × (Met (now plan) (now table) sizes view i) ⌝ }
+    ensures { λ r. ⌜ r ≡ closingOutcome (now (plan .entry)) (marked (allRows sizes) (now (table .entry))) view i ⌝ }
+{
+    match view {
+        View::Atom(atom) => check_steady(plan, sizes, i, atom),
+        View::Operator(operator) => {
+            let p = sizes.start;
+            if wraps_round(table, n, sizes, i, operator) {
+                Outcome::Clear
+            } else {
+                Outcome::Refused(Refusal::Closing { part: i, row: p })
+            }
+        }
+    }
+}
+
+// Refusal 11 of part `i`.
+fn check_witness(plan: &[u8], table: &[u8], n: usize, sizes: Sizes, i: usize, view: View) -> Outcome
+    requires { ⌜ Readable (now plan) (now table) n sizes i view ⌝ }
+    ensures { λ r. ⌜ r ≡ witnessOutcome (now (plan .entry)) (marked (allRows sizes) (now (table .entry))) view i (witnessOf n (allRows sizes) (now (table .entry)) i) ⌝ }
+{
+    if witness_in_order(table, n, sizes, i, view) {
+        Outcome::Clear
+    } else {
+        Outcome::Refused(Refusal::Witness { part: i })
+    }
+}
+
+// Refusals 10 and 11 of part `i`, whose marks meet the equation; where it is sure that the part closes, 11 alone.
+pub fn check_rest(
+    plan: &[u8],
+    table: &[u8],
+    n: usize,
+    sizes: Sizes,
+    i: usize,
+    view: View,
+    sure: bool,
+) -> Outcome
+    requires { ⌜ (Readable (now plan) (now table) n sizes i view) × (Met (now plan) (now table) sizes view i) × (sure ≡ true → PartClear (now plan) (now table) sizes view i) ⌝ }
+    ensures { λ r. ⌜ r ≡ (closingOutcome (now (plan .entry)) (marked (allRows sizes) (now (table .entry))) view i orElse witnessOutcome (now (plan .entry)) (marked (allRows sizes) (now (table .entry))) view i (witnessOf n (allRows sizes) (now (table .entry)) i)) ⌝ }
+{
+    if sure {
+        return check_witness(plan, table, n, sizes, i, view);
+    }
+    let closing = check_closing(plan, table, n, sizes, i, view);
+    if let Outcome::Refused(refusal) = closing {
+        return Outcome::Refused(refusal);
+    }
+    check_witness(plan, table, n, sizes, i, view)
+}

@@ -1,0 +1,4 @@
+pub mod AllBelow
+pub mod Places
+pub mod Refused
+pub mod Flips

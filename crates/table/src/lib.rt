@@ -1,0 +1,3 @@
+// The mark table as bytes: its marks and witnesses, many marks at once, and refusals 7 and 8.
+pub mod bytes;
+pub mod sweeps;

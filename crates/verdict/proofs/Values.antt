@@ -1,0 +1,193 @@
+-- What the code keeps of terms, lines and comparisons is what the definitions give. Assumes nothing.
+use Prim.Native.Nat.{ℕ, suc, _+_, _*_, _-_, max, _≤_, _<_}
+use native.Mathlib.Nat.{le-max-left, le-max-right, max-le}
+use native.Mathlib.Omega.{arith}
+use mathlib.Core.Path.{_≡_, refl, sym, ap, ap₂, _∙_, subst}
+use mathlib.Core.Bool.{Bool, true, false, cond}
+use mathlib.Core.List.{List}
+use lib.Dec.{ltb, eqb}
+use lib.IntN.{ℤ, pos, negsuc, subℕ}
+use borrow.Author.Tests.{lt-ltb, le-ltb}
+use Rattle.cltlb.specs.Run as cltlb
+use Rattle.cltlb.specs.Truth.{valueAt}
+use Rattle.cltlb.specs.Fits.{shiftFits, termFits, atomFits}
+use Rattle.cltlb.specs.declared.Term.{Term}
+use Rattle.cltlb.specs.declared.Term.the-variants.{Constant, Reading}
+use Rattle.cltlb.specs.declared.Atom.{Atom}
+use Rattle.cltlb.proofs.Fits as fits
+use Rattle.fields.specs.inner.Biased.{bias, unbiased}
+use Rattle.fields.proofs.Differences.{sub-pos, sub-eq, pos-sub, negsuc-sub}
+use Rattle.plan.specs.Layout.{cycleRows, driftOf}
+use Rattle.plan.specs.Positions.{rowOf, passOf}
+use Rattle.plan.specs.inner.Sizes.{allRows, Fitting}
+use Rattle.plan.specs.Run.{readingOn, readingAt, runOf}
+use Rattle.plan.specs.inner.Lifted.{valueBias, lowered, seenOf}
+use Rattle.plan.specs.declared.lookup.Seen.{Seen}
+use Rattle.plan.specs.declared.lookup.Seen.the-variants.{Number, BeforeRun}
+use Rattle.plan.specs.declared.sizes.Sizes.{Sizes}
+use Rattle.plan.proofs.Shifts.{shifted}
+use Rattle.verdict.specs.Comparisons.{comparisonOf, testOf, ofNumber, tested, judgeLines}
+use Rattle.verdict.specs.Lines.{Line}
+use Rattle.verdict.specs.Rows.{channelLine, termLine, join, joinFirst, testAt, judgeCycle, judgeRow, verdictOf}
+use Rattle.verdict.specs.inner.Reach.{back, reach, TermsFit}
+use Rattle.verdict.specs.inner.Judgement.{Judgement}
+use Rattle.verdict.specs.declared.Comparison.{Comparison}
+use Rattle.verdict.specs.declared.Relation.the-variants.{Below, Same}
+use Rattle.verdict.specs.declared.Verdict.{Verdict}
+use Rattle.verdict.specs.declared.Verdict.the-variants.{AlwaysTrue, AlwaysFalse}
+use Rattle.verdict.proofs.Decisions.{lifted, bias-ltZ, bias-eqZ}
+use Rattle.verdict.proofs.Cycles.{reach-le, Inside, cycle-same, inside-4}
+use Rattle.verdict.proofs.Verdicts.{judged, atom-terms}
+
+-- ---- terms
+
+module _ (x : Term) (channel : ℕ) (shift : ℤ) (e : x ≡ Reading channel shift) where
+  pub reading-fits : (v : ℕ) → termFits v x ≡ true → (channel < v) × (shiftFits shift ≡ true)
+  reading-fits v f = fits.reading-fits v channel shift (ap (termFits v) (sym e) ∙ f)
+
+  pub reading-reach : back shift ≡ reach x
+  unfolding reach
+  reading-reach = rw e refl
+
+  -- a term that does not reach before the cycle is read in the cycle
+  pub reading-inside : (p t code : ℕ) → p + reach x ≤ t → subℕ code 4 ≡ shift → p + 4 ≤ t + code
+  unfolding back
+  reading-inside p t code h g = inside shift g (omega (arith, reading-reach))
+    where
+      inside : (s : ℤ) → subℕ code 4 ≡ s → p + back s ≤ t → p + 4 ≤ t + code
+      inside (pos n) g h = let k = sub-eq code 4 n 0 .0 (g ∙ pos-sub n) in omega arith
+      inside (negsuc n) g h = let k = sub-eq code 4 0 (suc n) .0 (g ∙ negsuc-sub n) in omega arith
+
+module _ (plan : List ℕ) (x : Term) (t : ℕ) where
+  -- what is seen of a constant and of a reading
+  pub sees-constant : (a : ℕ) (z : ℤ) → x ≡ Constant z → lowered a ≡ z → seenOf (Number a) ≡ valueAt (runOf plan) x t
+  unfolding seenOf valueAt
+  sees-constant a z e h = rw e (ap cltlb.number h)
+
+  pub sees-reading : (seen : Seen) (channel code : ℕ) (shift : ℤ) → x ≡ Reading channel shift → subℕ code 4 ≡ shift
+      → seenOf seen ≡ runOf plan channel (subℕ (t + code) 4) → seenOf seen ≡ valueAt (runOf plan) x t
+  unfolding valueAt
+  sees-reading seen channel code shift e g h = rw e (h ∙ ap (runOf plan channel) (sym (shifted t code shift g)))
+
+  -- the line of a constant and of a reading
+  pub line-constant : (a : ℕ) (z : ℤ) → x ≡ Constant z → lowered a ≡ z → lifted valueBias bias a bias ≡ termLine plan x t
+  unfolding termLine
+  line-constant a z e h = rw e (ap (λ (n : ℤ). record { at = n; step = pos 0 }) h)
+
+  pub line-reading : (line : Line) (channel code : ℕ) (shift : ℤ) → x ≡ Reading channel shift → subℕ code 4 ≡ shift → 4 ≤ t + code
+      → line ≡ channelLine plan channel (pos (t + code - 4)) → line ≡ termLine plan x t
+  unfolding termLine
+  line-reading line channel code shift e g h l =
+      rw e (l ∙ ap (channelLine plan channel) (sym (shifted t code shift g ∙ sub-pos (t + code) 4 h)))
+
+pub line-channel : {plan : List ℕ} {z : Sizes} → Fitting plan z → (channel t row pass a d : ℕ) → row ≡ rowOf (z .start) (z .cycle) t
+    → pass ≡ passOf (z .start) (z .cycle) t → lowered a ≡ readingOn plan channel row pass → unbiased d ≡ driftOf plan row channel
+    → lifted valueBias bias a d ≡ channelLine plan channel (pos t)
+unfolding channelLine readingAt
+line-channel {plan} f channel t row pass a d e g h k =
+    rw (f .p-is, f .c-is, ← e, ← g) (ap₂ (λ (m n : ℤ). record { at = m; step = n }) h k)
+
+-- ---- comparisons of two values that are seen
+
+module _ (a b : Seen) where
+  pub none-left : (test : ℤ → ℤ → Bool) → a ≡ BeforeRun → false ≡ tested test (seenOf a) (seenOf b)
+  unfolding seenOf ofNumber tested
+  none-left test e = rw e refl
+
+  pub none-right : (test : ℤ → ℤ → Bool) → b ≡ BeforeRun → false ≡ tested test (seenOf a) (seenOf b)
+  unfolding seenOf ofNumber tested
+  none-right test e = rw e (blank (seenOf a))
+    where
+      blank : (s : cltlb.Seen) → false ≡ tested test s cltlb.beforeRun
+      blank (cltlb.number n) = refl
+      blank cltlb.beforeRun = refl
+
+  module _ (m n : ℕ) (e : a ≡ Number m) (f : b ≡ Number n) where
+    pub tested-below : ltb m n ≡ tested (testOf Below) (seenOf a) (seenOf b)
+    unfolding seenOf ofNumber tested
+    tested-below = rw (e, f) (sym (bias-ltZ m n valueBias))
+
+    pub tested-same : eqb m n ≡ tested (testOf Same) (seenOf a) (seenOf b)
+    unfolding seenOf ofNumber tested
+    tested-same = rw (e, f) (sym (bias-eqZ m n valueBias))
+
+pub test-is : (plan : List ℕ) (x : Comparison) (t : ℕ) (a b : Seen) → seenOf a ≡ valueAt (runOf plan) (x .left) t → seenOf b ≡ valueAt (runOf plan) (x .right) t
+    → tested (testOf (x .relation)) (seenOf a) (seenOf b) ≡ testAt plan x t
+unfolding testAt
+test-is plan x t a b e f = ap₂ (tested (testOf (x .relation))) e f
+
+-- ---- rows
+
+-- both terms of a comparison reach at most m positions back
+module _ (z : Sizes) (x : Comparison) (m : ℕ) (e : m ≡ max (reach (x .left)) (reach (x .right))) where
+  pub farther-le : TermsFit z x → m ≤ 4
+  farther-le f = rw e (max-le (reach-le (z .channels) (x .left) (f .0)) (reach-le (z .channels) (x .right) (f .1)))
+
+  pub farther-in : (t : ℕ) → z .start + m ≤ t → (z .start + reach (x .left) ≤ t) × (z .start + reach (x .right) ≤ t)
+  farther-in t h = omega (arith, le-max-left (reach (x .left)) (reach (x .right)), le-max-right (reach (x .left)) (reach (x .right)))
+
+-- no pass is left
+pub all-joined : (f : ℕ → Bool) (k : ℕ) → k ≤ 0 → (whole verdict : Verdict) → whole ≡ joinFirst f k verdict → verdict ≡ whole
+unfolding joinFirst
+all-joined f k h whole verdict e = let s : k ≡ 0 = omega arith in sym (e ∙ ap (λ (i : ℕ). joinFirst f i verdict) s)
+
+-- the truth of a comparison on the passes from a position on
+abbrev pub passTest : List ℕ → Comparison → ℕ → ℕ → Bool
+passTest plan x row k = testAt plan x (row + k * cycleRows plan)
+
+module _ {plan : List ℕ} {z : Sizes} (f : Fitting plan z) (x : Comparison) where
+  -- a pass, put in front
+  pub pass-joined : (row k : ℕ) → 0 < k → (whole verdict r : Verdict) (b : Bool) → whole ≡ joinFirst (passTest plan x row) k verdict
+      → b ≡ testAt plan x (row + (k - 1) * z .cycle) → r ≡ join b verdict → whole ≡ joinFirst (passTest plan x row) (k - 1) r
+  unfolding joinFirst
+  pass-joined row k h whole verdict r b e t j =
+      let s : k ≡ suc (k - 1) = omega arith in
+      e
+      ∙ ap (λ (i : ℕ). joinFirst (passTest plan x row) i verdict) s
+      ∙ ap (joinFirst (passTest plan x row) (k - 1))
+      (sym (j ∙ ap (λ (b : Bool). join b verdict) (t ∙ ap (λ (i : ℕ). testAt plan x (row + (k - 1) * i)) (sym (f .c-is)))))
+
+  -- the passes from a position of the cycle on: from the n-th on neither term reaches before the cycle
+  pub cycle-is : TermsFit z x → (row n : ℕ) → z .start ≤ row
+      → (z .start + reach (x .left) ≤ row + n * z .cycle) × (z .start + reach (x .right) ≤ row + n * z .cycle)
+      → (X Y : Line) → X ≡ termLine plan (x .left) (row + n * z .cycle) → Y ≡ termLine plan (x .right) (row + n * z .cycle)
+      → (later : Verdict) → later ≡ judgeLines (x .relation) X Y → {r : Verdict} → r ≡ joinFirst (passTest plan x row) n later → r ≡ judgeCycle plan x 4 row
+  unfolding judgeCycle
+  cycle-is g row n h k X Y ex ey later e j =
+      j ∙ from ∙ cycle-same plan x hC row n 4 inside (inside-4 plan x (z .channels) row (g .0) (g .1) hC (rw (f .p-is) h))
+    where
+      hC : 1 ≤ cycleRows plan
+      hC = rw (f .c-is) (f .a-cycle)
+
+      inside : Inside plan x (row + n * cycleRows plan)
+      inside = rw (f .c-is) (record { left = rw (f .p-is) (k .0); right = rw (f .p-is) (k .1) })
+
+      from : joinFirst (passTest plan x row) n later ≡ judgeCycle plan x n row
+      from =
+          ap (joinFirst (passTest plan x row) n)
+          (e ∙ ap₂ (judgeLines (x .relation))
+          (ex ∙ ap (λ (i : ℕ). termLine plan (x .left) (row + n * i)) (sym (f .c-is)))
+          (ey ∙ ap (λ (i : ℕ). termLine plan (x .right) (row + n * i)) (sym (f .c-is))))
+
+  module _ (row : ℕ) where
+    pub on-cycle-row : z .start ≤ row → judgeCycle plan x 4 row ≡ judgeRow plan x row
+    unfolding judgeRow
+    on-cycle-row h = simp (f .p-is, le-ltb row (z .start) h)
+
+    pub on-start-row : row < z .start → (b c : Bool) → b ≡ testAt plan x row → b ≡ c → cond c AlwaysTrue AlwaysFalse ≡ judgeRow plan x row
+    unfolding judgeRow
+    on-start-row h b c e g = simp (f .p-is, lt-ltb row (z .start) h, ← e, g)
+
+-- ---- atoms
+
+-- the terms of the comparison that an atom is
+pub atom-fit : (z : Sizes) (x : Atom) → atomFits (z .channels) x ≡ true → {r : Comparison} → r ≡ comparisonOf x → TermsFit z r
+atom-fit z x h e = subst (TermsFit z) (sym e) (atom-terms (z .channels) x h)
+
+-- the promise of a verdict
+pub judgement : {plan : List ℕ} {z : Sizes} → Fitting plan z → {atom : Atom} → atomFits (z .channels) atom ≡ true → (row : ℕ) → row < allRows z
+    → (r : Verdict) → r ≡ verdictOf plan atom row → Judgement plan atom row r
+judgement {plan} {z} f {atom} h row l r e = record {
+  answer = e;
+  meaning = rw e (judged plan (rw (f .c-is) (f .a-cycle)) row (rw (f .p-is, f .c-is) l) (z .channels) atom h);
+}

@@ -1,0 +1,102 @@
+-- The verdict on a comparison on a row is right: on every pass, that is, at every position that lies on the row. Assumes
+-- nothing.
+use Prim.Native.Nat.{ℕ, _+_, _*_, _≤_, _<_}
+use native.Mathlib.Decide.{decLt}
+use native.Mathlib.Omega.{arith}
+use mathlib.Core.Path.{_≡_, refl, sym, subst}
+use mathlib.Core.Bool.{Bool, true, false, cond, false≢true}
+use mathlib.Core.List.{List}
+use mathlib.Core.Logic.{_↔_, by-cases}
+use borrow.Author.Tests.{lt-ltb, le-ltb}
+use Rattle.cltlb.specs.Truth.{AtomHolds}
+use Rattle.cltlb.specs.Fits.{termFits, atomFits}
+use Rattle.cltlb.specs.declared.Atom.{Atom}
+use Rattle.cltlb.specs.declared.Atom.the-variants.{Less, Equal}
+use Rattle.cltlb.proofs.Fits.{less-fits, equal-fits}
+use Rattle.plan.specs.Layout.{startRows, cycleRows}
+use Rattle.plan.specs.Positions.{rowOf, passOf}
+use Rattle.plan.specs.Run.{runOf}
+use Rattle.plan.proofs.Rows.{row-start, row-ge, row-again, row-split}
+use Rattle.verdict.specs.Meaning.{VerdictMeans}
+use Rattle.verdict.specs.Comparisons.{comparison, comparisonOf}
+use Rattle.verdict.specs.Rows.{testAt, judgeRow, atomAt, verdictOf}
+use Rattle.verdict.specs.declared.Comparison.{Comparison}
+use Rattle.verdict.specs.declared.Relation.the-variants.{Below, Same}
+use Rattle.verdict.specs.declared.Verdict.{Verdict}
+use Rattle.verdict.specs.declared.Verdict.the-variants.{AlwaysTrue, AlwaysFalse, Changes}
+use Rattle.verdict.proofs.Passes.{PassMeans, means-one}
+use Rattle.verdict.proofs.Cycles.{ComparedAt, test-decides, cycle-means, inside-4}
+
+-- A verdict on the passes of a row is one on the row, where `at` gives all positions that lie on it.
+pub row-means : (P C row : ℕ) (at : ℕ → ℕ) → ((k : ℕ) → rowOf P C (at k) ≡ row) → ((t : ℕ) → rowOf P C t ≡ row → (k : ℕ) × (at k ≡ t))
+    → (F : ℕ → Type 0) (v : Verdict) → PassMeans v (λ k. F (at k)) → VerdictMeans P C row F v
+unfolding PassMeans
+row-means P C row at on all F v m = record {
+  alwaysTrue = (
+    λ e t h. let a = all t h in subst F (a .1) (subst (λ w. PassMeans w (λ k. F (at k))) e m (a .0)),
+    λ h. means-one v AlwaysTrue _ m (λ k. h (at k) (on k)),
+  );
+  alwaysFalse = (
+    λ e t h l. let a = all t h in subst (λ w. PassMeans w (λ k. F (at k))) e m (a .0) (subst F (sym (a .1)) l),
+    λ h. means-one v AlwaysFalse _ m (λ k. h (at k) (on k)),
+  );
+  changes = (
+    λ e. let c = subst (λ w. PassMeans w (λ k. F (at k))) e m in ((at (c .0 .0), on (c .0 .0), c .0 .1), (at (c .1 .0), on (c .1 .0), c .1 .1)),
+    λ h. let a = all (h .0 .0) (h .0 .1) in
+        let b = all (h .1 .0) (h .1 .1) in
+        means-one v Changes _ m ((a .0, subst F (sym (a .1)) (h .0 .2)), (b .0, λ l. h .1 .2 (subst F (b .1) l))),
+  );
+}
+
+module _ (P C : ℕ) (hC : 1 ≤ C) (row : ℕ) where
+  -- The only position on a start row is the row itself.
+  pub on-start : row < P → (t : ℕ) → rowOf P C t ≡ row → row ≡ t
+  on-start h t e =
+      by-cases (decLt t P)
+      (λ l. omega (arith, row-start P C t (omega arith)))
+      (λ l. absurd (omega (arith, row-ge P C t (omega arith))))
+
+  -- A cycle row lies at its first position and a whole number of passes later.
+  pub on-cycle : P ≤ row → (t : ℕ) → rowOf P C t ≡ row → row + passOf P C t * C ≡ t
+  on-cycle h t e =
+      by-cases (decLt t P)
+      (λ l. absurd (omega (arith, row-start P C t (omega arith))))
+      (λ l. omega (arith, row-split P C hC t (omega arith)))
+
+module _ (plan : List ℕ) (hC : 1 ≤ cycleRows plan) (row : ℕ) (hr : row < startRows plan + cycleRows plan) (v : ℕ) where
+  module _ (x : Comparison) (fx : termFits v (x .left) ≡ true) (fy : termFits v (x .right) ≡ true) where
+    start-means : (b : Bool) → (b ≡ true) ↔ ComparedAt plan x row → PassMeans (cond b AlwaysTrue AlwaysFalse) (λ k. ComparedAt plan x row)
+    unfolding PassMeans
+    start-means true e = λ k. e .0 refl
+    start-means false e = λ k h. false≢true (e .1 h)
+
+    row-judged : VerdictMeans (startRows plan) (cycleRows plan) row (ComparedAt plan x) (judgeRow plan x row)
+    unfolding judgeRow
+    row-judged =
+        by-cases (decLt row (startRows plan))
+        (λ h. rw (lt-ltb row (startRows plan) h)
+        (row-means (startRows plan) (cycleRows plan) row (λ k. row) (λ k. row-start (startRows plan) (cycleRows plan) row hr)
+        (λ t e. (0, on-start (startRows plan) (cycleRows plan) hC row h t e)) _ _
+        (start-means (testAt plan x row) (test-decides plan x row))))
+        (λ h. rw (le-ltb row (startRows plan) (omega arith))
+        (row-means (startRows plan) (cycleRows plan) row (λ k. row + k * cycleRows plan)
+        (λ k. row-again (startRows plan) (cycleRows plan) hC row k (omega arith) hr)
+        (λ t e. (passOf (startRows plan) (cycleRows plan) t, on-cycle (startRows plan) (cycleRows plan) hC row (omega arith) t e)) _ _
+        (cycle-means plan x hC row 4 (inside-4 plan x v row fx fy hC (omega arith)))))
+
+  -- The verdict on an atom says what its truth is at every position on the row.
+  pub judged : (x : Atom) → atomFits v x ≡ true → VerdictMeans (startRows plan) (cycleRows plan) row (AtomHolds (runOf plan) x) (verdictOf plan x row)
+  unfolding AtomHolds verdictOf
+  judged (Less x y) f = let fits = less-fits v x y f in row-judged (comparison Below x y) (fits .0) (fits .1)
+  judged (Equal x y) f = let fits = equal-fits v x y f in row-judged (comparison Same x y) (fits .0) (fits .1)
+
+-- The terms of an atom that fits.
+pub atom-terms : (v : ℕ) (x : Atom) → atomFits v x ≡ true → (termFits v (comparisonOf x .left) ≡ true) × (termFits v (comparisonOf x .right) ≡ true)
+atom-terms v (Less x y) f = less-fits v x y f
+atom-terms v (Equal x y) f = equal-fits v x y f
+
+-- The test of an atom at a position tells its truth there.
+pub atom-tells : (plan : List ℕ) (x : Atom) (t : ℕ) → (atomAt plan x t ≡ true) ↔ AtomHolds (runOf plan) x t
+unfolding atomAt AtomHolds
+atom-tells plan (Less x y) t = test-decides plan (comparison Below x y) t
+atom-tells plan (Equal x y) t = test-decides plan (comparison Same x y) t

@@ -1,0 +1,5 @@
+pub mod Meaning
+pub mod Lines
+pub mod Comparisons
+pub mod Rows
+pub mod inner
