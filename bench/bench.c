@@ -1,11 +1,14 @@
 /*
- * bench.c: times endless_run_check beside a plain C check of the same work.
+ * bench.c: times endless_run_check and endless_run_make, each beside plain C of the
+ * same work.
  *
- * Each case is an accepted table of full size, 64 parts on 256 rows of 8
- * channels: acceptance is the slowest answer, as nothing is left out. Both
- * checks are called on the same bytes, in turn, and the least time of many
- * rounds is taken. Before that both must give the answer of the second
- * evaluator, and they must have accepted.
+ * Each case is a rule and a plan of full size, 64 parts on 256 rows of 8
+ * channels, with a table that is accepted: acceptance is the slowest answer, as
+ * nothing is left out. The makers make that same table. The exported function
+ * and the plain one are called on the same bytes, in turn, and the least time of
+ * many rounds is taken. Before that both checks must give the answer of the
+ * second evaluator, and they must have accepted; and both makers must give that
+ * answer and make the second evaluator's table, byte for byte.
  *
  * Two copies of the same code have been seen to differ by a quarter in the short
  * cases e and f, by where the linker puts them: a ratio from 0.8 to 1.25 there
@@ -15,14 +18,16 @@
 #include "../include/endless_run.h"
 #include "../tests/support/write.h"
 #include "plain_check.h"
+#include "plain_make.h"
 
 #include <inttypes.h>
 #include <stdio.h>
+#include <string.h>
 #include <time.h>
 
 enum { PARTS = 64, ROWS = 256, CHANNELS = 8, ROUNDS = 60, ROUND_NS = 1000000 };
 
-static struct sheet rule, plan, marks;
+static struct sheet rule, plan, marks, made;
 static struct truth truth;
 
 /* ---- Building ---- */
@@ -175,14 +180,42 @@ static void many_start_rows(void)
             write_closing_operator(part, (enum kind)(NOT + part / 2 % 10));
 }
 
-/* ---- Timing ---- */
-
-typedef uint64_t checker(const uint8_t *, size_t, const uint8_t *, size_t, const uint8_t *, size_t);
-
-static uint64_t call(checker *check)
+static void all_kinds(void)
 {
-    return check(rule.at, rule.len, plan.at, plan.len, marks.at, marks.len);
+    steady_plan(128);
+    begin_rule();
+    for (int part = 0; part < PARTS; part++)
+        if (part < 8 || part % 4 == 0)
+            write_two_channels(part, part % 8 ? LESS : EQUAL, part % 9 - 4, part / 9 % 9 - 4);
+        else
+            write_closing_operator(part, (enum kind)(NOT + part % 10));
 }
+
+/* ---- The four functions ---- */
+
+typedef uint64_t work(void);
+
+static uint64_t check_plainly(void)
+{
+    return plain_check(rule.at, rule.len, plan.at, plan.len, marks.at, marks.len);
+}
+
+static uint64_t check(void)
+{
+    return endless_run_check(rule.at, rule.len, plan.at, plan.len, marks.at, marks.len);
+}
+
+static uint64_t make_plainly(void)
+{
+    return plain_make(rule.at, rule.len, plan.at, plan.len, made.at, made.len);
+}
+
+static uint64_t make(void)
+{
+    return endless_run_make(rule.at, rule.len, plan.at, plan.len, made.at, made.len);
+}
+
+/* ---- Timing ---- */
 
 static double now_ns(void)
 {
@@ -192,46 +225,69 @@ static double now_ns(void)
 }
 
 /* The time of one call, as the mean of some calls in a row. */
-static double time_calls(checker *check, int calls)
+static double time_calls(work *work, int calls)
 {
     volatile uint64_t sink = 0;
     double begin = now_ns();
     for (int i = 0; i < calls; i++)
-        sink += call(check);
+        sink += work();
     (void)sink;
     return (now_ns() - begin) / calls;
 }
 
-static int calls_in_a_round(checker *check)
+static int calls_in_a_round(work *work)
 {
-    double ns = time_calls(check, 3);
+    double ns = time_calls(work, 3);
     return ns < ROUND_NS ? 1 + (int)(ROUND_NS / ns) : 1;
 }
 
-static void time_case(const char *name)
+static void time_two(work *plainly, work *as_exported)
 {
     double plain = 1e18, exported = 1e18;
-    int plain_calls = calls_in_a_round(plain_check);
-    int exported_calls = calls_in_a_round(endless_run_check);
+    int plain_calls = calls_in_a_round(plainly);
+    int exported_calls = calls_in_a_round(as_exported);
     for (int round = 0; round < ROUNDS; round++) {
-        double p = time_calls(plain_check, plain_calls);
-        double e = time_calls(endless_run_check, exported_calls);
+        double p = time_calls(plainly, plain_calls);
+        double e = time_calls(as_exported, exported_calls);
         plain = p < plain ? p : plain;
         exported = e < exported ? e : exported;
     }
-    printf("%-40s %10.1f %10.1f %8.2f\n", name, plain / 1000, exported / 1000, exported / plain);
+    printf(" %9.1f %9.1f %7.2f", plain / 1000, exported / 1000, exported / plain);
 }
 
-/* Both checks accept, with the verdict of the second evaluator. */
-static bool both_accept(const char *name)
+/* ---- Agreement ---- */
+
+/* Both functions give this answer. */
+static bool both_answer(const char *name, uint64_t due, uint64_t plain, uint64_t exported)
 {
-    uint64_t due = second_check(slice_of(&rule), slice_of(&plan), slice_of(&marks));
-    uint64_t plain = call(plain_check), exported = call(endless_run_check);
-    if (due <= 1 && plain == due && exported == due)
+    if (plain == due && exported == due)
         return true;
     printf("%s: due %" PRIx64 ", plain C %" PRIx64 ", exported %" PRIx64 " (hex)\n", name, due,
            plain, exported);
     return false;
+}
+
+/* The maker's answer; no answer at all where it does not make the second evaluator's
+   table. */
+static uint64_t answer_if_made(work *maker)
+{
+    memset(made.at, 0xA5, made.len);
+    uint64_t answer = maker();
+    return memcmp(made.at, marks.at, marks.len) == 0 ? answer : UINT64_MAX;
+}
+
+/* Both checks accept the table, and both makers make it, with the verdict of the
+   second evaluator. */
+static bool all_agree(const char *name)
+{
+    uint64_t due = second_check(slice_of(&rule), slice_of(&plan), slice_of(&marks));
+    if (due > 1) {
+        printf("%s: refused\n", name);
+        return false;
+    }
+    resize(&made, marks.len);
+    return both_answer(name, due, check_plainly(), check()) &&
+           both_answer(name, due, answer_if_made(make_plainly), answer_if_made(make));
 }
 
 static bool run_case(const char *name, void (*build)(void))
@@ -239,9 +295,12 @@ static bool run_case(const char *name, void (*build)(void))
     dice = 1;
     build();
     write_true_marks(&marks, &truth);
-    if (!both_accept(name))
+    if (!all_agree(name))
         return false;
-    time_case(name);
+    printf("%-38s", name);
+    time_two(check_plainly, check);
+    time_two(make_plainly, make);
+    printf("\n");
     return true;
 }
 
@@ -250,12 +309,15 @@ int main(void)
     bool right = true;
     printf("64 parts, 256 rows, 8 channels, accepted; microseconds a call, least of %d rounds\n",
            ROUNDS);
-    printf("%-40s %10s %10s %8s\n", "", "plain C", "exported", "ratio");
+    printf("%-38s %9s %9s %7s %9s %9s %7s\n", "", "check", "", "", "make", "", "");
+    printf("%-38s %9s %9s %7s %9s %9s %7s\n", "", "plain C", "exported", "ratio", "plain C",
+           "exported", "ratio");
     right &= run_case("a  comparisons, no drift", no_drift);
     right &= run_case("b  comparisons, all shifts", all_shifts);
     right &= run_case("c  comparisons drifting apart", drifting_apart);
     right &= run_case("d  equalities stepped over", stepped_over);
     right &= run_case("e  all temporal", all_temporal);
     right &= run_case("f  255 start rows", many_start_rows);
+    right &= run_case("g  all kinds", all_kinds);
     return right ? 0 : 1;
 }

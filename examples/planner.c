@@ -1,5 +1,6 @@
 /*
- * planner.c: a small planner that has its mark tables checked.
+ * planner.c: a small planner that has its mark tables checked, and then has them
+ * made.
  *
  * The rule: a pinned count is never averaged until a lower one has come. A
  * count is pinned at 4095, the most that its converter gives. Channel 0 is the
@@ -17,7 +18,10 @@
  *
  * The program writes rule.bin, plan.bin and marks.bin of its first plan into
  * the current folder, has the same bytes checked, and then shows three tables
- * that are answered otherwise. Build and run, from the repository's root:
+ * that are answered otherwise. These marks are the planner's own. A planner
+ * that has none needs the rule and the plan only: at the end the program has
+ * the tables of the same three plans made. Build and run, from the repository's
+ * root:
  *
  *   cc -std=c11 -Wall -Wextra -o planner examples/planner.c target/staticlib/libendless_run.a
  *   ./planner
@@ -25,6 +29,7 @@
 #include "../include/endless_run.h"
 
 #include <stdio.h>
+#include <string.h>
 
 enum { LIMIT = 4095, PARTS = 6, CHANNELS = 2, MOST_ROWS = 8 };
 enum { LOWER, AVERAGED, NOT_AVERAGED, UNTIL_LOWER, NEVER, WHOLE };
@@ -133,7 +138,7 @@ static struct bytes make_plan(const struct plan *plan)
     return b;
 }
 
-/* ---- The mark table ---- */
+/* ---- The planner's own mark table ---- */
 
 /* Marks of U and R go backward from the last row, which is followed by the
    first cycle row. Two rounds settle them. */
@@ -166,7 +171,7 @@ static unsigned witness(int mark[PARTS][MOST_ROWS], const struct plan *plan, int
     return ENDLESS_RUN_NO_WITNESS;
 }
 
-static struct bytes make_marks(const struct plan *plan)
+static struct bytes own_marks(const struct plan *plan)
 {
     struct bytes b = { 0, { 0 } };
     int mark[PARTS][MOST_ROWS];
@@ -196,18 +201,32 @@ static struct bytes make_marks(const struct plan *plan)
 
 /* ---- Answers in words ---- */
 
-static void show(uint64_t answer)
+static void show(uint64_t answer, const char *message)
 {
     if (endless_run_is_refusal(answer))
         printf("  refused %u, part %u, row %u: %s\n", endless_run_number(answer),
-               endless_run_part(answer), endless_run_row(answer), endless_run_message(answer));
+               endless_run_part(answer), endless_run_row(answer), message);
     else
-        printf("  %s\n", endless_run_message(answer));
+        printf("  %s\n", message);
 }
 
-static uint64_t check(const struct bytes *rule, const struct bytes *plan, const struct bytes *marks)
+static void check(const struct bytes *rule, const struct bytes *plan, const struct bytes *marks)
 {
-    return endless_run_check(rule->at, rule->len, plan->at, plan->len, marks->at, marks->len);
+    uint64_t answer =
+        endless_run_check(rule->at, rule->len, plan->at, plan->len, marks->at, marks->len);
+    show(answer, endless_run_message(answer));
+}
+
+/* Has the mark table made. The buffer has the length that the table will have,
+   and need not be cleared. */
+static int have_made(const struct bytes *rule, const struct bytes *plan, int rows,
+                     struct bytes *marks)
+{
+    marks->len = ENDLESS_RUN_MARKS_LENGTH(PARTS, rows);
+    uint64_t answer =
+        endless_run_make(rule->at, rule->len, plan->at, plan->len, marks->at, marks->len);
+    show(answer, endless_run_make_message(answer));
+    return !endless_run_is_refusal(answer);
 }
 
 static int write_file(const char *name, const struct bytes *b)
@@ -229,36 +248,77 @@ static const struct plan patient = {
     1, 4, { { 3000, 1, 0 }, { 4095, 0, 0 }, { 4095, 0, 0 }, { 3900, 1, 0 }, { 3800, 1, 0 } }
 };
 
-int main(void)
+/* The same, but row 2 averages a pinned count; the same, but row 3 drifts. */
+static struct plan hasty(void)
 {
-    struct bytes rule = make_rule(), plan = make_plan(&patient), marks = make_marks(&patient);
-    if (!write_file("rule.bin", &rule) || !write_file("plan.bin", &plan) ||
+    struct plan plan = patient;
+    plan.row[2].averaged = 1;
+    return plan;
+}
+
+static struct plan rising(void)
+{
+    struct plan plan = patient;
+    plan.row[3].drift = 1;
+    return plan;
+}
+
+/* ---- Both uses ---- */
+
+/* The planner has marks of its own. */
+static int check_own_marks(const struct bytes *rule)
+{
+    struct bytes plan = make_plan(&patient), marks = own_marks(&patient);
+    if (!write_file("rule.bin", rule) || !write_file("plan.bin", &plan) ||
         !write_file("marks.bin", &marks))
-        return 1;
+        return 0;
     printf("Averages only after a lower count (rule.bin, plan.bin, marks.bin):\n");
-    show(check(&rule, &plan, &marks));
+    check(rule, &plan, &marks);
 
     printf("The same, but row 1 is marked as a lower count:\n");
-    struct bytes false_marks = marks;
-    false_marks.at[4 + 5 * LOWER + 1] = 1;
-    show(check(&rule, &plan, &false_marks));
+    marks.at[4 + 5 * LOWER + 1] = 1;
+    check(rule, &plan, &marks);
 
     printf("Averages a pinned count on row 2, with right marks:\n");
-    struct plan hasty = patient;
-    hasty.row[2].averaged = 1;
-    plan = make_plan(&hasty);
-    marks = make_marks(&hasty);
-    show(check(&rule, &plan, &marks));
+    struct plan next = hasty();
+    plan = make_plan(&next);
+    marks = own_marks(&next);
+    check(rule, &plan, &marks);
 
     printf("As the first, but row 3 rises by 1 on each pass, from 3900:\n");
-    struct plan rising = patient;
-    rising.row[3].drift = 1;
-    plan = make_plan(&rising);
-    marks = make_marks(&rising);
-    show(check(&rule, &plan, &marks));
-    uint64_t judged = endless_run_judge(rule.at, rule.len, plan.at, plan.len, LOWER, 3);
+    next = rising();
+    plan = make_plan(&next);
+    marks = own_marks(&next);
+    check(rule, &plan, &marks);
+    uint64_t judged = endless_run_judge(rule->at, rule->len, plan.at, plan.len, LOWER, 3);
     printf("  part %d judged on row 3: %s\n", LOWER, endless_run_judge_message(judged));
     if (endless_run_finding(judged) == ENDLESS_RUN_CHANGES)
-        printf("  the count is %d on pass %d\n", LIMIT, LIMIT - rising.row[3].count);
+        printf("  the count is %d on pass %d\n", LIMIT, LIMIT - next.row[3].count);
+    return 1;
+}
+
+/* The planner has none: they are made, and no more is needed. That a table made
+   is accepted is promised, and the check here only shows it. */
+static void have_marks_made(const struct bytes *rule)
+{
+    static const char *const names[] = { "the first plan", "the hasty plan", "the rising plan" };
+    const struct plan plans[] = { patient, hasty(), rising() };
+    for (int i = 0; i < 3; i++) {
+        struct bytes plan = make_plan(&plans[i]), own = own_marks(&plans[i]), made;
+        printf("No marks of its own, %s:\n", names[i]);
+        if (!have_made(rule, &plan, plans[i].start + plans[i].cycle, &made))
+            continue;
+        check(rule, &plan, &made);
+        if (made.len == own.len && memcmp(made.at, own.at, own.len) == 0)
+            printf("  byte for byte the planner's own marks\n");
+    }
+}
+
+int main(void)
+{
+    struct bytes rule = make_rule();
+    if (!check_own_marks(&rule))
+        return 1;
+    have_marks_made(&rule);
     return 0;
 }

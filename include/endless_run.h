@@ -10,7 +10,8 @@
  *
  * endless_run_check() tells whether a mark table is right, on the whole of the
  * endless run. endless_run_judge() tells whether one comparison of the rule
- * has the same truth on every pass of one row.
+ * has the same truth on every pass of one row. endless_run_make() makes the
+ * mark table of a rule and a plan, for whoever has no marks of their own.
  *
  *
  * THE THREE LAYOUTS
@@ -38,33 +39,38 @@
  * Parts and rows are numbered from 0. The last part is the whole rule.
  *
  *
- * WHAT HOLDS FOR BOTH FUNCTIONS
+ * WHAT HOLDS FOR ALL THREE FUNCTIONS
  *
  * Arguments. A slice is a pointer to its first byte and its length in bytes.
  * Every length is allowed, and so is every content: bytes that are no rule, no
  * plan or no mark table are refused, never trusted. A slice of length 0 is an
  * empty one; its pointer is not followed and may be null. A pointer that comes
- * with a length other than 0 must lead to that many readable bytes. Slices
- * need no alignment and may overlap.
+ * with a length other than 0 must lead to that many readable bytes, and for
+ * the buffer of endless_run_make() to as many that may be written as well.
+ * Slices need no alignment. Those that are only read may overlap; the buffer
+ * of endless_run_make() must overlap neither the rule nor the plan.
  *
- * Effects. There are none. The bytes lent are read during the call and never
- * written. Nothing is allocated, nothing is kept between calls, no file is
- * touched and errno is left alone. The same bytes always give the same answer.
+ * Effects. The one effect is that endless_run_make() writes to the buffer lent
+ * to it, as said there. Every other byte lent is read during the call and
+ * never written; check and judge write nothing at all. Nothing is allocated,
+ * nothing is kept between calls, no file is touched and errno is left alone.
+ * The same bytes always give the same answer. What the buffer held before the
+ * call counts for nothing, neither in the answer nor in what is written.
  *
  * Threads. There is no shared state. Any number of threads may call at the
  * same time, also on the same bytes, as long as nobody writes to them during a
- * call.
+ * call. So each call of endless_run_make() needs a buffer of its own.
  *
- * Time. Both functions always return. The time is bounded by the sizes N, V
- * and W, and does not grow with the pass on which a comparison changes.
+ * Time. Every call returns. The time is bounded by the sizes N, V and W, and
+ * does not grow with the pass on which a comparison changes.
  *
  * Platform. The library is compiled for x86-64 Linux, with the usual calling
  * convention of C there.
  *
  * Answers. An answer is one number:
  *
- *   accepted, judged    the value itself, below 2^32
- *   refused             number * 2^32 + part * 2^16 + row
+ *   accepted, judged, made    the value itself, below 2^32
+ *   refused                   number * 2^32 + part * 2^16 + row
  *
  * where the refusal's number is one of enum endless_run_refusal, and part and
  * row are 0 where the refusal names none. The functions at the end of this
@@ -86,7 +92,7 @@ extern "C" {
  * declared here. It is raised by 1 with each change of a layout, of the meaning
  * of an answer or of the interface that a caller could notice.
  */
-#define ENDLESS_RUN_VERSION 1
+#define ENDLESS_RUN_VERSION 2
 
 /* The kind byte of a part. The comments give its operand: two terms, one part,
    or two parts a and b in this order. */
@@ -130,19 +136,23 @@ enum endless_run_form {
 #define ENDLESS_RUN_PLAN_LENGTH(channels, rows) (6 + 8 * (size_t)(channels) * (size_t)(rows))
 #define ENDLESS_RUN_MARKS_LENGTH(parts, rows) (4 + (size_t)(parts) * ((size_t)(rows) + 2))
 
-/* The largest lengths in bytes: 836, 16390 and 16516. A longer rule, plan or
-   mark table is always refused. */
+/* The largest lengths in bytes: 836, 16390 and 16516. A longer rule, plan, mark
+   table or buffer for one is always refused. */
 #define ENDLESS_RUN_LONGEST_RULE (4 + 13 * ENDLESS_RUN_MOST_PARTS)
 #define ENDLESS_RUN_LONGEST_PLAN (6 + 8 * ENDLESS_RUN_MOST_CHANNELS * ENDLESS_RUN_MOST_ROWS)
 #define ENDLESS_RUN_LONGEST_MARKS \
     (4 + ENDLESS_RUN_MOST_PARTS * ENDLESS_RUN_MOST_ROWS + 2 * ENDLESS_RUN_MOST_PARTS)
 
 /*
- * The refusals, in the order in which they are looked for: an answer carries
- * the first that applies. "Part" and "row" say what the refusal names.
+ * The refusals. Each function looks for its own in the order of their numbers,
+ * and an answer carries the first that applies:
+ *
+ *   endless_run_check()    1 to 11
+ *   endless_run_judge()    1 to 6, 12
+ *   endless_run_make()     1 to 6, 13, 14
  *
  * Refusals 9, 10 and 11 are looked for on one part before the next part, the
- * lowest part first.
+ * lowest part first. "Part" and "row" say what the refusal names.
  */
 enum endless_run_refusal {
     /* The rule has fewer than 4 bytes, N or V is outside its range, or the
@@ -197,7 +207,19 @@ enum endless_run_refusal {
 
     /* The part or the row that the caller of endless_run_judge() named is
        absent, or that part is no comparison. */
-    ENDLESS_RUN_ABSENT = 12
+    ENDLESS_RUN_ABSENT = 12,
+
+    /* The length of the buffer lent to endless_run_make() is not the one that
+       the mark table has, ENDLESS_RUN_MARKS_LENGTH(N, W). A longer buffer is
+       refused as well. */
+    ENDLESS_RUN_BUFFER_LENGTH = 13,
+
+    /* A part does not close, so that no mark table of this rule and this plan
+       is accepted: its truth on a cycle row is not the same on all passes.
+       Part: the lowest such part, also one that nobody names; row: as with
+       refusal 10. This is the one refusal that writes: every byte of the
+       buffer is 0 after it. */
+    ENDLESS_RUN_NO_TABLE = 14
 };
 
 /* What endless_run_judge() finds. */
@@ -257,6 +279,42 @@ uint64_t endless_run_judge(const uint8_t *rule, size_t rule_len,
                            const uint8_t *plan, size_t plan_len,
                            uint64_t part, uint64_t row);
 
+/*
+ * Make the mark table of a rule and a plan.
+ *
+ *   rule, rule_len      the rule
+ *   plan, plan_len      the plan
+ *   marks, marks_len    the buffer that the mark table is written to; its
+ *                       length is ENDLESS_RUN_MARKS_LENGTH(N, W), no more and
+ *                       no less
+ *
+ * Returns
+ *
+ *   1           made, and the whole rule is true at position 0 of the run
+ *   0           made, and the whole rule is false at position 0
+ *   otherwise   a refusal, with number 1 to 6, 13 or 14
+ *
+ * When the buffer is written:
+ *
+ *   made                 every byte: N and W, every mark, every witness
+ *   refusal 14           every byte, with 0, so that it holds no table at all
+ *   any other refusal    no byte: the buffer is as it was before the call
+ *
+ * No byte outside the buffer is ever written.
+ *
+ * A table made here is always accepted by endless_run_check(), and the answer
+ * is the verdict that check then gives. Where more than one row serves as a
+ * witness, the table has the lowest; a start row never serves. Once refusals 1
+ * to 6 and 13 are cleared, the answer is refusal 14 exactly when no bytes
+ * whatever would be accepted as the mark table of this rule and this plan.
+ *
+ * "Made" says that there is a table, and not that the rule holds: look at the
+ * verdict for that.
+ */
+uint64_t endless_run_make(const uint8_t *rule, size_t rule_len,
+                          const uint8_t *plan, size_t plan_len,
+                          uint8_t *marks, size_t marks_len);
+
 /* 1 if the answer is a refusal; 0 if it is a verdict or a finding. */
 static inline int endless_run_is_refusal(uint64_t answer)
 {
@@ -284,9 +342,10 @@ static inline unsigned endless_run_row(uint64_t answer)
     return endless_run_is_refusal(answer) ? (unsigned)(answer & 0xFFFF) : 0;
 }
 
-/* The verdict in an answer of endless_run_check(): 1 if the table is accepted
-   and the whole rule is true at position 0; 0 if the table is accepted and the
-   rule is false there, and also if the table is refused. */
+/* The verdict in an answer of endless_run_check() or endless_run_make(): 1 if
+   the table is accepted or made and the whole rule is true at position 0; 0 if
+   it is accepted or made and the rule is false there, and also if the answer is
+   a refusal. */
 static inline int endless_run_verdict(uint64_t answer)
 {
     return answer == 1;
@@ -299,8 +358,9 @@ static inline int endless_run_finding(uint64_t answer)
     return answer <= ENDLESS_RUN_CHANGES ? (int)answer : -1;
 }
 
-/* What endless_run_message() and endless_run_judge_message() say of a refusal,
-   by its number; of any other number, that it is no answer. */
+/* What endless_run_message(), endless_run_judge_message() and
+   endless_run_make_message() say of a refusal, by its number; of any other
+   number, that it is no answer. */
 static inline const char *endless_run_refusal_message(unsigned number)
 {
     switch (number) {
@@ -328,6 +388,11 @@ static inline const char *endless_run_refusal_message(unsigned number)
         return "a witness is not in order";
     case ENDLESS_RUN_ABSENT:
         return "there is no such part or row, or the part is no comparison";
+    case ENDLESS_RUN_BUFFER_LENGTH:
+        return "the buffer's length is not the mark table's";
+    case ENDLESS_RUN_NO_TABLE:
+        return "no mark table can be accepted: "
+               "a part's truth on a cycle row is not the same on all passes";
     default:
         return "not an answer of the checker";
     }
@@ -335,13 +400,13 @@ static inline const char *endless_run_refusal_message(unsigned number)
 
 /*
  * A short English text for an answer of endless_run_check(), and for a refusal
- * of either function.
+ * of any of the functions.
  *
  * Takes every number and never returns null. The text is a string literal: it
  * lasts as long as the program and is not to be freed or written. It begins in
  * lower case, has no full stop or line end, and names no part and no row: each
  * refusal has one text, chosen by its number alone. A number that is neither 0
- * or 1 nor a refusal of number 1 to 12 gets a text that says that it is no
+ * or 1 nor a refusal of number 1 to 14 gets a text that says that it is no
  * answer. The wording may change without a new version.
  */
 static inline const char *endless_run_message(uint64_t answer)
@@ -367,6 +432,17 @@ static inline const char *endless_run_judge_message(uint64_t answer)
     default:
         return endless_run_refusal_message(endless_run_number(answer));
     }
+}
+
+/* The same for an answer of endless_run_make(), where 0 and 1 say that a table
+   was made. The texts of the refusals are those of endless_run_message(). */
+static inline const char *endless_run_make_message(uint64_t answer)
+{
+    if (answer == 0)
+        return "made: the mark table is written, and the rule is false at position 0";
+    if (answer == 1)
+        return "made: the mark table is written, and the rule is true at position 0";
+    return endless_run_refusal_message(endless_run_number(answer));
 }
 
 #ifdef __cplusplus

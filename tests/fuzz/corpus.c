@@ -5,7 +5,8 @@
  *
  * One input for each worked example. For each kind of part and some sizes of plan
  * the true table of a rule with all kinds up to that one. For Y, Z, S and T the
- * true table on each plan of three rows of 0 and 1, whether it closes or not.
+ * true table on each plan of three rows of 0 and 1, whether it closes or not, and
+ * the same with a part above that does not name it.
  */
 #include "../support/examples.h"
 
@@ -93,19 +94,22 @@ static void write_kinds(void)
         }
 }
 
-/* A part of this kind over x = 1 and y = 1, on rows that the bits give. */
-static void write_past(enum kind kind, int start, int bits)
+/* A part of this kind over x = 1 and y = 1, on rows that the bits give, as the last
+   part of 3 or as one of 4 that nobody names. */
+static void write_past(enum kind kind, int parts, int start, int bits)
 {
     char name[64];
-    start_rule(&rule, 3, 2);
+    start_rule(&rule, parts, 2);
     write_comparison(&rule, 0, EQUAL, reading(0, 0), constant(1));
     write_comparison(&rule, 1, EQUAL, reading(1, 0), constant(1));
     write_formula(&rule, 2, &(struct formula){ .kind = kind, .a = 0, .b = 1 });
+    if (parts == 4)
+        write_binary(&rule, 3, UNTIL, 0, 1);
     start_plan(&plan, 2, start, 3 - start);
     for (int i = 0; i < 6; i++)
         write_reading(&plan, i / 2, i % 2, bits >> i & 1);
     write_true_marks_of(&marks, &space, &rule, &plan);
-    snprintf(name, sizeof name, "past-%d-start-%d-rows-%d", (int)kind, start, bits);
+    snprintf(name, sizeof name, "past-%d-parts-%d-start-%d-rows-%d", (int)kind, parts, start, bits);
     write_input(name, 0, (unsigned)start);
 }
 
@@ -120,7 +124,9 @@ int main(int argc, char **argv)
     write_kinds();
     for (int kind = YESTERDAY; kind <= TRIGGER; kind++)
         for (int start = 0; start < 3; start++)
-            for (int bits = 0; bits < 64; bits++)
-                write_past((enum kind)kind, start, bits);
+            for (int bits = 0; bits < 64; bits++) {
+                write_past((enum kind)kind, 3, start, bits);
+                write_past((enum kind)kind, 4, start, bits);
+            }
     return 0;
 }

@@ -1,13 +1,16 @@
 /*
- * fuzz.c: check and judge on bytes that a fuzzer makes up.
+ * fuzz.c: check, judge and make on bytes that a fuzzer makes up.
  *
  * An input is cut into a question: 2 bytes each for the length of the rule, the
  * length of the plan, the part and the row, then the rule, the plan and, to the
- * end, the mark table. Lengths that are too long are cut off.
+ * end, the mark table. Lengths that are too long are cut off. The mark table is
+ * also what the buffer of make has in it, once in its own length and once in the
+ * length that the sizes of the rule and the plan give.
  *
  * Each function is called twice and must answer alike, leave every byte lent as
- * it was, and stay within the slices (lend.c). Where the sizes are small enough
- * for it to be quick, the answers are held to the second evaluator too.
+ * it was, but for the buffer of make, and stay within the slices (lend.c). Where
+ * the sizes are small enough for it to be quick, the answers and the buffer are
+ * held to the second evaluator too.
  *
  * With -DWITH_LIBFUZZER the entry is LLVMFuzzerTestOneInput alone. Without it
  * there is a main for AFL and for looking at single inputs: it reads the files
@@ -18,6 +21,7 @@
 #include <inttypes.h>
 #include <stdio.h>
 #include <stdlib.h>
+#include <string.h>
 
 enum { HEAD = 8, LONGEST = 65536, MOST_CELLS = 2048 };
 
@@ -105,6 +109,67 @@ static void try_judge(const struct question *q)
     hold(first.answer == due, "judge", first.answer, due);
 }
 
+/* ---- Make ---- */
+
+/* The bytes of the mark table in a buffer of some length, or their complements. */
+static void fill(uint8_t *buffer, size_t len, struct slice marks, uint8_t mask)
+{
+    for (size_t i = 0; i < len; i++)
+        buffer[i] = (uint8_t)((i < marks.len ? marks.at[i] : 0) ^ mask);
+}
+
+static bool all_zero(const uint8_t *bytes, size_t len)
+{
+    for (size_t i = 0; i < len; i++)
+        if (bytes[i] != 0)
+            return false;
+    return true;
+}
+
+/* Has this answer left the buffer as it should: with a table that is accepted,
+   with zero bytes, or as it was? */
+static bool is_left_right(const struct question *q, uint64_t answer, const uint8_t *before,
+                          const uint8_t *after, size_t len)
+{
+    if (answer <= 1)
+        return ask_check(q->rule, q->plan, (struct slice){ after, len }).answer == answer;
+    if (answer >= refusal(14, 0, 0))
+        return all_zero(after, len);
+    return memcmp(before, after, len) == 0;
+}
+
+static void try_make(const struct question *q, size_t len)
+{
+    static uint8_t before[LONGEST], first[LONGEST], again[LONGEST];
+    static struct truth space;
+    fill(before, len, q->marks, 0);
+    fill(first, len, q->marks, 0);
+    fill(again, len, q->marks, 0xFF);
+    struct asked one = ask_make(q->rule, q->plan, first, len);
+    struct asked two = ask_make(q->rule, q->plan, again, len);
+    uint64_t answer = one.answer;
+    bool writes = answer <= 1 || answer >= refusal(14, 0, 0);
+    hold(one.unchanged && two.unchanged, "make wrote beside its buffer", answer, answer);
+    hold(answer == two.answer, "make answers twice", answer, two.answer);
+    hold(!writes || memcmp(first, again, len) == 0, "make writes twice", answer, answer);
+    hold(is_left_right(q, answer, before, first, len), "what make left", answer, answer);
+    if (!is_cheap(q))
+        return;
+    uint64_t due = second_make(&space, q->rule, q->plan, before, len);
+    hold(answer == due, "make", answer, due);
+    hold(memcmp(first, before, len) == 0, "what make made", answer, due);
+}
+
+/* The length of the table by the sizes of the rule and the plan, if they are there
+   and right. */
+static size_t right_length(const struct question *q)
+{
+    if (q->rule.len < 4 || q->plan.len < 6)
+        return 0;
+    unsigned parts = field2(q->rule.at), rows = field2(q->plan.at + 2) + field2(q->plan.at + 4);
+    return parts > MOST_PARTS || rows > MOST_ROWS ? 0 : table_length((int)parts, (int)rows);
+}
+
 int LLVMFuzzerTestOneInput(const uint8_t *data, size_t len);
 
 int LLVMFuzzerTestOneInput(const uint8_t *data, size_t len)
@@ -114,6 +179,8 @@ int LLVMFuzzerTestOneInput(const uint8_t *data, size_t len)
     struct question q = cut(data, len);
     try_check(&q);
     try_judge(&q);
+    try_make(&q, q.marks.len);
+    try_make(&q, right_length(&q));
     return 0;
 }
 

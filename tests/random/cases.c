@@ -9,6 +9,8 @@
 
 struct sheet case_rule, case_plan, case_marks;
 struct truth case_truth;
+const char *const kind_names[TRIGGER + 1] = { "",  "less", "equal", "not", "and", "or", "X",
+                                              "U", "R",    "Y",     "Z",   "S",   "T" };
 
 static int32_t clamp(int64_t n)
 {

@@ -15,6 +15,9 @@
 extern struct sheet case_rule, case_plan, case_marks;
 extern struct truth case_truth;
 
+/* The name of a kind, for a count. */
+extern const char *const kind_names[TRIGGER + 1];
+
 /* Make a case with the dice as they are. */
 void make_case(void);
 

@@ -1,5 +1,6 @@
 /*
- * examples.c: the worked examples.
+ * examples.c: the worked examples, checked and judged, and made where they say
+ * what comes of that.
  */
 #include "../support/examples.h"
 #include "../support/lend.h"
@@ -28,6 +29,19 @@ static void no_witness_serves(void)
     expect("E10 every witness is refused", all_refused);
 }
 
+/* A comparison on the one row of its plan is marked as it is judged, unless it
+   changes. */
+static void make_judged(const struct example *e)
+{
+    struct plan p;
+    if (decode_plan(slice_of(&plan), 1, &p) != 0 || p.rows != 1)
+        return;
+    start_marks(&marks, 1, 1);
+    *mark_byte(&marks, 0, 0) = e->answer == ALWAYS_TRUE;
+    uint64_t checked = e->answer == CHANGES ? refusal(10, 0, 0) : e->answer;
+    expect_make_as_checked(e->name, &rule, &plan, &marks, checked);
+}
+
 void test_examples(void)
 {
     for (size_t i = 0; i < example_count; i++) {
@@ -36,10 +50,12 @@ void test_examples(void)
         read_hex(&plan, e->plan);
         if (e->marks == NULL) {
             expect_judge(e->name, &rule, &plan, 0, e->row, e->answer);
+            make_judged(e);
             continue;
         }
         read_hex(&marks, e->marks);
         expect_check(e->name, &rule, &plan, &marks, e->answer);
+        expect_make_as_checked(e->name, &rule, &plan, &marks, e->answer);
     }
     no_witness_serves();
 }

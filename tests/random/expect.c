@@ -5,9 +5,11 @@
 
 #include "../../include/endless_run.h"
 #include "../support/lend.h"
+#include "dice.h"
 
 #include <inttypes.h>
 #include <stdio.h>
+#include <string.h>
 
 enum { MOST_PRINTED = 20 };
 
@@ -62,7 +64,7 @@ static bool unpacks(uint64_t answer)
     uint64_t packed = number * ((uint64_t)1 << 32) + endless_run_part(answer) * 65536u +
                       endless_run_row(answer);
     if (endless_run_is_refusal(answer))
-        return number >= 1 && number <= 12 && packed == answer &&
+        return number >= 1 && number <= 14 && packed == answer &&
                endless_run_verdict(answer) == 0 && endless_run_finding(answer) == -1;
     return packed == 0 && answer <= 2 && endless_run_verdict(answer) == (answer == 1) &&
            endless_run_finding(answer) == (int)answer;
@@ -118,4 +120,111 @@ bool expect_judge(const char *name, const struct sheet *rule, const struct sheet
     uint64_t second = second_judge(r, p, part, row);
     const char *fault = fault_in_answer(asked, second, answer);
     return count_answers(name, fault, answer, asked.answer, second);
+}
+
+/* ---- Make ---- */
+
+static void fill_at_random(struct sheet *buffer)
+{
+    for (size_t i = 0; i < buffer->len; i += 8) {
+        uint64_t bytes = next_random();
+        size_t left = buffer->len - i;
+        memcpy(buffer->at + i, &bytes, left < 8 ? left : 8);
+    }
+}
+
+static bool same_bytes(const struct sheet *a, const struct sheet *b)
+{
+    return a->len == b->len && memcmp(a->at, b->at, a->len) == 0;
+}
+
+/* The marks of the truth up to the part refused with 14, and marks of 0 above. */
+static void write_marks_up_to(struct sheet *marks, int part)
+{
+    const struct rule *rule = &truth_space.rule;
+    const struct plan *plan = &truth_space.plan;
+    start_marks(marks, rule->parts, plan->rows);
+    for (int i = 0; i <= part; i++) {
+        for (int row = 0; row < plan->rows; row++)
+            *mark_byte(marks, i, row) = holds(&truth_space, i, row);
+        put2(witness_bytes(marks, i), (unsigned)serving_witness(marks, rule, plan, i, plan->start));
+    }
+}
+
+/* Does check say of the table made, or of the table of the truth where none can be
+   made, what make says? */
+static bool as_check_has_it(struct slice rule, struct slice plan, const struct sheet *made,
+                            uint64_t answer)
+{
+    static struct sheet of_truth;
+    if (!endless_run_is_refusal(answer))
+        return ask_check(rule, plan, slice_of(made)).answer == answer;
+    if (endless_run_number(answer) != ENDLESS_RUN_NO_TABLE)
+        return true;
+    int part = (int)endless_run_part(answer), row = (int)endless_run_row(answer);
+    write_marks_up_to(&of_truth, part);
+    return ask_check(rule, plan, slice_of(&of_truth)).answer == refusal(10, part, row);
+}
+
+bool expect_make(const char *name, const struct sheet *rule, const struct sheet *plan,
+                 struct sheet *buffer, uint64_t answer)
+{
+    static struct sheet due;
+    struct slice r = slice_of(rule), p = slice_of(plan);
+    fill_at_random(buffer);
+    due.len = buffer->len;
+    memcpy(due.at, buffer->at, buffer->len);
+    uint64_t second = second_make(&truth_space, r, p, due.at, due.len);
+    struct asked asked = ask_make(r, p, buffer->at, buffer->len);
+    const char *fault = fault_in_answer(asked, second, answer);
+    if (fault == NULL && !same_bytes(buffer, &due))
+        fault = "the buffer is not left as it should be";
+    if (fault == NULL && !as_check_has_it(r, p, buffer, asked.answer))
+        fault = "the check has it otherwise";
+    return count_answers(name, fault, answer, asked.answer, second);
+}
+
+void expect_made(const char *name, const struct sheet *rule, const struct sheet *plan,
+                 const struct sheet *marks, uint64_t verdict)
+{
+    static struct sheet buffer;
+    resize(&buffer, marks->len);
+    if (expect_make(name, rule, plan, &buffer, verdict))
+        count(name, same_bytes(&buffer, marks) ? NULL : "another table is made");
+}
+
+void expect_make_as_checked(const char *name, const struct sheet *rule, const struct sheet *plan,
+                            const struct sheet *marks, uint64_t checked)
+{
+    static struct sheet buffer;
+    resize(&buffer, marks->len);
+    if (!endless_run_is_refusal(checked))
+        expect_made(name, rule, plan, marks, checked);
+    else if (endless_run_number(checked) == ENDLESS_RUN_CLOSING)
+        expect_make(name, rule, plan, &buffer,
+                    refusal(14, (int)endless_run_part(checked), (int)endless_run_row(checked)));
+}
+
+/* ---- Random cases ---- */
+
+void hold_to_floor(const char *name, unsigned long n, unsigned long cases, unsigned long in_10000)
+{
+    unsigned long floor = cases * in_10000 / 10000;
+    if (floor == 0)
+        floor = 1;
+    printf("  %-44s %8lu   floor %lu\n", name, n, floor);
+    if (n < floor) {
+        printf("FAILED %s: below the floor\n", name);
+        failed++;
+    } else {
+        passed++;
+    }
+}
+
+void print_sheet(const char *name, const struct sheet *sheet)
+{
+    printf("  %s (%zu bytes)", name, sheet->len);
+    for (size_t i = 0; i < sheet->len && i < 400; i++)
+        printf(" %02X", sheet->at[i]);
+    printf("%s\n", sheet->len > 400 ? " .." : "");
 }

@@ -23,9 +23,34 @@ bool expect_check(const char *name, const struct sheet *rule, const struct sheet
 bool expect_judge(const char *name, const struct sheet *rule, const struct sheet *plan,
                   uint64_t part, uint64_t row, uint64_t answer);
 
+/* The same of make. The buffer is lent with its length and with random bytes. What
+   is left in it must be what the second evaluator leaves, and the guard bytes
+   must stand. A table made must be accepted with the same verdict; where none can
+   be, even the table of the truth must be refused for the same part and row. The
+   truth space then has the rule and the plan, if they are right ones. */
+bool expect_make(const char *name, const struct sheet *rule, const struct sheet *plan,
+                 struct sheet *buffer, uint64_t answer);
+
+/* Make makes this very table, with this verdict. */
+void expect_made(const char *name, const struct sheet *rule, const struct sheet *plan,
+                 const struct sheet *marks, uint64_t verdict);
+
+/* What check says of a table, said of make: one that is accepted, and has the
+   lowest witnesses, is the table made; one that is refused with 10 says that none
+   can be made, for the same part and row. Other answers say nothing. */
+void expect_make_as_checked(const char *name, const struct sheet *rule, const struct sheet *plan,
+                            const struct sheet *marks, uint64_t checked);
+
+/* Print a count, and fail if it is below its floor: so many in 10000 cases. */
+void hold_to_floor(const char *name, unsigned long n, unsigned long cases, unsigned long in_10000);
+
+/* Print the bytes of a sheet, for a case that failed. */
+void print_sheet(const char *name, const struct sheet *sheet);
+
 /* The groups of tests. */
 void test_examples(void);
 void test_neighbours(void);
+void test_making(void);
 void test_vectors(void);
 void test_header(void);
 void test_random(uint64_t seed, unsigned long cases);

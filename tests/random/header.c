@@ -81,7 +81,8 @@ static void put_marks(int part, const char *of_rows, unsigned witness)
     put2(witness_bytes(&marks, part), witness);
 }
 
-/* Whatever the kind, its own marks are accepted and those of the others are not. */
+/* Whatever the kind, its own marks are made and accepted, and those of the others
+   are not. */
 static void kinds(void)
 {
     put_readings();
@@ -93,6 +94,7 @@ static void kinds(void)
         put_marks(1, equal_marks, ENDLESS_RUN_NO_WITNESS);
         put_marks(2, o->marks, o->witness);
         expect_check(o->name, &rule, &plan, &marks, o->marks[0] == '1');
+        expect_made(o->name, &rule, &plan, &marks, o->marks[0] == '1');
         put2(witness_bytes(&marks, 2), ENDLESS_RUN_NO_WITNESS - 1);
         expect_check("65534 is no witness", &rule, &plan, &marks, refusal(11, 2, 0));
         for (int other = 0; other < OPERATORS; other++) {
@@ -194,12 +196,41 @@ static void sizes(void)
     length_off_by(-1);
 }
 
+/* ---- Make ---- */
+
+static uint64_t make(size_t len)
+{
+    resize(&marks, len);
+    return endless_run_make(rule.at, rule.len, plan.at, plan.len, marks.at, marks.len);
+}
+
+static void maker(void)
+{
+    size_t len = ENDLESS_RUN_MARKS_LENGTH(1, ROWS);
+    put_readings();
+    start_rule(&rule, 1, CHANNELS);
+    put_comparison(0, ENDLESS_RUN_KIND_LESS, 0, 0, 5);
+    expect("made, and false at position 0", make(len) == 0);
+    put_comparison(0, ENDLESS_RUN_KIND_LESS, 0, 0, 10);
+    expect("made, and true at position 0", endless_run_verdict(make(len)) == 1);
+    const uint8_t *witness = witness_bytes(&marks, 0);
+    expect("no witness is asked for", witness[0] + 256 * witness[1] == ENDLESS_RUN_NO_WITNESS);
+    expect("refused for the length",
+           endless_run_number(make(len + 1)) == ENDLESS_RUN_BUFFER_LENGTH);
+    write_drift(&plan, START, 0, 1);
+    uint64_t none = make(len);
+    expect("no table", endless_run_number(none) == ENDLESS_RUN_NO_TABLE &&
+                           endless_run_row(none) == START && endless_run_verdict(none) == 0);
+}
+
 /* ---- Messages ---- */
 
 /* A word of each refusal's text. */
-static const char *const words[13] = {
+enum { REFUSALS = 14 };
+static const char *const words[REFUSALS + 1] = {
     "",           "rule's",    "kind",     "operand", "plan's",  "channels",   "start row",
-    "mark table", "mark byte", "equation", "passes",  "witness", "comparison",
+    "mark table", "mark byte", "equation", "passes",  "witness", "comparison", "buffer",
+    "no mark table",
 };
 
 static bool says(const char *text, const char *word)
@@ -215,36 +246,47 @@ static bool same_text(const char *a, const char *b)
 /* Texts that tell apart what they are for. */
 static void messages(void)
 {
-    static const uint64_t no_answer[] = { 3, UINT32_MAX, (uint64_t)13 << 32, UINT64_MAX };
-    const char *texts[18];
+    static const uint64_t no_answer[] = { 3, UINT32_MAX, (uint64_t)15 << 32, UINT64_MAX };
+    const char *texts[REFUSALS + 8];
     int count = 0;
-    for (int number = 1; number <= 12; number++) {
+    for (int number = 1; number <= REFUSALS; number++) {
         const char *text = endless_run_message(refusal(number, 0, 0));
         expect("message of a refusal", says(text, words[number]));
         expect("message by the number alone",
                same_text(text, endless_run_message(refusal(number, 63, 255))));
         expect("judge's message of a refusal",
                same_text(text, endless_run_judge_message(refusal(number, 63, 255))));
+        expect("make's message of a refusal",
+               same_text(text, endless_run_make_message(refusal(number, 63, 255))));
         texts[count++] = text;
     }
+    const char *none = texts[count++] = endless_run_message(2); /* of judge alone */
+    const char *const *checked = texts + count;
     texts[count++] = endless_run_message(0);
     texts[count++] = endless_run_message(1);
-    texts[count++] = endless_run_message(2); /* of judge alone */
-    for (uint64_t judged = 0; judged <= 2; judged++)
-        texts[count++] = endless_run_judge_message(judged);
-    expect("message: false", says(texts[12], "accepted") && says(texts[12], "false"));
-    expect("message: true", says(texts[13], "accepted") && says(texts[13], "true"));
-    expect("message: no answer", says(texts[14], "not an answer"));
-    expect("message: always false", says(texts[15], "always false"));
-    expect("message: always true", says(texts[16], "always true"));
-    expect("message: changes", says(texts[17], "changes"));
+    const char *const *judged = texts + count;
+    for (uint64_t finding = 0; finding <= 2; finding++)
+        texts[count++] = endless_run_judge_message(finding);
+    const char *const *made = texts + count;
+    texts[count++] = endless_run_make_message(0);
+    texts[count++] = endless_run_make_message(1);
+    expect("message: no answer", says(none, "not an answer"));
+    expect("message: false", says(checked[0], "accepted") && says(checked[0], "false"));
+    expect("message: true", says(checked[1], "accepted") && says(checked[1], "true"));
+    expect("message: always false", says(judged[0], "always false"));
+    expect("message: always true", says(judged[1], "always true"));
+    expect("message: changes", says(judged[2], "changes"));
+    expect("message: made, false", says(made[0], "made") && says(made[0], "false"));
+    expect("message: made, true", says(made[1], "made") && says(made[1], "true"));
+    expect("make's message: no answer", same_text(none, endless_run_make_message(2)));
     for (int i = 0; i < count; i++)
         for (int k = 0; k < i; k++)
             expect("two messages", texts[i] != NULL && !same_text(texts[i], texts[k]));
     for (size_t i = 0; i < sizeof no_answer / sizeof no_answer[0]; i++)
         expect("message of no answer",
-               same_text(texts[14], endless_run_message(no_answer[i])) &&
-                   same_text(texts[14], endless_run_judge_message(no_answer[i])));
+               same_text(none, endless_run_message(no_answer[i])) &&
+                   same_text(none, endless_run_judge_message(no_answer[i])) &&
+                   same_text(none, endless_run_make_message(no_answer[i])));
 }
 
 void test_header(void)
@@ -252,5 +294,6 @@ void test_header(void)
     kinds();
     shifts();
     sizes();
+    maker();
     messages();
 }

@@ -3,7 +3,8 @@
  * the order of the refusals. E12, the full sizes, is among them.
  *
  * The base is a rule with one part of each kind, part k - 1 being of kind k, on
- * a plan of two start rows and two cycle rows. Its table is written by hand.
+ * a plan of two start rows and two cycle rows. Its table is written by hand. The
+ * refusals of make alone are in making.c.
  */
 #include "expect.h"
 
@@ -83,18 +84,24 @@ static void judge(const char *name, uint64_t part, uint64_t row, uint64_t answer
     base();
 }
 
-/* Both functions refuse the rule or the plan alike. */
-static void refuse_both(const char *name, uint64_t answer)
+/* All functions refuse the rule or the plan alike. */
+static void refuse_all(const char *name, uint64_t answer)
 {
+    static struct sheet buffer;
+    resize(&buffer, marks.len);
     expect_judge(name, &rule, &plan, 0, 0, answer);
+    expect_make(name, &rule, &plan, &buffer, answer);
     check(name, answer);
 }
 
-/* The sheets as they stand, with the table that is true of them, are accepted. */
+/* The sheets as they stand, with the table that is true of them, are accepted, and
+   this table is the one that is made. */
 static void accept_with_true_marks(const char *name)
 {
     write_true_marks_of(&marks, &truth_space, &rule, &plan);
-    check(name, *mark_byte(&marks, truth_space.rule.parts - 1, 0));
+    uint64_t verdict = *mark_byte(&marks, truth_space.rule.parts - 1, 0);
+    expect_made(name, &rule, &plan, &marks, verdict);
+    check(name, verdict);
 }
 
 /* ---- Refusal 1 ---- */
@@ -109,22 +116,23 @@ static void accept_rule_of(const char *name, int parts, int channels)
 static void refuse_rule_of(const char *name, int parts, int channels)
 {
     start_rule(&rule, parts, channels);
-    refuse_both(name, refusal(1, 0, 0));
+    refuse_all(name, refusal(1, 0, 0));
 }
 
 static void rule_sizes(void)
 {
+    expect_made("base", &rule, &plan, &marks, 1);
     check("base", 1);
     for (size_t len = 0; len < 4; len++) {
         resize(&rule, len);
-        refuse_both("rule of fewer than 4 bytes", refusal(1, 0, 0));
+        refuse_all("rule of fewer than 4 bytes", refusal(1, 0, 0));
     }
     resize(&rule, rule.len - 1);
-    refuse_both("rule one byte short", refusal(1, 0, 0));
+    refuse_all("rule one byte short", refusal(1, 0, 0));
     resize(&rule, rule.len + 1);
-    refuse_both("rule one byte long", refusal(1, 0, 0));
+    refuse_all("rule one byte long", refusal(1, 0, 0));
     resize(&rule, rule.len - 13);
-    refuse_both("rule one part short", refusal(1, 0, 0));
+    refuse_all("rule one part short", refusal(1, 0, 0));
 
     refuse_rule_of("N 0", 0, 1);
     accept_rule_of("N 1", 1, 1);
@@ -133,9 +141,9 @@ static void rule_sizes(void)
     refuse_rule_of("N 256", 256, 1);
     refuse_rule_of("N 257", 257, 1);
     put2(rule.at, 0);
-    refuse_both("N 0 in a longer rule", refusal(1, 0, 0));
+    refuse_all("N 0 in a longer rule", refusal(1, 0, 0));
     put2(rule.at, 65535);
-    refuse_both("N 65535", refusal(1, 0, 0));
+    refuse_all("N 65535", refusal(1, 0, 0));
 
     refuse_rule_of("V 0", 1, 0);
     accept_rule_of("V 1", 1, 1);
@@ -153,14 +161,14 @@ static void kinds(void)
     for (size_t i = 0; i < sizeof wrong; i++)
         for (int part = 0; part < 12; part++) {
             *kind_byte(&rule, part) = wrong[i];
-            refuse_both("kind byte", refusal(2, part, 0));
+            refuse_all("kind byte", refusal(2, part, 0));
         }
     *kind_byte(&rule, 9) = 0;
     *kind_byte(&rule, 4) = 13;
-    refuse_both("lowest wrong kind", refusal(2, 4, 0));
+    refuse_all("lowest wrong kind", refusal(2, 4, 0));
     operand_bytes(&rule, 0)[0] = 2;
     *kind_byte(&rule, 11) = 13;
-    refuse_both("a kind before a lower operand", refusal(2, 11, 0));
+    refuse_all("a kind before a lower operand", refusal(2, 11, 0));
 }
 
 /* ---- Refusal 3 ---- */
@@ -207,7 +215,7 @@ static void terms_of(enum kind kind, bool left)
     }
     for (size_t i = 0; i < sizeof wrong / sizeof wrong[0]; i++) {
         one_comparison(kind, left, wrong[i].form, wrong[i].code, wrong[i].number);
-        refuse_both("term out of order", refusal(3, 0, 0));
+        refuse_all("term out of order", refusal(3, 0, 0));
     }
     for (int code = 0; code <= 8; code++) {
         one_comparison(kind, left, 1, (uint8_t)code, 2);
@@ -221,17 +229,17 @@ static void named_parts(int part)
     static const int wrong[] = { 256, 257, 65535, 63, 64 };
     for (int i = 0; i < named; i++) {
         put2(operand_bytes(&rule, part) + 2 * i, (unsigned)part);
-        refuse_both("part that names itself", refusal(3, part, 0));
+        refuse_all("part that names itself", refusal(3, part, 0));
         put2(operand_bytes(&rule, part) + 2 * i, (unsigned)part + 1);
-        refuse_both("part that names a higher one", refusal(3, part, 0));
+        refuse_all("part that names a higher one", refusal(3, part, 0));
         for (size_t k = 0; k < sizeof wrong / sizeof wrong[0]; k++) {
             put2(operand_bytes(&rule, part) + 2 * i, (unsigned)wrong[k]);
-            refuse_both("part that names an absent one", refusal(3, part, 0));
+            refuse_all("part that names an absent one", refusal(3, part, 0));
         }
     }
     for (int i = 2 * named; i < 12; i++) {
         operand_bytes(&rule, part)[i] = i % 2 ? 1 : 128;
-        refuse_both("padding that is not 0", refusal(3, part, 0));
+        refuse_all("padding that is not 0", refusal(3, part, 0));
     }
 }
 
@@ -246,14 +254,14 @@ static void operands(void)
     for (int kind = 3; kind <= 12; kind++) {
         start_rule(&rule, 1, 2);
         write_unary(&rule, 0, (enum kind)kind, 0);
-        refuse_both("part 0 can name nothing", refusal(3, 0, 0));
+        refuse_all("part 0 can name nothing", refusal(3, 0, 0));
     }
     put2(operand_bytes(&rule, 9), 9);
     put2(operand_bytes(&rule, 5), 5);
-    refuse_both("lowest wrong operand", refusal(3, 5, 0));
+    refuse_all("lowest wrong operand", refusal(3, 5, 0));
     put2(operand_bytes(&rule, 9), 9);
     resize(&plan, 0);
-    refuse_both("an operand before the plan", refusal(3, 9, 0));
+    refuse_all("an operand before the plan", refusal(3, 9, 0));
     write_unary(&rule, 11, NEXT, 10);
     accept_with_true_marks("the highest lower part");
 }
@@ -277,21 +285,21 @@ static void refuse_plan_of(const char *name, int channels, int start, int cycle)
     put2(plan.at + 2, (unsigned)start);
     put2(plan.at + 4, (unsigned)cycle);
     resize(&plan, len < SHEET_LONGEST ? len : 14);
-    refuse_both(name, refusal(4, 0, 0));
+    refuse_all(name, refusal(4, 0, 0));
 }
 
 static void plan_sizes(void)
 {
     for (size_t len = 0; len < 6; len++) {
         resize(&plan, len);
-        refuse_both("plan of fewer than 6 bytes", refusal(4, 0, 0));
+        refuse_all("plan of fewer than 6 bytes", refusal(4, 0, 0));
     }
     resize(&plan, 6);
-    refuse_both("plan of sizes only", refusal(4, 0, 0));
+    refuse_all("plan of sizes only", refusal(4, 0, 0));
     resize(&plan, plan.len - 1);
-    refuse_both("plan one byte short", refusal(4, 0, 0));
+    refuse_all("plan one byte short", refusal(4, 0, 0));
     resize(&plan, plan.len + 1);
-    refuse_both("plan one byte long", refusal(4, 0, 0));
+    refuse_all("plan one byte long", refusal(4, 0, 0));
 
     refuse_plan_of("plan V 0", 0, 1, 1);
     refuse_plan_of("plan V 9", 9, 1, 1);
@@ -314,7 +322,7 @@ static void plan_sizes(void)
     start_plan(&plan, 2, 1, 1);
     put2(plan.at + 2, 65535);
     put2(plan.at + 4, 3);
-    refuse_both("W that wraps to 2", refusal(4, 0, 0));
+    refuse_all("W that wraps to 2", refusal(4, 0, 0));
 }
 
 /* ---- Refusals 5 and 6 ---- */
@@ -322,15 +330,15 @@ static void plan_sizes(void)
 static void channels(void)
 {
     start_plan(&plan, 1, 2, 2);
-    refuse_both("plan of fewer channels", refusal(5, 0, 0));
+    refuse_all("plan of fewer channels", refusal(5, 0, 0));
     start_plan(&plan, 3, 2, 2);
-    refuse_both("plan of more channels", refusal(5, 0, 0));
+    refuse_all("plan of more channels", refusal(5, 0, 0));
     start_plan(&plan, 3, 2, 2);
     write_drift(&plan, 0, 0, 1);
-    refuse_both("channels before start drifts", refusal(5, 0, 0));
+    refuse_all("channels before start drifts", refusal(5, 0, 0));
     start_plan(&plan, 3, 2, 2);
     resize(&plan, plan.len - 1);
-    refuse_both("plan sizes before channels", refusal(4, 0, 0));
+    refuse_all("plan sizes before channels", refusal(4, 0, 0));
 }
 
 static void start_drifts(void)
@@ -339,14 +347,14 @@ static void start_drifts(void)
         for (int channel = 0; channel < 2; channel++)
             for (int i = 0; i < 4; i++) {
                 drift_bytes(&plan, row, channel)[i] = i % 2 ? 1 : 128;
-                refuse_both("drift in a start row", refusal(6, 0, row));
+                refuse_all("drift in a start row", refusal(6, 0, row));
             }
     write_drift(&plan, 1, 0, 1);
     write_drift(&plan, 0, 1, 1);
-    refuse_both("lowest start row with a drift", refusal(6, 0, 0));
+    refuse_all("lowest start row with a drift", refusal(6, 0, 0));
     write_drift(&plan, 1, 1, -1);
     resize(&marks, 0);
-    refuse_both("a start drift before the table", refusal(6, 0, 1));
+    refuse_all("a start drift before the table", refusal(6, 0, 1));
     write_drift(&plan, 2, 1, 1);
     check("drift in the first cycle row, y rises from 30", 1);
     write_drift(&plan, 3, 1, -1);
@@ -359,7 +367,7 @@ static void start_drifts(void)
     start_rule(&rule, 1, 1);
     start_plan(&plan, 1, 255, 1);
     write_drift(&plan, 254, 0, 1);
-    refuse_both("drift in start row 254", refusal(6, 0, 254));
+    refuse_all("drift in start row 254", refusal(6, 0, 254));
 }
 
 /* ---- Refusals 7 and 8 ---- */
@@ -455,6 +463,7 @@ static void past_on(enum kind kind, int start, int cycle, const int32_t *a, cons
         write_reading(&plan, row, 1, b[row]);
     }
     write_true_marks_of(&marks, &truth_space, &rule, &plan);
+    expect_make_as_checked(name, &rule, &plan, &marks, answer);
     check(name, answer);
 }
 
@@ -482,6 +491,7 @@ static void closing(void)
     /* The lowest of the rows on which a comparison changes. */
     write_drift(&plan, 2, 0, 1);
     write_drift(&plan, 3, 0, 1);
+    expect_make_as_checked("lowest changing row", &rule, &plan, &marks, refusal(10, 1, 2));
     check("lowest changing row", refusal(10, 1, 2));
 }
 

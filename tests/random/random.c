@@ -7,6 +7,7 @@
 #include "cases.h"
 #include "dice.h"
 #include "expect.h"
+#include "random.h"
 
 #include "../../include/endless_run.h"
 
@@ -89,26 +90,8 @@ static void count_judge(uint64_t answer, uint64_t part, uint64_t row)
         counts.stepped_over += settled_pass(&p, f, (int)row) > LINES_FROM + 1;
 }
 
-/* Print a count, and fail if it is below its floor: so many in 10000 cases. */
-static void hold_to_floor(const char *name, unsigned long n, unsigned long cases,
-                          unsigned long in_10000)
-{
-    unsigned long floor = cases * in_10000 / 10000;
-    if (floor == 0)
-        floor = 1;
-    printf("  %-44s %8lu   floor %lu\n", name, n, floor);
-    if (n < floor) {
-        printf("FAILED %s: below the floor\n", name);
-        failed++;
-    } else {
-        passed++;
-    }
-}
-
 static void print_counts(unsigned long cases)
 {
-    static const char *const kind_names[] = { "",    "less", "equal", "not", "and", "or",   "X",
-                                              "U",   "R",    "Y",     "Z",   "S",   "T" };
     static const unsigned long refusal_floors[] = { 0,  50, 20, 20,  50,  10, 10,
                                                     50, 50, 500, 500, 500, 500 };
     char name[64];
@@ -140,14 +123,6 @@ static void print_counts(unsigned long cases)
 }
 
 /* ---- Questions ---- */
-
-static void print_sheet(const char *name, const struct sheet *sheet)
-{
-    printf("  %s (%zu bytes)", name, sheet->len);
-    for (size_t i = 0; i < sheet->len && i < 400; i++)
-        printf(" %02X", sheet->at[i]);
-    printf("%s\n", sheet->len > 400 ? " .." : "");
-}
 
 static void ask_about_table(const char *name)
 {
@@ -220,7 +195,10 @@ void test_random(uint64_t seed, unsigned long cases)
         make_case();
         ask_about_table(name);
         ask_about_comparison(name);
+        ask_for_table(name);
         ask_about_new_comparison(name);
+        ask_for_table(name);
     }
     print_counts(cases);
+    print_make_counts(cases);
 }

@@ -1,16 +1,18 @@
 /*
  * second.h: a second evaluator for the endless run checker.
  *
- * It gives the answers of check and judge by another way than the checker and
- * shares no code with it. Truth is found from the published sentences by going
- * through the positions of the run ("b at some j from t on, and a from t to
- * j - 1"), and a comparison is judged by looking at its passes. It is made to
+ * It gives the answers of check, judge and make by another way than the checker
+ * and shares no code with it. Truth is found from the published sentences by
+ * going through the positions of the run ("b at some j from t on, and a from t
+ * to j - 1"), and a comparison is judged by looking at its passes. It is made to
  * be believed, not to be fast.
  *
  *   sheets.c    the three byte layouts, refusals 1 to 8
  *   run.c       readings and comparisons at a position, judging by passes
  *   truth.c     the published truth of every part at every position
- *   answers.c   the answers: refusal by refusal, and from the truth alone
+ *   answers.c   the answers of check and judge: refusal by refusal, and from
+ *               the truth alone
+ *   make.c      the mark table of the truth, and the answers of make
  */
 #ifndef SECOND_H
 #define SECOND_H
@@ -157,5 +159,22 @@ uint64_t second_judge(struct slice rule, struct slice plan, uint64_t part, uint6
 enum acceptance { NOT_A_TABLE, REFUSED, ACCEPTED_FALSE, ACCEPTED_TRUE };
 enum acceptance second_acceptance(struct truth *space, struct slice rule, struct slice plan,
                                   struct slice marks);
+
+/* ---- Mark tables (make.c) ---- */
+
+/* The length of the mark table of so many parts on so many rows. */
+size_t table_length(int parts, int rows);
+
+/* Write the mark table of the truth, of table_length() bytes: the truth at the
+   first position of each row, and the lowest witnesses that serve. The truth of
+   all parts has been found, and may be such that the table is refused. */
+void write_table(const struct truth *truth, uint8_t *at);
+
+/* The answer of make: refusals 1 to 6, then 13, then 14 for the lowest part that
+   is not row-periodic, else the truth of the last part at position 0. The buffer
+   of that length is left as make has to leave it. The space is written over;
+   after 14 it holds the truth of the parts up to the one refused. */
+uint64_t second_make(struct truth *space, struct slice rule, struct slice plan, uint8_t *buffer,
+                     size_t len);
 
 #endif

@@ -11,12 +11,12 @@
 #include <string.h>
 #include <sys/mman.h>
 
-enum { PAGE = 65536, PLACE = 16 * PAGE, LENDERS = 3 };
+enum { PAGE = 65536, PLACE = 16 * PAGE, LENDERS = 3, GUARD = 512, GUARD_BYTE = 0xA5 };
 
 /* A place to lend from, between two pages with no access. */
 struct lender {
     uint8_t *place;
-    unsigned turns;
+    uint32_t turns;
 };
 
 static struct lender lenders[LENDERS];
@@ -31,16 +31,23 @@ static void open_lender(struct lender *lender)
     lender->place = map + PAGE;
 }
 
-/* Copy the bytes to the place, at its end and at its beginning in turn. */
-static const uint8_t *lend(struct lender *lender, struct slice bytes)
+/* Whether to lend at the end of the place or at its beginning. Whoever lends every
+   second time, or every fifth, meets both as often. */
+static bool take_turn(struct lender *lender)
+{
+    return (lender->turns++ * 0x9E3779B9u) >> 31 == 0;
+}
+
+/* Copy the bytes to the place, at its end or at its beginning. */
+static uint8_t *lend(struct lender *lender, struct slice bytes)
 {
     if (lender->place == NULL)
         open_lender(lender);
-    if (bytes.len > PLACE) {
+    if (bytes.len > PLACE - GUARD) {
         fprintf(stderr, "lend: a slice of %zu bytes\n", bytes.len);
         exit(2);
     }
-    bool at_end = lender->turns++ % 2 == 0;
+    bool at_end = take_turn(lender);
     if (bytes.len == 0)
         return at_end ? lender->place + PLACE : NULL;
     uint8_t *at = at_end ? lender->place + PLACE - bytes.len : lender->place;
@@ -68,4 +75,34 @@ struct asked ask_judge(struct slice rule, struct slice plan, uint64_t part, uint
     const uint8_t *p = lend(&lenders[1], plan);
     uint64_t answer = endless_run_judge(r, rule.len, p, plan.len, part, row);
     return (struct asked){ answer, same(r, rule) && same(p, plan) };
+}
+
+/* The guard bytes beside a buffer: before one at the end of the place, behind one
+   at its beginning. */
+static uint8_t *guard_of(const struct lender *lender, uint8_t *buffer, size_t len)
+{
+    bool at_end = buffer != NULL && buffer != lender->place;
+    return at_end ? buffer - GUARD : lender->place + len;
+}
+
+static bool stands(const uint8_t *guard)
+{
+    for (int i = 0; i < GUARD; i++)
+        if (guard[i] != GUARD_BYTE)
+            return false;
+    return true;
+}
+
+struct asked ask_make(struct slice rule, struct slice plan, uint8_t *buffer, size_t len)
+{
+    const uint8_t *r = lend(&lenders[0], rule);
+    const uint8_t *p = lend(&lenders[1], plan);
+    uint8_t *m = lend(&lenders[2], (struct slice){ buffer, len });
+    uint8_t *guard = guard_of(&lenders[2], m, len);
+    memset(guard, GUARD_BYTE, GUARD);
+    uint64_t answer = endless_run_make(r, rule.len, p, plan.len, m, len);
+    bool unchanged = same(r, rule) && same(p, plan) && stands(guard);
+    if (len > 0)
+        memcpy(buffer, m, len);
+    return (struct asked){ answer, unchanged };
 }

@@ -2,10 +2,13 @@
  * lend.h: calls of the checker on bytes that are watched.
  *
  * Each slice is lent from a place of its own that has a page with no access on
- * either side, and lies hard against one of the two in turn. A checker that
- * reads past the end of a slice, or before its beginning, stops the program.
- * After the call every byte is held against what was lent. An empty slice is
- * lent by a null pointer every other time.
+ * either side, and lies hard against one of the two, now this one, now that. A
+ * checker that reads past the end of a slice, or before its beginning, stops
+ * the program. After the call every byte is held against what was lent. An
+ * empty slice is lent by a null pointer as often as not.
+ *
+ * The buffer of make is lent in the same way. On its open side are guard bytes,
+ * which are held against what they were as well.
  */
 #ifndef LEND_H
 #define LEND_H
@@ -20,5 +23,9 @@ struct asked {
 
 struct asked ask_check(struct slice rule, struct slice plan, struct slice marks);
 struct asked ask_judge(struct slice rule, struct slice plan, uint64_t part, uint64_t row);
+
+/* The buffer is lent with the bytes that it has, and has afterwards those that
+   the call left. Unchanged: the rule, the plan and the guard bytes. */
+struct asked ask_make(struct slice rule, struct slice plan, uint8_t *buffer, size_t len);
 
 #endif

@@ -194,15 +194,8 @@ int serving_witness(const struct sheet *marks, const struct rule *rule, const st
 
 void write_true_marks(struct sheet *marks, const struct truth *truth)
 {
-    const struct rule *rule = &truth->rule;
-    const struct plan *plan = &truth->plan;
-    start_marks(marks, rule->parts, plan->rows);
-    for (int part = 0; part < rule->parts; part++)
-        for (int row = 0; row < plan->rows; row++)
-            *mark_byte(marks, part, row) = holds(truth, part, row);
-    for (int part = 0; part < rule->parts; part++)
-        put2(witness_bytes(marks, part),
-             (unsigned)serving_witness(marks, rule, plan, part, plan->start));
+    marks->len = table_length(truth->rule.parts, truth->plan.rows);
+    write_table(truth, marks->at);
 }
 
 void write_true_marks_of(struct sheet *marks, struct truth *space, const struct sheet *rule,

@@ -1,6 +1,5 @@
 -- The check by the tests that it makes, one law for each way out. Assumes nothing.
-use Prim.Native.Nat.{ℕ, _-_, _≤_, _<_}
-use native.Mathlib.Omega.{arith}
+use Prim.Native.Nat.{ℕ, _-_}
 use mathlib.Core.Path.{_≡_, sym, ap, ap₂, _∙_}
 use mathlib.Core.List.{List}
 use mathlib.Core.Bool.{Bool}
@@ -9,7 +8,6 @@ use Rattle.refusal.specs.declared.Outcome.the-variants.{Clear, Refused}
 use Rattle.refusal.specs.declared.Refusal.{Refusal}
 use Rattle.refusal.specs.First.{_orElse_}
 use Rattle.rule.specs.Layout.{partCount}
-use Rattle.rule.proofs.Cleared.{cleared-counts}
 use Rattle.plan.specs.Layout.{rows}
 use Rattle.plan.specs.declared.sizes.Sizes.{Sizes}
 use Rattle.plan.specs.inner.Sizes.{allRows}
@@ -17,6 +15,7 @@ use Rattle.plan.proofs.Fits.{rows-are}
 use Rattle.inputs.specs.Outcome.{inputsOutcome}
 use Rattle.inputs.specs.inner.Read.{Ready}
 use Rattle.inputs.proofs.Ways.{both-ready}
+use Rattle.inputs.proofs.Parts.{few-there}
 use Rattle.table.specs.Layout.{marked, tableOutcome}
 use Rattle.marks.proofs.MarkNames.{cleared-sized}
 use Rattle.acceptance.specs.declared.Checked.the-variants as C
@@ -29,9 +28,6 @@ module _ (rule plan table : List ℕ) where
   inputs-refused e = simp e
 
   module _ {n : ℕ} {z : Sizes} (ready : Ready rule plan n z) where
-    pub table-small : (n ≤ 64) × (allRows z ≤ 256)
-    table-small = (omega (arith, cleared-counts rule (ready .sheet) .1, ready .parts), ready .fits .few-rows)
-
     own-table : tableOutcome n (allRows z) table ≡ tableOutcome (partCount rule) (rows plan) table
     own-table = ap₂ (λ (n w : ℕ). tableOutcome n w table) (ready .parts) (sym (rows-are (ready .fits)))
 
@@ -44,7 +40,7 @@ module _ (rule plan table : List ℕ) where
       f = sym d ∙ c
 
       pub prepared : Prepared rule plan table n z
-      prepared = record { ready = ready; sized = cleared-sized n (allRows z) table (table-small .0) (table-small .1) f }
+      prepared = record { ready = ready; sized = cleared-sized n (allRows z) table (few-there rule plan ready .0) (few-there rule plan ready .1) f }
 
       pub parts-refused : {o : Outcome} {r : Refusal} → o ≡ partsOutcome rule plan table → o ≡ Refused r → C.Refused r ≡ checkOf rule plan table
       unfolding checkOf answered checkOutcome _orElse_
@@ -56,11 +52,3 @@ module _ (rule plan table : List ℕ) where
       all-accepted e h m =
           ap C.Accepted (m ∙ ap₂ (λ (n w : ℕ). marked w table (n - 1) 0) (ready .parts) (sym (rows-are (ready .fits))))
           ∙ simp (both-ready rule plan ready, sym own-table ∙ f, sym e ∙ h)
-
-      -- the whole rule is a part, and row 0 a row
-      pub last-there : (1 ≤ n) × (n - 1 < n) × (0 < allRows z)
-      last-there =
-          let k = cleared-counts rule (ready .sheet) .0 in
-          let m = ready .parts in
-          let a = ready .fits .a-cycle in
-          (omega arith, omega arith, omega arith)

@@ -5,7 +5,6 @@ use mathlib.Core.Path.{_≡_, refl, sym, ap, ap₂, _∙_, subst}
 use mathlib.Core.List.{List}
 use mathlib.Core.Bool.{Bool, true, false, cond}
 use Rattle.cltlb.specs.Views.{viewOf}
-use Rattle.cltlb.specs.Fits.{viewFits}
 use Rattle.cltlb.specs.declared.Part.{Part}
 use Rattle.cltlb.specs.declared.View.{View}
 use Rattle.cltlb.proofs.Fits.{view-more}
@@ -16,15 +15,14 @@ use Rattle.refusal.specs.declared.Refusal.{Refusal}
 use Rattle.refusal.specs.declared.Refusal.the-variants.{Equation}
 use Rattle.refusal.proofs.First.{turn-next, turn-end}
 use Rattle.refusal.proofs.Search.{searchFrom, search-starts, search-on, search-stops, search-ends}
-use Rattle.rule.specs.Layout.{channelCount}
 use Rattle.rule.specs.Take.{takeOf, viewsOf}
 use Rattle.rule.specs.declared.Taken.{Taken}
 use Rattle.rule.specs.declared.Taken.the-variants as K
-use Rattle.rule.proofs.OnSheet.{taken-view, taken-fits, untaken-absent}
 use Rattle.plan.specs.Layout.{rows}
 use Rattle.plan.specs.declared.sizes.Sizes.{Sizes}
 use Rattle.plan.specs.inner.Sizes.{allRows}
 use Rattle.plan.proofs.Fits.{rows-are}
+use Rattle.inputs.proofs.Parts.{taken-same, taken-fitting}
 use Rattle.table.specs.Layout.{marked, witnessOf}
 use Rattle.marks.specs.Parts.{breaks, equationOutcome, closingOutcome, witnessOutcome, partOutcome}
 use Rattle.marks.specs.inner.PartsRead.{Readable, Met, PartClear}
@@ -49,42 +47,37 @@ module _ (rule plan table : List ℕ) {n : ℕ} {z : Sizes} (prep : Prepared rul
   turns-all = ap₂ (λ (n w : ℕ). inTurn (turn rule plan table n w) n) (prep .ready .parts) (sym (rows-are (prep .ready .fits)))
 
   module _ (i : ℕ) (low : i < n) {t : Taken} (e : t ≡ takeOf rule i) where
-    pub always-taken : {q : Refusal} → t ≡ K.Refused q → ⊥
-    always-taken f = let k = untaken-absent rule (prep .ready .sheet) i e f in omega (arith, prep .ready .parts)
-
     module _ {part : Part} (f : t ≡ K.Part part) {p : View} (g : p ≡ viewOf part) where
       same : viewsOf rule i ≡ p
-      same = taken-view rule (prep .ready .sheet) i e f ∙ sym g
+      same = taken-same rule plan (prep .ready) i low e f g
 
       pub readable : Readable plan table n z i p
       readable = record {
         fits = prep .ready .fits;
         sized = prep .sized;
         present = low;
-        part-fits = subst (λ (q : View). viewFits (z .channels) n q ≡ true) (sym g)
-            (view-more (channelCount rule) (z .channels) (omega (arith, prep .ready .channels)) i n (omega arith) (viewOf part)
-            (taken-fits rule (prep .ready .sheet) i e f));
+        part-fits = view-more (z .channels) (z .channels) (omega arith) i n (omega arith) p (taken-fitting rule plan (prep .ready) i low e f g);
       }
 
       -- the outcome of 9, and where it refuses nothing
-      abbrev pub Nine : Outcome
-      Nine = equationOutcome plan (marked (allRows z) table) p i
+      abbrev pub nine : Outcome
+      nine = equationOutcome plan (marked (allRows z) table) p i
 
       -- ---- the rows: where all at once were sure, none is looked at; else all of them
 
       pub searched : (sure : Bool) → (sure ≡ true → PartClear plan table z p i) → (k : ℕ) → k ≡ cond sure 0 (allRows z)
-          → Nine ≡ rowsFrom plan table (allRows z) p i k 0
+          → nine ≡ rowsFrom plan table (allRows z) p i k 0
       unfolding Met equationOutcome
       searched true h k d = h refl .equation ∙ search-ends (breaks plan (marked (allRows z) table) p i) k (Equation i) 0 (omega arith)
       searched false h k d =
           ap (λ (m : ℕ). atLowest (breaks plan (marked (allRows z) table) p i) m (Equation i)) (rows-are (prep .ready .fits) ∙ sym d)
           ∙ search-starts (breaks plan (marked (allRows z) table) p i) k (Equation i)
 
-      module _ (k row : ℕ) (so-far : Nine ≡ rowsFrom plan table (allRows z) p i k row) where
-        pub row-met : row < k → {x : Bool} → x ≡ breaks plan (marked (allRows z) table) p i row → x ≡ false → Nine ≡ rowsFrom plan table (allRows z) p i k (row + 1)
+      module _ (k row : ℕ) (so-far : nine ≡ rowsFrom plan table (allRows z) p i k row) where
+        pub row-met : row < k → {x : Bool} → x ≡ breaks plan (marked (allRows z) table) p i row → x ≡ false → nine ≡ rowsFrom plan table (allRows z) p i k (row + 1)
         row-met l d h = so-far ∙ search-on (breaks plan (marked (allRows z) table) p i) k (Equation i) row l (sym d ∙ h)
 
-        row-broken : row < k → {x : Bool} → x ≡ breaks plan (marked (allRows z) table) p i row → x ≡ true → Nine ≡ Refused (Equation i row)
+        row-broken : row < k → {x : Bool} → x ≡ breaks plan (marked (allRows z) table) p i row → x ≡ true → nine ≡ Refused (Equation i row)
         row-broken l d h = so-far ∙ sym (search-stops (breaks plan (marked (allRows z) table) p i) k (Equation i) row l (sym d ∙ h))
 
         pub rows-met : k ≤ row → Met plan table z p i
@@ -97,23 +90,23 @@ module _ (rule plan table : List ℕ) {n : ℕ} {z : Sizes} (prep : Prepared rul
         later : Outcome
         later = inTurnFrom (turn rule plan table n (allRows z)) (i + 1) (n - (i + 1))
 
-        taken-up : inTurn (turn rule plan table n (allRows z)) n ≡ ((Nine orElse rest plan table n (allRows z) p i) orElse later)
+        taken-up : inTurn (turn rule plan table n (allRows z)) n ≡ ((nine orElse rest plan table n (allRows z) p i) orElse later)
         unfolding partOutcome later
         taken-up =
             up-to
             ∙ turn-next (turn rule plan table n (allRows z)) i n low
             ∙ ap (λ (q : View). partOutcome plan (marked (allRows z) table) q i (witnessOf n (allRows z) table i) orElse later) same
 
-        all-refused : {r : Refusal} → ((Nine orElse rest plan table n (allRows z) p i) orElse later) ≡ Refused r → Refused r ≡ partsOutcome rule plan table
+        all-refused : {r : Refusal} → ((nine orElse rest plan table n (allRows z) p i) orElse later) ≡ Refused r → Refused r ≡ partsOutcome rule plan table
         all-refused h = sym (taken-up ∙ h) ∙ turns-all
 
-        pub equation-refused : (k row : ℕ) → Nine ≡ rowsFrom plan table (allRows z) p i k row → row < k → {x : Bool}
+        pub equation-refused : (k row : ℕ) → nine ≡ rowsFrom plan table (allRows z) p i k row → row < k → {x : Bool}
             → x ≡ breaks plan (marked (allRows z) table) p i row → x ≡ true → Refused (Equation i row) ≡ partsOutcome rule plan table
         unfolding _orElse_
         equation-refused k row so-far l d h = all-refused (ap (λ x. (x orElse rest plan table n (allRows z) p i) orElse later) (row-broken k row so-far l d h))
 
         module _ (met : Met plan table z p i) where
-          after-nine : ((Nine orElse rest plan table n (allRows z) p i) orElse later) ≡ (rest plan table n (allRows z) p i orElse later)
+          after-nine : ((nine orElse rest plan table n (allRows z) p i) orElse later) ≡ (rest plan table n (allRows z) p i orElse later)
           unfolding Met _orElse_
           after-nine = ap (λ x. (x orElse rest plan table n (allRows z) p i) orElse later) met
 

@@ -31,12 +31,12 @@ use Rattle.acceptance.proofs.CheckNames.{parts-refused, refused-outcome
 
 module _ (rule plan table : List ℕ) where
   -- accepted exactly where no test refuses
-  accepted-clear : (o : Outcome) (v : Bool) → answered rule plan table o ≡ C.Accepted v → (o ≡ Clear) × (markOf rule plan table (partCount rule - 1) 0 ≡ v)
+  pub accepted-clear : (o : Outcome) (v : Bool) → answered rule plan table o ≡ C.Accepted v → (o ≡ Clear) × (markOf rule plan table (partCount rule - 1) 0 ≡ v)
   unfolding answered
   accepted-clear Clear v e = (refl, cc)
   accepted-clear (Refused r) v e = absurd (let z : _≡_ {A = ℕ} 0 1 = cc in omega arith)
 
-  clear-accepted : checkOutcome rule plan table ≡ Clear → checkOf rule plan table ≡ C.Accepted (markOf rule plan table (partCount rule - 1) 0)
+  pub clear-accepted : checkOutcome rule plan table ≡ Clear → checkOf rule plan table ≡ C.Accepted (markOf rule plan table (partCount rule - 1) 0)
   unfolding checkOf answered
   clear-accepted e = simp e
 
@@ -49,7 +49,7 @@ module _ (rule plan table : List ℕ) where
       let c = orElse-clear (tableOutcome (partCount rule) (rows plan) table) (partsOutcome rule plan table) .0 (a .1) in
       (record { sheet = b .0; plan-clear = b .1; table-clear = c .0 }, c .1)
 
-  clear-all : Cleared rule plan table → partsOutcome rule plan table ≡ Clear → checkOutcome rule plan table ≡ Clear
+  pub clear-all : Cleared rule plan table → partsOutcome rule plan table ≡ Clear → checkOutcome rule plan table ≡ Clear
   unfolding checkOutcome
   clear-all c e =
       orElse-clear (inputsOutcome rule plan) (tableOutcome (partCount rule) (rows plan) table orElse partsOutcome rule plan table) .1 (

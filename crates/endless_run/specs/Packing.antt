@@ -10,6 +10,8 @@ use Rattle.judge.specs.declared.Judged.{Judged}
 use Rattle.judge.specs.declared.Judged.the-variants as J
 use Rattle.acceptance.specs.declared.Checked.{Checked}
 use Rattle.acceptance.specs.declared.Checked.the-variants as C
+use Rattle.maker.specs.declared.Made.{Made}
+use Rattle.maker.specs.declared.Made.the-variants as M
 
 -- refused: number × 2^32 + part × 2^16 + row
 unfoldable pub refusalWord : Refusal → ℕ
@@ -27,6 +29,11 @@ verdictBit false = 0
 unfoldable pub checkWord : Checked → ℕ
 checkWord (C.Accepted v) = verdictBit v
 checkWord (C.Refused r) = refusalWord r
+
+-- made: the verdict, 0 or 1
+unfoldable pub makeWord : Made → ℕ
+makeWord (M.Table v) = verdictBit v
+makeWord (M.Refused r) = refusalWord r
 
 -- judged: 0 always false, 1 always true, 2 changes
 abbrev pub verdictWord : Verdict → ℕ

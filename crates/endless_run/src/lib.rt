@@ -1,11 +1,12 @@
-// What C calls: the whole check and judge over byte slices, each answer packed into one number.
+// What C calls: the whole check, the maker and judge over byte slices, each answer packed into one number.
 ghost use mathlib.Core.Path.{_≡_};
 ghost use Prim.Native.Nat.{_<_};
 ghost use Rattle.refusal.specs.Report.{reportOf};
 ghost use Rattle.endless_run.specs.Packing.{refusalWord, unpacked, verdictWord};
-ghost use Rattle.endless_run.specs.Promise.{CheckWordPromise, JudgeWordPromise};
+ghost use Rattle.endless_run.specs.Promise.{CheckWordPromise, MakeWordPromise, JudgeWordPromise};
 use acceptance::Checked;
 use judge::Judged;
+use maker::Made;
 use refusal::Refusal;
 use refusal::Report;
 use verdict::Verdict;
@@ -50,6 +51,16 @@ pub extern "C" fn endless_run_check(rule: &[u8], plan: &[u8], marks: &[u8]) -> u
     match acceptance::check(rule, plan, marks) {
         Checked::Accepted(holds) => { if holds { 1 } else { 0 } }
         Checked::Refused(refusal) => refusal_word(refusal),
+    }
+}
+
+#[no_mangle]
+pub extern "C" fn endless_run_make(rule: &[u8], plan: &[u8], marks: &mut [u8]) -> u64
+    ensures { λ r. ⌜ MakeWordPromise (now (rule .entry)) (now (plan .entry)) (now (marks .entry)) (now (marks .exit)) r ⌝ }
+{
+    match maker::make(rule, plan, marks) {
+        Made::Table(holds) => { if holds { 1 } else { 0 } }
+        Made::Refused(refusal) => refusal_word(refusal),
     }
 }
 

@@ -3,3 +3,4 @@ pub mod Patterns
 pub mod Stores
 pub mod Differences
 pub mod Bias
+pub mod Pieces

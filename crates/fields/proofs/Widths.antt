@@ -1,7 +1,7 @@
 -- Unsigned fields of every width: a field read back is the number written, and written back it is the bytes read.
 -- Assumes nothing.
 use Prim.Native.Nat.{ℕ, zero, suc, _+_, _*_, _/_, _%_, _^_, _≤_, _<_}
-use native.Mathlib.Nat.{pow-succ', pow-zero}
+use native.Mathlib.Nat.{add-zero, pow-succ', pow-zero}
 use native.Mathlib.Omega.{arith}
 use native.Mathlib.Numerals.{add-one}
 use mathlib.Core.Path.{_≡_, refl, sym, ap, ap₂, _∙_}
@@ -32,6 +32,17 @@ read-written (suc w) n before after at e h =
     let rest : numberAt w (before ++ (n % 256 ∷ (bytesOf w (n / 256) ++ after))) (at + 1) ≡ n / 256 =
     ap (λ (l : List ℕ). numberAt w l (at + 1)) (sym (append-assoc before (n % 256 ∷ []) (bytesOf w (n / 256) ++ after)))
     ∙ read-written w (n / 256) (before ++ (n % 256 ∷ [])) after (at + 1) (length-append before (n % 256 ∷ []) ∙ ap (λ k. k + 1) e) low in
+    omega (arith, here, rest)
+
+-- a field whose bytes are those of a number is the number
+pub number-of-bytes : (w n : ℕ) (s : List ℕ) (at : ℕ) → n < 256 ^ w → ((k : ℕ) → k < w → getD s (at + k) 0 ≡ getD (bytesOf w n) k 0) → numberAt w s at ≡ n
+unfolding numberAt bytesOf
+number-of-bytes zero n s at h same = omega (arith, pow-zero 256)
+number-of-bytes (suc w) n s at h same =
+    let low : n / 256 < 256 ^ w = omega (arith, pow-succ' 256 w) in
+    let here : getD s at 0 ≡ n % 256 = ap (λ (i : ℕ). getD s i 0) (sym (add-zero at)) ∙ same 0 (omega arith) in
+    let rest : numberAt w s (at + 1) ≡ n / 256 = number-of-bytes w (n / 256) s (at + 1) low (λ k l. let next : at + 1 + k ≡ at + suc k = omega arith in
+    ap (λ (i : ℕ). getD s i 0) next ∙ same (suc k) (omega arith)) in
     omega (arith, here, rest)
 
 -- writing what was read leaves the bytes

@@ -1,3 +1,4 @@
 pub mod LittleEndian
 pub mod TwosComplement
+pub mod Pieces
 pub mod inner

@@ -8,7 +8,7 @@ use Rattle.refusal.specs.declared.Outcome.the-variants as outcome
 use Rattle.refusal.specs.declared.Refusal.{Refusal}
 use Rattle.refusal.specs.First.{_orElse_}
 use Rattle.refusal.proofs.First.{orElse-clear}
-use Rattle.refusal.proofs.RefusesOnly.{Within, RefusesOnly, orElse-only, only-more}
+use Rattle.refusal.proofs.RefusesOnly.{Within, RefusesOnly, orElse-only, within-wider}
 use Rattle.rule.specs.Layout.{partCount, channelCount}
 use Rattle.rule.specs.Sheet.{sheetOutcome}
 use Rattle.rule.specs.inner.Read.{sheetRead}
@@ -87,8 +87,8 @@ module _ (rule plan : List ℕ) where
   unfolding inputsOutcome
   inputs-within =
       orElse-only (Within 1 6) (sheetOutcome rule) (planOutcome (channelCount rule) plan)
-      (only-more (Within 1 3) (Within 1 6) (λ r h. let k = h .1 in (h .0, omega arith, h .2, h .3)) (sheetOutcome rule) (sheet-within rule))
-      (λ _. only-more (Within 4 6) (Within 1 6) (λ r h. let k = h .0 in (omega arith, h .1, h .2, h .3)) (planOutcome (channelCount rule) plan) (plan-within (channelCount rule) plan))
+      (within-wider 1 3 1 6 (omega arith) (omega arith) (sheetOutcome rule) (sheet-within rule))
+      (λ _. within-wider 4 6 1 6 (omega arith) (omega arith) (planOutcome (channelCount rule) plan) (plan-within (channelCount rule) plan))
 
   -- The other way round.
   pub both-clear : sheetOutcome rule ≡ outcome.Clear → planOutcome (channelCount rule) plan ≡ outcome.Clear → inputsOutcome rule plan ≡ outcome.Clear

@@ -42,7 +42,7 @@ module _ (plan : List ℕ) (few : rows plan ≤ 256) (n : ℕ) (parts : n ≤ 64
       (λ i h. atLowest-only (Within 7 8) (aboveOne (rows plan) table i) (rows plan) (MarkByte i) (λ j k. omega arith)))
 
   module _ (mark : ℕ → ℕ → Bool) (i : ℕ) (low : i < n) where
-    closing-small : (p : View) → RefusesOnly Small (closingOutcome plan mark p i)
+    pub closing-small : (p : View) → RefusesOnly Small (closingOutcome plan mark p i)
     unfolding closingOutcome steadyOutcome rows
     closing-small (view.Atom x) = search-only Small (λ row. isChanges (verdictOf plan x row)) (startRows plan) (cycleRows plan) (Closing i) (λ j a b. omega arith)
     closing-small (view.Operator o) = unless-only Small (closes (startRows plan) (cycleRows plan) mark o) (Closing i (startRows plan)) (omega arith)

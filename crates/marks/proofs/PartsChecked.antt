@@ -111,7 +111,7 @@ module _ (plan : List ℕ) (mark : ℕ → ℕ → Bool) (i : ℕ) (o : Operator
 -- ---- with the sizes that were read
 
 -- what is said with the plan's own sizes holds with the sizes that were read
-at-sizes : {plan : List ℕ} {z : Sizes} → Fitting plan z → (Q : ℕ → ℕ → Type 0) → Q (startRows plan) (cycleRows plan) → Q (z .start) (z .cycle)
+pub at-sizes : {plan : List ℕ} {z : Sizes} → Fitting plan z → (Q : ℕ → ℕ → Type 0) → Q (startRows plan) (cycleRows plan) → Q (z .start) (z .cycle)
 at-sizes fit Q q = subst₂ Q (fit .p-is) (fit .c-is) q
 
 pub own-cycle : {plan : List ℕ} {z : Sizes} → Fitting plan z → 1 ≤ cycleRows plan

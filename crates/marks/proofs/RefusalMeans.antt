@@ -12,7 +12,7 @@ use Rattle.cltlb.specs.declared.View.{View}
 use Rattle.cltlb.proofs.Depth.{formula-made}
 use Rattle.refusal.specs.First.{_orElse_, inTurn}
 use Rattle.refusal.specs.declared.Refusal.{Refusal}
-use Rattle.refusal.specs.declared.Refusal.the-variants.{RuleSizes, Kind, Operand, PlanSizes, Channels, StartDrift, MarkSizes, MarkByte, Equation, Closing, Witness, Absent}
+use Rattle.refusal.specs.declared.Refusal.the-variants.{RuleSizes, Kind, Operand, PlanSizes, Channels, StartDrift, MarkSizes, MarkByte, Equation, Closing, Witness, Absent, BufferLength, NoTable}
 use Rattle.refusal.specs.declared.Outcome.the-variants.{Clear, Refused}
 use Rattle.refusal.proofs.First.{unless-refused, unless-clear-T, orElse-refused, inTurn-refused, clear-refused}
 use Rattle.plan.specs.Layout.{startRows, cycleRows, rows}
@@ -41,6 +41,8 @@ module _ (plan : List ℕ) (parts : ℕ → View) (n : ℕ) (mark : ℕ → ℕ 
   Means (Closing i row) = ClosingMeans parts n plan mark witness i row
   Means (Witness i) = WitnessMeans parts n plan mark witness i
   Means Absent = Unit {0}
+  Means BufferLength = Unit {0}
+  Means (NoTable i row) = Unit {0}
 
 module _ (plan : List ℕ) (hC : 1 ≤ cycleRows plan) (parts : ℕ → View) (v n : ℕ)
     (fits : (i : ℕ) → i < n → viewFits v i (parts i) ≡ true) (mark : ℕ → ℕ → Bool) (witness : ℕ → ℕ) where
@@ -84,11 +86,16 @@ module _ (plan : List ℕ) (hC : 1 ≤ cycleRows plan) (parts : ℕ → View) (v
           false-beside = s .4;
         })
 
+    -- 10 names part i and a row, of which it says what the definition states
+    pub closing-says : equationOutcome plan mark (parts i) i ≡ Clear → (r : Refusal) → closingOutcome plan mark (parts i) i ≡ Refused r
+        → (row : ℕ) × (Closing i row ≡ r) × ClosingMeans parts n plan mark witness i row
+    closing-says met r e =
+        let s = opened met r e in
+        (s .0, s .1, record { fault = first-fault; in-cycle = (s .2, s .3); differs = s .4; lowest = s .5 })
+
     closing-means : equationOutcome plan mark (parts i) i ≡ Clear → (r : Refusal) → closingOutcome plan mark (parts i) i ≡ Refused r → Means plan parts n mark witness r
     unfolding Means
-    closing-means met r e =
-        let s = opened met r e in
-        subst (Means plan parts n mark witness) (s .1) (record { fault = first-fault; in-cycle = (s .2, s .3); differs = s .4; lowest = s .5 })
+    closing-means met r e = let s = closing-says met r e in subst (Means plan parts n mark witness) (s .1) (s .2)
 
     witness-means : (r : Refusal) → witnessOutcome plan mark (parts i) i (witness i) ≡ Refused r → Means plan parts n mark witness r
     unfolding Means witnessOutcome PartWitnessed

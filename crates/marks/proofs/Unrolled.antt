@@ -20,8 +20,8 @@ use Rattle.plan.specs.Positions.{after}
 use Rattle.verdict.specs.Rows.{atomAt}
 use Rattle.marks.specs.declared.operators.Beside.{Beside}
 use Rattle.marks.specs.declared.operators.Beside.the-variants.{After, Before}
-use Rattle.marks.specs.Equations.{besideOf, watched, stepOn, markBeside, operatorMark, expected}
-use Rattle.marks.specs.Parts.{seenOn, running, closesBy, closes, breaks, equationOutcome, closingOutcome}
+use Rattle.marks.specs.Equations.{besideOf, watched, stepOn, watchedTruth, markBeside, operatorMark, expected}
+use Rattle.marks.specs.Parts.{running, closesBy, closes, breaks, equationOutcome, closingOutcome}
 use Rattle.marks.specs.inner.Tables.{wrapsBy, wraps}
 use Rattle.marks.proofs.Tests.{beq-false, beq-T}
 use Rattle.marks.proofs.Rows.{lastRow, rowAt, first-position, is-row, row-0, last-is-row, row-after, after-row, next-position, after-last-row}
@@ -83,6 +83,11 @@ module _ (plan : List ℕ) (hC : 1 ≤ cycleRows plan) (k m : ℕ → Bool) (G :
 
 -- ---- parts
 
+-- What an operator sees of the row beside is the mark that it watches, where its truth is its mark.
+pub truth-watched : (mark : ℕ → ℕ → Bool) (o : Operator) (i row : ℕ) {own : Bool} → own ≡ mark i row → watchedTruth mark o own row ≡ mark (watched o i) row
+truth-watched mark (One o a) i row e = refl
+truth-watched mark (Two o a b) i row e = e
+
 module _ (plan : List ℕ) (mark : ℕ → ℕ → Bool) where
   abbrev pub Meets : View → ℕ → Type 0
   Meets p i = (t : ℕ) → markAt plan mark i t ≡ due plan mark p i t
@@ -110,24 +115,19 @@ module _ (plan : List ℕ) (mark : ℕ → ℕ → Bool) where
 
     -- ---- closing, by the part's truth and by its marks
 
-    -- what an operator sees of a row before is the mark that it watches, where its truth is its mark
-    seen-watched : (o : Operator) (i row : ℕ) {own : Bool} → own ≡ mark i row → seenOn (startRows plan) (cycleRows plan) mark o own row ≡ mark (watched o i) row
-    seen-watched (One o a) i row e = refl
-    seen-watched (Two o a b) i row e = e
-
     module _ (o : Operator) (i : ℕ) (first : Bool) (met : RowsMet plan hC (mark i) (mark (watched o i)) (stepOn mark o) (Before first)) where
       -- The truth of a part whose marks meet the equation is its marks.
       running-marks : (row : ℕ) → row < rows plan → running (startRows plan) (cycleRows plan) mark o first row ≡ mark i row
       unfolding running markBeside
       running-marks zero l = sym (met 0 l)
-      running-marks (suc row) l = ap (stepOn mark o (suc row)) (seen-watched o i row (running-marks row (omega arith))) ∙ sym (met (suc row) l)
+      running-marks (suc row) l = ap (stepOn mark o (suc row)) (truth-watched mark o i row (running-marks row (omega arith))) ∙ sym (met (suc row) l)
 
       closes-wraps : closesBy (startRows plan) (cycleRows plan) mark (Before first) o
           ≡ Bool·beq (mark i (startRows plan)) (stepOn mark o (startRows plan) (mark (watched o i) (lastRow plan)))
       unfolding closesBy rows
       closes-wraps =
           ap₂ Bool·beq (running-marks (startRows plan) (omega arith))
-          (ap (stepOn mark o (startRows plan)) (seen-watched o i (lastRow plan) (running-marks (lastRow plan) (last-is-row plan hC))))
+          (ap (stepOn mark o (startRows plan)) (truth-watched mark o i (lastRow plan) (running-marks (lastRow plan) (last-is-row plan hC))))
 
     -- Where its marks meet the equation, an operator closes by its truth exactly where it does by its marks.
     pub closes-by-marks : (o : Operator) (i : ℕ) → OnRows (view.Operator o) i

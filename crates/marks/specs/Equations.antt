@@ -63,6 +63,11 @@ abbrev pub stepOn : (ℕ → ℕ → Bool) → Operator → ℕ → Bool → Boo
 stepOn mark (One o a) row beside = markOne o (mark a row) beside
 stepOn mark (Two o a b) row beside = markTwo o (mark a row) (mark b row) beside
 
+-- What it sees of the row beside, by its own truth there: the mark of the part that it names, or that truth.
+abbrev pub watchedTruth : (ℕ → ℕ → Bool) → Operator → Bool → ℕ → Bool
+watchedTruth mark (One o a) own beside = mark a beside
+watchedTruth mark (Two o a b) own beside = own
+
 -- With P start rows and C cycle rows.
 module _ (P C : ℕ) where
   -- the mark on the row beside a row

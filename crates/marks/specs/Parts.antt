@@ -22,7 +22,7 @@ use Rattle.verdict.specs.declared.Verdict.the-variants.{AlwaysTrue, AlwaysFalse
 use Rattle.verdict.specs.Rows.{atomAt, verdictOf}
 use Rattle.marks.specs.declared.operators.Beside.{Beside}
 use Rattle.marks.specs.declared.operators.Beside.the-variants.{After, Before}
-use Rattle.marks.specs.Equations.{besideOf, stepOn, expected}
+use Rattle.marks.specs.Equations.{besideOf, stepOn, watchedTruth, expected}
 
 abbrev pub isChanges : Verdict → Bool
 isChanges AlwaysTrue = false
@@ -54,21 +54,16 @@ module _ (P C : ℕ) where
   witnessTwo Trigger marked b w = eqb w noWitness
 
   module _ (mark : ℕ → ℕ → Bool) where
-    -- what an operator that looks back sees of a row before: the mark of the part that it names, or its own truth there
-    abbrev pub seenOn : Operator → Bool → ℕ → Bool
-    seenOn (One o a) own row = mark a row
-    seenOn (Two o a b) own row = own
-
-    -- its truth on a row by the marks of the parts that it names, row after row from row 0 on
+    -- the truth of an operator that looks back, on a row, by the marks of the parts that it names, row after row from row 0 on
     unfoldable pub running : Operator → Bool → ℕ → Bool
     running o first zero = stepOn mark o zero first
-    running o first (suc row) = stepOn mark o (suc row) (seenOn o (running o first row) row)
+    running o first (suc row) = stepOn mark o (suc row) (watchedTruth mark o (running o first row) row)
 
     -- Closing, the consistency of the loop, for Y, Z, S and T: the equation for a row above 0 also holds on row P with row W - 1
     -- as the row before. It is said of their truth, whatever their own marks are.
     unfoldable pub closesBy : Beside → Operator → Bool
     closesBy After o = true
-    closesBy (Before first) o = Bool·beq (running o first P) (stepOn mark o P (seenOn o (running o first (last P C)) (last P C)))
+    closesBy (Before first) o = Bool·beq (running o first P) (stepOn mark o P (watchedTruth mark o (running o first (last P C)) (last P C)))
 
     unfoldable pub closes : Operator → Bool
     closes o = closesBy (besideOf o) o

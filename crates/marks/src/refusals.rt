@@ -94,7 +94,7 @@ pub fn breaks_on(
     )
 }
 
-fn is_changes(verdict: Verdict) -> bool
+pub fn is_changes(verdict: Verdict) -> bool
     ensures { λ r. ⌜ r ≡ isChanges verdict ⌝ }
 {
     match verdict {
@@ -121,7 +121,14 @@ fn check_steady(plan: &[u8], sizes: Sizes, i: usize, atom: Atom) -> Outcome
 }
 
 // Refusal 10 of part `i`. Its marks meet the equation, so that they are its truth.
-fn check_closing(plan: &[u8], table: &[u8], n: usize, sizes: Sizes, i: usize, view: View) -> Outcome
+pub fn check_closing(
+    plan: &[u8],
+    table: &[u8],
+    n: usize,
+    sizes: Sizes,
+    i: usize,
+    view: View,
+) -> Outcome
     requires { ⌜ (Readable (now plan) (now table) n sizes i view) × (Met (now plan) (now table) sizes view i) ⌝ }
     ensures { λ r. ⌜ r ≡ closingOutcome (now (plan .entry)) (marked (allRows sizes) (now (table .entry))) view i ⌝ }
 {

@@ -22,7 +22,7 @@ pub struct Stretch {
 }
 
 // Where the mark of a part on a row lies.
-fn place(w: usize, part: usize, row: usize) -> usize
+pub fn place(w: usize, part: usize, row: usize) -> usize
     requires { ⌜ (w ≤ 256) × (part < 64) × (row ≤ 256) ⌝ }
     ensures { λ r. ⌜ r ≡ 4 + (part * w + row) ⌝ }
 {

@@ -81,3 +81,8 @@ only-more P Q f o h = only-by Q o (λ r e. f r (refused-only P o h r e))
 
 pub within-small : (lo hi : ℕ) (o : Outcome) → RefusesOnly (Within lo hi) o → RefusesOnly Small o
 within-small lo hi = only-more (Within lo hi) Small (λ r h. (h .2, h .3))
+
+-- The numbers are within wider bounds.
+pub within-wider : (lo hi low high : ℕ) → low ≤ lo → hi ≤ high → (o : Outcome) → RefusesOnly (Within lo hi) o → RefusesOnly (Within low high) o
+within-wider lo hi low high h l =
+    only-more (Within lo hi) (Within low high) (λ r w. let a = w .0 in let b = w .1 in (omega arith, omega arith, w .2, w .3))

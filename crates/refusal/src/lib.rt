@@ -2,7 +2,7 @@
 ghost use mathlib.Core.Path.{_≡_};
 ghost use Rattle.refusal.specs.Report.{reportOf};
 
-// Why a rule sheet, a plan or a mark table is turned away, in the order of checking. A case carries the part and the row
+// Why a rule sheet, a plan, a mark table or a lent buffer is turned away, in the order of checking. A case carries the part and the row
 // that the document names for it, and no other.
 pub enum Refusal {
     RuleSizes,
@@ -17,6 +17,8 @@ pub enum Refusal {
     Closing { part: usize, row: usize },
     Witness { part: usize },
     Absent,
+    BufferLength,
+    NoTable { part: usize, row: usize },
 }
 
 // What comes of a run of tests: none of them refuses, or the first one that does.
@@ -95,6 +97,16 @@ pub fn report_of(refusal: Refusal) -> Report
             number: 12,
             part: 0,
             row: 0,
+        },
+        Refusal::BufferLength => Report {
+            number: 13,
+            part: 0,
+            row: 0,
+        },
+        Refusal::NoTable { part, row } => Report {
+            number: 14,
+            part: part,
+            row: row,
         },
     }
 }

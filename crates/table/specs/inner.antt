@@ -1,2 +1,4 @@
 -- What only the contracts of inner functions cite: no promise of an entry point leans on it.
 pub mod Tables
+pub mod Stored
+pub mod Sweeps

@@ -22,7 +22,7 @@ pub fn all_marks(table: &[u8], at: usize, count: usize) -> bool
 }
 
 // A byte read as a mark, or as its opposite.
-fn read(x: u8, opposite: bool) -> bool
+pub fn read(x: u8, opposite: bool) -> bool
     ensures { λ r. ⌜ r ≡ flipped opposite (eqb x 1) ⌝ }
 {
     (x == 1) ^ opposite
@@ -36,7 +36,7 @@ pub fn agree(x: bool, y: bool) -> bool
 }
 
 // b, or a and next
-fn step(a: bool, b: bool, next: bool) -> bool
+pub fn step(a: bool, b: bool, next: bool) -> bool
     ensures { λ r. ⌜ r ≡ (b || (a && next)) ⌝ }
 {
     b | (a & next)

@@ -1,5 +1,6 @@
 use native.Mathlib.Omega.{arith}
 use denote.Ref.{now}
+use Rattle.inputs.proofs.Parts.{few-there, last-there}
 use Rattle.acceptance.proofs.Entry as law
 use borrow.Author.Needs.{needs}
 use Rattle.acceptance.proofs.check_marks.Statement.{statement}
@@ -16,7 +17,7 @@ add-w c = omega (arith, c .before .before .before .before .pre .fits .few-rows)
 
 -- src/lib.rt:66:9
 check-table-requires : tie.Need-check-table-requires
-check-table-requires c κs = law.table-small (now (c .before .before .before .before .args .rule)) (now (c .before .before .before .before .args .plan)) (now (c .before .before .before .before .args .marks)) (c .before .before .before .before .pre)
+check-table-requires c κs = few-there (now (c .before .before .before .before .args .rule)) (now (c .before .before .before .before .args .plan)) (c .before .before .before .before .pre)
 
 -- src/lib.rt:67:29
 enum-known-table : tie.Need-enum-known-table
@@ -62,13 +63,17 @@ enum-told-2 c = search needs
 sub-mark-at : tie.Need-sub-mark-at
 sub-mark-at c =
     let start = c .before .before .before .before .before .before .before .before .before .before in
-    let check-table = c .before .before .before .before .before .check-table in
-    let enum-told = c .before .before .before .enum-told in
-    law.last-there (now (start .args .rule)) (now (start .args .plan)) (now (start .args .marks)) (start .pre) (check-table .ensures) (enum-told .given .1) .0
+    omega (arith, last-there (now (start .args .rule)) (now (start .args .plan)) (start .pre))
 
 -- src/lib.rt:74:23
 mark-at-requires : tie.Need-mark-at-requires
-mark-at-requires c κs = let l = law.last-there (now (c .before .before .before .before .before .before .before .before .before .before .args .rule)) (now (c .before .before .before .before .before .before .before .before .before .before .args .plan)) (now (c .before .before .before .before .before .before .before .before .before .before .args .marks)) (c .before .before .before .before .before .before .before .before .before .before .pre) (c .before .before .before .before .before .check-table .ensures) (c .before .before .before .enum-told .given .1) in (law.prepared (now (c .before .before .before .before .before .before .before .before .before .before .args .rule)) (now (c .before .before .before .before .before .before .before .before .before .before .args .plan)) (now (c .before .before .before .before .before .before .before .before .before .before .args .marks)) (c .before .before .before .before .before .before .before .before .before .before .pre) (c .before .before .before .before .before .check-table .ensures) (c .before .before .before .enum-told .given .1) .sized, l .1, l .2)
+mark-at-requires c κs =
+    let start = c .before .before .before .before .before .before .before .before .before .before in
+    let check-table = c .before .before .before .before .before .check-table in
+    let enum-told = c .before .before .before .enum-told in
+    let there = last-there (now (start .args .rule)) (now (start .args .plan)) (start .pre) in
+    let prepared = law.prepared (now (start .args .rule)) (now (start .args .plan)) (now (start .args .marks)) (start .pre) (check-table .ensures) (enum-told .given .1) in
+    (prepared .sized, omega arith, omega arith)
 
 -- src/lib.rt:61:1
 returns-3 : tie.Need-returns-3

@@ -9,6 +9,7 @@ use Rattle.refusal.proofs.First.{turn-first}
 use Rattle.plan.specs.inner.Sizes.{allRows}
 use Rattle.table.specs.Layout.{marked}
 use Rattle.marks.specs.Parts.{equationOutcome}
+use Rattle.inputs.proofs.Parts.{always-taken}
 use Rattle.acceptance.proofs.PartsInTurn as law
 use Rattle.acceptance.proofs.PartsInTurn.{turn, rowsFrom, rows-most}
 use Rattle.acceptance.proofs.check_parts.Statement.{statement}
@@ -196,7 +197,7 @@ returns-2 c =
     let parts-test = c .before .before .before .before .parts-test in
     let take = c .before .before .before .take in
     let enum-told = c .before .enum-told in
-    absurd (law.always-taken (now (start .args .rule)) (now (start .args .plan)) (now (start .args .table)) (start .pre) (parts .i) (parts-test .taken) (take .ensures .isTake) (enum-told .given .1))
+    absurd (always-taken (now (start .args .rule)) (now (start .args .plan)) (start .pre .ready) (parts .i) (parts-test .taken) (take .ensures .isTake) (enum-told .given .1))
 
 -- src/lib.rt:26:1
 returns-3 : tie.Need-returns-3 Inv-loop μ-loop Inv-parts μ-parts

@@ -54,6 +54,14 @@ enum-known-refusal-7 c = search needs
 enum-told-5 : tie.Need-enum-told-5
 enum-told-5 c = search needs
 
+-- src/lib.rt:51:36
+enum-told-6 : tie.Need-enum-told-6
+enum-told-6 c = search needs
+
+-- src/lib.rt:52:36
+enum-known-refusal-8 : tie.Need-enum-known-refusal-8
+enum-known-refusal-8 c = search needs
+
 -- src/lib.rt:35:1
 returns : tie.Need-returns
 returns c = sym (ap reportOf (c .enum-told .given .1))
@@ -102,6 +110,14 @@ returns-11 c = sym (ap reportOf (c .before .refusal7 .given .1))
 returns-12 : tie.Need-returns-12
 returns-12 c = sym (ap reportOf (c .enum-told5 .given .1))
 
+-- src/lib.rt:35:1
+returns-13 : tie.Need-returns-13
+returns-13 c = sym (ap reportOf (c .enum-told6 .given .1))
+
+-- src/lib.rt:35:1
+returns-14 : tie.Need-returns-14
+returns-14 c = sym (ap reportOf (c .before .refusal8 .given .1))
+
 pub report-of-spec : {M : Type 1} → statement M
 report-of-spec =
     tie.close
@@ -118,6 +134,8 @@ report-of-spec =
     enum-known-refusal-6
     enum-known-refusal-7
     enum-told-5
+    enum-told-6
+    enum-known-refusal-8
     returns
     returns-2
     returns-3
@@ -129,4 +147,6 @@ report-of-spec =
     returns-9
     returns-10
     returns-11
-    returns-12)
+    returns-12
+    returns-13
+    returns-14)

@@ -1,0 +1,223 @@
+/*
+ * plain.h: what the plain C check and the plain C maker share: fields, refusals
+ * 1 to 6, and comparisons.
+ *
+ * How a comparison is judged on a cycle row. From some pass on each side is a
+ * straight line in the pass: a number, and a step for each pass more. That
+ * pass is 0 unless a shift reaches back before row P; then it is 4, and the
+ * passes below are looked at one by one. Numbers stay below 2^36.
+ *
+ * Every function is static and used by both, so that each is compiled into the
+ * one and the other as if it stood there.
+ */
+#ifndef PLAIN_H
+#define PLAIN_H
+
+#include <stdbool.h>
+#include <stddef.h>
+#include <stdint.h>
+
+enum {
+    LESS = 1, EQUAL, NOT, AND, OR, NEXT, UNTIL, RELEASE, YESTERDAY, WEAK_YESTERDAY, SINCE, TRIGGER
+};
+enum { MOST_ROWS = 256, MOST_SHIFT = 4, NO_WITNESS = 65535 };
+enum { ALWAYS_FALSE, ALWAYS_TRUE, CHANGES };
+
+struct term {
+    bool is_reading;
+    int shift, channel;
+    int64_t constant;
+};
+
+struct plan {
+    const uint8_t *readings, *drifts;
+    int channels, start, cycle, rows;
+};
+
+struct line {
+    int64_t number, step;
+};
+
+/* ---- Fields ---- */
+
+static unsigned get16(const uint8_t *at)
+{
+    return at[0] | (unsigned)at[1] << 8;
+}
+
+static int32_t get32(const uint8_t *at)
+{
+    return (int32_t)(at[0] | (uint32_t)at[1] << 8 | (uint32_t)at[2] << 16 | (uint32_t)at[3] << 24);
+}
+
+static uint64_t refuse(unsigned number, size_t part, size_t row)
+{
+    return (uint64_t)number << 32 | (uint64_t)part << 16 | row;
+}
+
+/* ---- Refusals 1 to 6 ---- */
+
+static bool is_comparison(int kind)
+{
+    return kind == LESS || kind == EQUAL;
+}
+
+static bool is_unary(int kind)
+{
+    return kind == NOT || kind == NEXT || kind == YESTERDAY || kind == WEAK_YESTERDAY;
+}
+
+static bool term_is_right(const uint8_t *at, unsigned channels)
+{
+    if (at[0] == 0)
+        return at[1] == 4;
+    return at[0] == 1 && at[1] <= 8 && (uint32_t)get32(at + 2) < channels;
+}
+
+static bool operand_is_right(int kind, const uint8_t *at, unsigned user, unsigned channels)
+{
+    if (is_comparison(kind))
+        return term_is_right(at, channels) && term_is_right(at + 6, channels);
+    int named = is_unary(kind) ? 1 : 2;
+    unsigned padding = 0;
+    for (int i = 0; i < named; i++)
+        if (get16(at + 2 * i) >= user)
+            return false;
+    for (int i = 2 * named; i < 12; i++)
+        padding |= at[i];
+    return padding == 0;
+}
+
+static uint64_t check_rule(const uint8_t *rule, size_t len)
+{
+    if (len < 4)
+        return refuse(1, 0, 0);
+    unsigned parts = get16(rule), channels = get16(rule + 2);
+    if (parts < 1 || parts > 64 || channels < 1 || channels > 8 || len != 4 + 13 * (size_t)parts)
+        return refuse(1, 0, 0);
+    const uint8_t *kinds = rule + 4, *operands = kinds + parts;
+    for (unsigned i = 0; i < parts; i++)
+        if (kinds[i] < 1 || kinds[i] > 12)
+            return refuse(2, i, 0);
+    for (unsigned i = 0; i < parts; i++)
+        if (!operand_is_right(kinds[i], operands + 12 * i, i, channels))
+            return refuse(3, i, 0);
+    return 0;
+}
+
+static uint64_t check_plan(const uint8_t *bytes, size_t len, unsigned channels, struct plan *plan)
+{
+    if (len < 6)
+        return refuse(4, 0, 0);
+    unsigned v = get16(bytes), start = get16(bytes + 2), cycle = get16(bytes + 4);
+    unsigned rows = start + cycle;
+    if (v < 1 || v > 8 || cycle < 1 || rows > MOST_ROWS || len != 6 + 8 * (size_t)v * rows)
+        return refuse(4, 0, 0);
+    if (v != channels)
+        return refuse(5, 0, 0);
+    *plan = (struct plan){ bytes + 6, bytes + 6 + 4 * (size_t)v * rows, (int)v, (int)start,
+                           (int)cycle, (int)rows };
+    for (unsigned i = 0; i < 4 * v * start; i++)
+        if (plan->drifts[i] != 0)
+            return refuse(6, 0, i / (4 * v));
+    return 0;
+}
+
+/* ---- Comparisons ---- */
+
+static struct term get_term(const uint8_t *at)
+{
+    struct term term = { at[0] == 1, at[1] - 4, 0, 0 };
+    if (term.is_reading)
+        term.channel = get32(at + 2);
+    else
+        term.constant = get32(at + 2);
+    return term;
+}
+
+/* The line of a term on a row: its number at position row + shift, which is 0
+   or more, and the drift of the row that this position is on. */
+static inline struct line line_at(const struct plan *plan, const struct term *term, int position)
+{
+    if (!term->is_reading)
+        return (struct line){ term->constant, 0 };
+    position += term->shift;
+    int row = position, pass = 0;
+    if (position >= plan->rows) {
+        pass = (position - plan->start) / plan->cycle;
+        row = plan->start + (position - plan->start) % plan->cycle;
+    }
+    size_t cell = 4 * ((size_t)row * (size_t)plan->channels + (size_t)term->channel);
+    int64_t drift = get32(plan->drifts + cell);
+    return (struct line){ get32(plan->readings + cell) + pass * drift, drift };
+}
+
+static inline bool compare(int kind, int64_t left, int64_t right)
+{
+    return kind == LESS ? left < right : left == right;
+}
+
+static int reach_back(const struct term *left, const struct term *right)
+{
+    int least = left->is_reading ? left->shift : 0;
+    if (right->is_reading && right->shift < least)
+        least = right->shift;
+    return least < 0 ? -least : 0;
+}
+
+static bool truth_at(const struct plan *plan, int kind, const struct term *left,
+                     const struct term *right, int position)
+{
+    if (position < reach_back(left, right))
+        return false;
+    return compare(kind, line_at(plan, left, position).number,
+                   line_at(plan, right, position).number);
+}
+
+/* The truth of a comparison of two lines, over all passes from 0 on. */
+static inline int judge_lines(int kind, struct line left, struct line right)
+{
+    int64_t gap = right.number - left.number, step = right.step - left.step;
+    if (kind == LESS) {
+        if (gap > 0)
+            return step < 0 ? CHANGES : ALWAYS_TRUE;
+        return step > 0 ? CHANGES : ALWAYS_FALSE;
+    }
+    if (gap == 0)
+        return step != 0 ? CHANGES : ALWAYS_TRUE;
+    if (step == 0 || (gap > 0) == (step > 0))
+        return ALWAYS_FALSE;
+    return gap % step == 0 ? CHANGES : ALWAYS_FALSE;
+}
+
+/* A cycle row from which a shift reaches back to before row P. */
+static int judge_early_row(const struct plan *plan, int kind, const struct term *left,
+                           const struct term *right, int row)
+{
+    int late = row + MOST_SHIFT * plan->cycle;
+    int judged = judge_lines(kind, line_at(plan, left, late), line_at(plan, right, late));
+    for (int position = row; position < late; position += plan->cycle)
+        if (judged != truth_at(plan, kind, left, right, position))
+            return CHANGES;
+    return judged;
+}
+
+/* The lines of a term on the rows from the first to W - 1. */
+static void get_lines(const struct plan *plan, const struct term *term, int first,
+                      struct line *lines)
+{
+    int direct = term->is_reading && term->shift > 0 ? plan->rows - term->shift : plan->rows;
+    int row = first;
+    if (term->is_reading) {
+        size_t stride = 4 * (size_t)plan->channels;
+        size_t cell = 4 * (size_t)term->channel;
+        for (; row < direct; row++) {
+            size_t at = (size_t)(row + term->shift) * stride + cell;
+            lines[row] = (struct line){ get32(plan->readings + at), get32(plan->drifts + at) };
+        }
+    }
+    for (; row < plan->rows; row++)
+        lines[row] = line_at(plan, term, row);
+}
+
+#endif

@@ -1,0 +1,10 @@
+pub mod Following
+pub mod Labelled
+pub mod SameMarks
+pub mod Made
+pub mod MadeTable
+pub mod BySweeps
+pub mod Sweeping
+pub mod Verdicts
+pub mod LowestRows
+pub mod OnePart

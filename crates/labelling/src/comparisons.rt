@@ -1,0 +1,57 @@
+// The marks of a comparison on all rows, by its verdicts, in a table of `n` parts. `i` is the part's number.
+ghost use mathlib.Core.Path.{_≡_};
+ghost use mathlib.Core.Bool.{true};
+ghost use Prim.Native.Nat.{_<_};
+ghost use Rattle.cltlb.specs.Fits.{atomFits};
+ghost use Rattle.plan.specs.inner.Sizes.{allRows, Fitting};
+ghost use Rattle.verdict.specs.Rows.{atomAt};
+ghost use Rattle.table.specs.inner.Tables.{Sized};
+ghost use Rattle.marks.specs.Parts.{steadyOutcome};
+ghost use Rattle.labelling.specs.inner.Rows.{isTrue, RowsLabelled};
+use cltlb::Atom;
+use marks::refusals::is_changes;
+use marks::stretches::place;
+use plan::sizes::Sizes;
+use refusal::Outcome;
+use refusal::Refusal;
+use table::fills::put_mark;
+use verdict::Verdict;
+use verdict::rows::comparison_of;
+use verdict::rows::judge_comparison;
+
+fn is_true(verdict: Verdict) -> bool
+    ensures { λ r. ⌜ r ≡ isTrue verdict ⌝ }
+{
+    match verdict {
+        Verdict::AlwaysTrue => true,
+        Verdict::AlwaysFalse => false,
+        Verdict::Changes => false,
+    }
+}
+
+// The marks of a comparison, or the lowest cycle row on which it changes.
+pub fn label_atom(
+    plan: &[u8],
+    table: &mut [u8],
+    n: usize,
+    sizes: Sizes,
+    i: usize,
+    atom: Atom,
+) -> Outcome
+    requires { ⌜ (Fitting (now plan) sizes) × (Sized (now table) n (allRows sizes)) × (i < n) × (atomFits (sizes .channels) atom ≡ true) ⌝ }
+    ensures { λ r. ⌜ (r ≡ steadyOutcome (now (plan .entry)) atom i) × (RowsLabelled (now (table .entry)) (now (table .exit)) (allRows sizes) i r (atomAt (now (plan .entry)) atom)) ⌝ }
+{
+    let w = sizes.start + sizes.cycle;
+    let own = place(w, i, 0);
+    let comparison = comparison_of(atom);
+    let mut row = 0;
+    while row < w {
+        let verdict = judge_comparison(plan, sizes, comparison, row);
+        if is_changes(verdict) {
+            return Outcome::Refused(Refusal::Closing { part: i, row: row });
+        }
+        put_mark(table, own + row, is_true(verdict));
+        row += 1;
+    }
+    Outcome::Clear
+}

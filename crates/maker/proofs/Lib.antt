@@ -1,0 +1,3 @@
+pub mod Promised
+pub mod InMaking
+pub mod Turns

@@ -1,0 +1,168 @@
+use denote.Ref.{now}
+use mathlib.Core.Path.{ap, _∙_}
+use Rattle.refusal.specs.declared.Outcome.the-variants.{Refused}
+use Rattle.refusal.specs.declared.Refusal.the-variants.{NoTable}
+use Rattle.refusal.specs.declared.Report.{Report}
+use Rattle.inputs.proofs.Parts.{always-taken, taken-fitting}
+use Rattle.labelling.proofs.OnePart.{still-sized}
+use Rattle.maker.proofs.Turns.{part-open, part-closed, left-open, left-made, witness-room}
+use borrow.Author.Needs.{needs}
+use Rattle.maker.proofs.make_part.Statement.{statement}
+use Rattle.maker.proofs.make_part.Tie as tie
+use Rattle.maker.proofs.make_part.Reads as reads
+use Rattle.maker.proofs.make_part.Lts as lts
+use Rattle.cltlb.proofs.view_of.Reads as view-of-reads
+use Rattle.labelling.proofs.label_part.Reads as label-part-reads
+use Rattle.labelling.proofs.witnesses.lowest_witness.Reads as lowest-witness-reads
+use Rattle.refusal.proofs.report_of.Reads as report-of-reads
+use Rattle.rule.proofs.refusal_of.Reads as refusal-of-reads
+use Rattle.rule.proofs.take.Reads as take-reads
+use Rattle.table.proofs.fills.put_number.Reads as put-number-reads
+
+-- src/lib.rt:39:13
+add-w : tie.Need-add-w
+add-w c = search needs
+
+-- src/lib.rt:40:9
+take-requires : tie.Need-take-requires
+take-requires c κs = search needs
+
+-- src/lib.rt:41:21
+enum-known-taken : tie.Need-enum-known-taken
+enum-known-taken c = search needs
+
+-- src/lib.rt:42:33
+enum-told : tie.Need-enum-told
+enum-told c = search needs
+
+-- src/lib.rt:42:33
+refusal-of-requires : tie.Need-refusal-of-requires
+refusal-of-requires c κs = search needs
+
+-- src/lib.rt:42:9
+returns : tie.Need-returns
+returns c =
+    let start = c .before .before .before .before .before .before .before .before in
+    let take = c .before .before .before .take in
+    let enum-told = c .before .enum-told in
+    absurd (always-taken (now (start .args .rule)) (now (start .args .plan)) (start .pre .0) _ (start .pre .2) (take .ensures .isTake) (enum-told .given .1))
+
+-- src/lib.rt:44:9
+view-of-requires : tie.Need-view-of-requires
+view-of-requires c κs = search needs
+
+-- src/lib.rt:45:9
+label-part-requires : tie.Need-label-part-requires
+label-part-requires c κs =
+    let start = c .before .before .before .before .before .before .before .before .before .before in
+    let take = c .before .before .before .before .before .take in
+    let taken = c .before .before .before .taken in
+    let view-of = c .before .view-of in
+    (start .pre .0 .fits, start .pre .1 .sized, start .pre .2, taken-fitting (now (start .args .rule)) (now (start .args .plan)) (start .pre .0) _ (start .pre .2) (take .ensures .isTake) (taken .given .1) (view-of .ensures))
+
+-- src/lib.rt:46:29
+enum-known-closing : tie.Need-enum-known-closing
+enum-known-closing c = search needs
+
+-- src/lib.rt:47:13
+report-of-requires : tie.Need-report-of-requires
+report-of-requires c κs = search needs
+
+-- src/lib.rt:48:9
+same-length : tie.Need-same-length
+same-length c = search needs
+
+-- src/lib.rt:48:9
+returns-2 : tie.Need-returns-2
+returns-2 c =
+    let start = c .before .before .before .before .before .before .before .before .before .before .before .before .before .before .before .before .before in
+    let take = c .before .before .before .before .before .before .before .before .before .before .before .before .take in
+    let taken = c .before .before .before .before .before .before .before .before .before .before .taken in
+    let view-of = c .before .before .before .before .before .before .before .before .view-of in
+    let label-part = c .before .before .before .before .before .before .label-part in
+    let closing = c .before .before .closing in
+    let report-of = c .report-of in
+    (ap (λ (x : Report). Refused (NoTable (x .part) (x .row))) (report-of .ensures) ∙ part-open (now (start .args .rule)) (now (start .args .plan)) (start .pre .0) _ (start .pre .2) (take .ensures .isTake) (taken .given .1) (view-of .ensures) (now (start .args .table)) (start .pre .1) (label-part .ensures .0) (closing .given .1), left-open (now (start .args .rule)) (now (start .args .plan)) (start .pre .0) _ (start .pre .2) (take .ensures .isTake) (taken .given .1) (view-of .ensures) (now (start .args .table)) (start .pre .1) (label-part .ensures .1))
+
+enum-told-2 : tie.Need-enum-told-2
+enum-told-2 c = search needs
+
+-- src/lib.rt:53:9
+lowest-witness-requires : tie.Need-lowest-witness-requires
+lowest-witness-requires c κs =
+    let start = c .before .before .before .before .before .before .before .before .before .before .before .before .before .before .before .before in
+    let take = c .before .before .before .before .before .before .before .before .before .before .before .take in
+    let taken = c .before .before .before .before .before .before .before .before .before .taken in
+    let view-of = c .before .before .before .before .before .before .before .view-of in
+    let label-part = c .before .before .before .before .before .label-part in
+    let enum-told2 = c .before .enum-told2 in
+    (start .pre .0 .fits, still-sized _ (start .args .i) (label-part .ensures .1 .made (enum-told2 .given .1)) (start .pre .1 .sized), start .pre .2, taken-fitting (now (start .args .rule)) (now (start .args .plan)) (start .pre .0) _ (start .pre .2) (take .ensures .isTake) (taken .given .1) (view-of .ensures))
+
+-- src/lib.rt:54:27
+mul-put-number : tie.Need-mul-put-number
+mul-put-number c = search needs
+
+-- src/lib.rt:54:23
+add-put-number : tie.Need-add-put-number
+add-put-number c = search needs
+
+-- src/lib.rt:54:35
+mul-put-number-2 : tie.Need-mul-put-number-2
+mul-put-number-2 c = search needs
+
+-- src/lib.rt:54:23
+add-put-number-2 : tie.Need-add-put-number-2
+add-put-number-2 c = search needs
+
+-- src/lib.rt:54:5
+put-number-requires : tie.Need-put-number-requires
+put-number-requires c κs =
+    let start = c .before .before .before .before .before .before .before .before .before .before .before .before .before .before .before .before .before .before in
+    let label-part = c .before .before .before .before .before .before .before .label-part in
+    let enum-told2 = c .before .before .before .enum-told2 in
+    let lowest-witness = c .before .lowest-witness in
+    let room = witness-room (start .args .n) _ (still-sized _ (start .args .i) (label-part .ensures .1 .made (enum-told2 .given .1)) (start .pre .1 .sized)) (start .args .i) (start .pre .2) in
+    (room .0, room .1, lowest-witness .ensures .1)
+
+-- src/lib.rt:28:1
+same-length-2 : tie.Need-same-length-2
+same-length-2 c = search needs
+
+-- src/lib.rt:28:1
+returns-3 : tie.Need-returns-3
+returns-3 c =
+    let start = c .before .before .before .before .before .before .before .before .before .before .before .before .before .before .before .before .before .before .before .before .before in
+    let take = c .before .before .before .before .before .before .before .before .before .before .before .before .before .before .before .before .take in
+    let taken = c .before .before .before .before .before .before .before .before .before .before .before .before .before .before .taken in
+    let view-of = c .before .before .before .before .before .before .before .before .before .before .before .before .view-of in
+    let label-part = c .before .before .before .before .before .before .before .before .before .before .label-part in
+    let enum-told2 = c .before .before .before .before .before .before .enum-told2 in
+    let lowest-witness = c .before .before .before .before .lowest-witness in
+    let put-number = c .before .before .put-number in
+    (part-closed (now (start .args .rule)) (now (start .args .plan)) (start .pre .0) _ (start .pre .2) (take .ensures .isTake) (taken .given .1) (view-of .ensures) (now (start .args .table)) (start .pre .1) (label-part .ensures .0) (enum-told2 .given .1), left-made (now (start .args .rule)) (now (start .args .plan)) (start .pre .0) _ (start .pre .2) (take .ensures .isTake) (taken .given .1) (view-of .ensures) (now (start .args .table)) (start .pre .1) _ _ (label-part .ensures .1) (enum-told2 .given .1) (lowest-witness .ensures .0) (put-number .ensures))
+
+pub make-part-spec : {M : Type 1} → statement M
+make-part-spec =
+    tie.close
+    (tie.spec
+    add-w
+    take-requires
+    enum-known-taken
+    enum-told
+    refusal-of-requires
+    returns
+    view-of-requires
+    label-part-requires
+    enum-known-closing
+    report-of-requires
+    same-length
+    returns-2
+    enum-told-2
+    lowest-witness-requires
+    mul-put-number
+    add-put-number
+    mul-put-number-2
+    add-put-number-2
+    put-number-requires
+    same-length-2
+    returns-3)

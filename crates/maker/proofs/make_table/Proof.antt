@@ -1,0 +1,169 @@
+use denote.Ref.{now}
+use Rattle.table.proofs.Places.{area}
+use Rattle.inputs.proofs.Parts.{few-there, last-there}
+use native.Mathlib.Omega.{arith}
+use Rattle.maker.proofs.Turns.{other-length, right-sized, zero-left, table-left, made-left, at-most, stored-sized}
+use borrow.Author.Needs.{needs}
+use Rattle.maker.proofs.make_table.Statement.{statement}
+use Rattle.maker.proofs.make_table.Tie as tie
+use Rattle.maker.proofs.make_table.Reads as reads
+use Rattle.maker.proofs.make_table.Lts as lts
+use Rattle.maker.proofs.make_parts.Reads as make-parts-reads
+use Rattle.table.proofs.bytes.mark_at.Reads as mark-at-reads
+use Rattle.table.proofs.fills.clear.Reads as clear-reads
+use Rattle.table.proofs.fills.put_number.Reads as put-number-reads
+
+-- src/lib.rt:79:13
+add-w : tie.Need-add-w
+add-w c = omega (arith, c .before .before .before .before .pre .fits .few-rows)
+
+-- src/lib.rt:80:27
+mul-if1 : tie.Need-mul-if1
+mul-if1 c =
+    let start = c .before .before .before .before in
+    let few = few-there (now (start .args .rule)) (now (start .args .plan)) (start .pre) in
+    omega (arith, area _ _ (few .0) (few .1))
+
+-- src/lib.rt:80:23
+add-if1 : tie.Need-add-if1
+add-if1 c =
+    let start = c .before .before .before .before in
+    let few = few-there (now (start .args .rule)) (now (start .args .plan)) (start .pre) in
+    omega (arith, area _ _ (few .0) (few .1))
+
+-- src/lib.rt:80:35
+mul-if1-2 : tie.Need-mul-if1-2
+mul-if1-2 c =
+    let start = c .before .before .before .before in
+    let few = few-there (now (start .args .rule)) (now (start .args .plan)) (start .pre) in
+    omega arith
+
+-- src/lib.rt:80:23
+add-if1-2 : tie.Need-add-if1-2
+add-if1-2 c =
+    let start = c .before .before .before .before in
+    let few = few-there (now (start .args .rule)) (now (start .args .plan)) (start .pre) in
+    omega (arith, area _ _ (few .0) (few .1))
+
+-- src/lib.rt:81:9
+returns : tie.Need-returns
+returns c =
+    let start = c .before .before .before .before .before in
+    let if1 = c .if1 in
+    other-length (now (start .args .rule)) (now (start .args .plan)) (start .pre) (now (start .args .marks)) (if1 .taken)
+
+-- src/lib.rt:83:9
+make-parts-requires : tie.Need-make-parts-requires
+make-parts-requires c κs =
+    let start = c .before .before .before .before .before .before in
+    let if1 = c .before .if1 in
+    (start .pre, right-sized (now (start .args .rule)) (now (start .args .plan)) (start .pre) (now (start .args .marks)) (if1 .left))
+
+-- src/lib.rt:84:29
+enum-known-made : tie.Need-enum-known-made
+enum-known-made c = search needs
+
+-- src/lib.rt:85:9
+clear-requires : tie.Need-clear-requires
+clear-requires c κs =
+    let start = c .before .before .before .before .before .before .before .before .before .before .before .before .before in
+    let if1 = c .before .before .before .before .before .before .before .before .if1 in
+    let make-parts = c .before .before .before .before .before .before .make-parts in
+    let most = at-most _ _ (right-sized (now (start .args .rule)) (now (start .args .plan)) (start .pre) (now (start .args .marks)) (if1 .left)) .1 in
+    let long = make-parts .ensures .1 .long in
+    omega arith
+
+-- src/lib.rt:86:9
+same-length : tie.Need-same-length
+same-length c = search needs
+
+-- src/lib.rt:86:9
+returns-2 : tie.Need-returns-2
+returns-2 c =
+    let start = c .before .before .before .before .before .before .before .before .before .before .before .before .before .before .before .before in
+    let if1 = c .before .before .before .before .before .before .before .before .before .before .before .if1 in
+    let make-parts = c .before .before .before .before .before .before .before .before .before .make-parts in
+    let made = c .before .before .before .before .before .made in
+    let clear = c .before .before .clear in
+    zero-left (now (start .args .rule)) (now (start .args .plan)) (start .pre) (now (start .args .marks)) (if1 .left) _ _ (make-parts .ensures .1 .long) (clear .ensures) (make-parts .ensures .0) (made .given .1)
+
+enum-told : tie.Need-enum-told
+enum-told c = search needs
+
+-- src/lib.rt:88:5
+put-number-requires : tie.Need-put-number-requires
+put-number-requires c κs =
+    let make-parts = c .before .before .before .before .before .make-parts in
+    let enum-told = c .before .enum-told in
+    let made = make-parts .ensures .1 .made (enum-told .given .1) in
+    let few = made .sized .few-parts in
+    let whole = made .sized .whole in
+    (omega arith, at-most _ _ (made .sized) .1, omega arith)
+
+-- src/lib.rt:89:5
+put-number-requires-2 : tie.Need-put-number-requires-2
+put-number-requires-2 c κs =
+    let make-parts = c .before .before .before .before .before .before .before .before .before .make-parts in
+    let enum-told = c .before .before .before .before .before .enum-told in
+    let put-number = c .before .before .before .put-number in
+    let made = make-parts .ensures .1 .made (enum-told .given .1) in
+    let rows = made .sized .few-rows in
+    let whole = made .sized .whole in
+    let long = put-number .ensures .long in
+    (omega arith, at-most _ _ (stored-sized _ _ (put-number .ensures) (made .sized)) .1, omega arith)
+
+-- src/lib.rt:90:38
+sub-mark-at : tie.Need-sub-mark-at
+sub-mark-at c =
+    let start = c .before .before .before .before .before .before .before .before .before .before .before .before .before .before .before .before .before .before .before .before in
+    omega (arith, last-there (now (start .args .rule)) (now (start .args .plan)) (start .pre))
+
+-- src/lib.rt:90:17
+mark-at-requires : tie.Need-mark-at-requires
+mark-at-requires c κs =
+    let start = c .before .before .before .before .before .before .before .before .before .before .before .before .before .before .before .before .before .before .before .before in
+    let make-parts = c .before .before .before .before .before .before .before .before .before .before .before .before .before .make-parts in
+    let enum-told = c .before .before .before .before .before .before .before .before .before .enum-told in
+    let put-number = c .before .before .before .before .before .before .before .put-number in
+    let put-number2 = c .before .before .before .put-number2 in
+    let there = last-there (now (start .args .rule)) (now (start .args .plan)) (start .pre) in
+    (stored-sized _ _ (put-number2 .ensures) (stored-sized _ _ (put-number .ensures) (make-parts .ensures .1 .made (enum-told .given .1) .sized)), omega arith, omega arith)
+
+-- src/lib.rt:75:1
+same-length-2 : tie.Need-same-length-2
+same-length-2 c = search needs
+
+-- src/lib.rt:75:1
+returns-3 : tie.Need-returns-3
+returns-3 c =
+    let start = c .before .before .before .before .before .before .before .before .before .before .before .before .before .before .before .before .before .before .before .before .before in
+    let if1 = c .before .before .before .before .before .before .before .before .before .before .before .before .before .before .before .before .if1 in
+    let make-parts = c .before .before .before .before .before .before .before .before .before .before .before .before .before .before .make-parts in
+    let enum-told = c .before .before .before .before .before .before .before .before .before .before .enum-told in
+    let put-number = c .before .before .before .before .before .before .before .before .put-number in
+    let put-number2 = c .before .before .before .before .put-number2 in
+    let mark-at = c .mark-at in
+    made-left (now (start .args .rule)) (now (start .args .plan)) (start .pre) (now (start .args .marks)) (if1 .left) (table-left (now (start .args .rule)) (now (start .args .plan)) (start .pre) (now (start .args .marks)) (if1 .left) _ _ _ (make-parts .ensures .1 .made (enum-told .given .1)) (put-number .ensures) (put-number2 .ensures)) (make-parts .ensures .0) (enum-told .given .1) (mark-at .ensures)
+
+pub make-table-spec : {M : Type 1} → statement M
+make-table-spec =
+    tie.close
+    (tie.spec
+    add-w
+    mul-if1
+    add-if1
+    mul-if1-2
+    add-if1-2
+    returns
+    make-parts-requires
+    enum-known-made
+    clear-requires
+    same-length
+    returns-2
+    enum-told
+    put-number-requires
+    put-number-requires-2
+    sub-mark-at
+    mark-at-requires
+    same-length-2
+    returns-3)

@@ -1,0 +1,3 @@
+pub mod Make
+pub mod Promise
+pub mod inner

@@ -1,0 +1,103 @@
+use denote.Ref.{now}
+use mathlib.Core.Path.{sym, _∙_}
+use native.Mathlib.Omega.{arith}
+use Rattle.inputs.proofs.Ways.{ready}
+use Rattle.inputs.proofs.Parts.{few-there}
+use Rattle.table.proofs.Places.{area}
+use borrow.Author.Needs.{needs}
+use Rattle.runmake.proofs.table_length.Statement.{statement}
+use Rattle.runmake.proofs.table_length.Tie as tie
+use Rattle.runmake.proofs.table_length.Reads as reads
+use Rattle.runmake.proofs.table_length.Lts as lts
+use Rattle.inputs.proofs.read_inputs.Reads as read-inputs-reads
+
+-- src/main.rt:11:11
+read-inputs-requires : tie.Need-read-inputs-requires
+read-inputs-requires c κs = search needs
+
+-- src/main.rt:12:27
+enum-known-parts : tie.Need-enum-known-parts
+enum-known-parts c = search needs
+
+-- src/main.rt:12:58
+add-result : tie.Need-add-result
+add-result c =
+    let start = c .before .before .before .before .before .before .before in
+    let read-inputs = c .before .before .before .before .read-inputs in
+    let parts = c .before .before .parts in
+    let few = few-there (now (start .args .rule)) (now (start .args .plan)) (ready (now (start .args .rule)) (now (start .args .plan)) (sym (read-inputs .ensures) ∙ parts .given .1) .1) in
+    let cells = area _ _ (few .0) (few .1) in
+    omega arith
+
+-- src/main.rt:12:49
+mul-result : tie.Need-mul-result
+mul-result c =
+    let start = c .before .before .before .before .before .before .before in
+    let read-inputs = c .before .before .before .before .read-inputs in
+    let parts = c .before .before .parts in
+    let few = few-there (now (start .args .rule)) (now (start .args .plan)) (ready (now (start .args .rule)) (now (start .args .plan)) (sym (read-inputs .ensures) ∙ parts .given .1) .1) in
+    let cells = area _ _ (few .0) (few .1) in
+    omega arith
+
+-- src/main.rt:12:45
+add-result-2 : tie.Need-add-result-2
+add-result-2 c =
+    let start = c .before .before .before .before .before .before .before in
+    let read-inputs = c .before .before .before .before .read-inputs in
+    let parts = c .before .before .parts in
+    let few = few-there (now (start .args .rule)) (now (start .args .plan)) (ready (now (start .args .rule)) (now (start .args .plan)) (sym (read-inputs .ensures) ∙ parts .given .1) .1) in
+    let cells = area _ _ (few .0) (few .1) in
+    omega arith
+
+-- src/main.rt:12:87
+mul-result-2 : tie.Need-mul-result-2
+mul-result-2 c =
+    let start = c .before .before .before .before .before .before .before in
+    let read-inputs = c .before .before .before .before .read-inputs in
+    let parts = c .before .before .parts in
+    let few = few-there (now (start .args .rule)) (now (start .args .plan)) (ready (now (start .args .rule)) (now (start .args .plan)) (sym (read-inputs .ensures) ∙ parts .given .1) .1) in
+    let cells = area _ _ (few .0) (few .1) in
+    omega arith
+
+-- src/main.rt:12:45
+add-result-3 : tie.Need-add-result-3
+add-result-3 c =
+    let start = c .before .before .before .before .before .before .before in
+    let read-inputs = c .before .before .before .before .read-inputs in
+    let parts = c .before .before .parts in
+    let few = few-there (now (start .args .rule)) (now (start .args .plan)) (ready (now (start .args .rule)) (now (start .args .plan)) (sym (read-inputs .ensures) ∙ parts .given .1) .1) in
+    let cells = area _ _ (few .0) (few .1) in
+    omega arith
+
+-- src/main.rt:13:35
+enum-told : tie.Need-enum-told
+enum-told c = search needs
+
+-- src/main.rt:8:1
+returns : tie.Need-returns
+returns c =
+    let start = c .before .before .before .before .before .before .before in
+    let read-inputs = c .before .before .before .before .read-inputs in
+    let parts = c .before .before .parts in
+    let few = few-there (now (start .args .rule)) (now (start .args .plan)) (ready (now (start .args .rule)) (now (start .args .plan)) (sym (read-inputs .ensures) ∙ parts .given .1) .1) in
+    let cells = area _ _ (few .0) (few .1) in
+    omega arith
+
+-- src/main.rt:8:1
+returns-2 : tie.Need-returns-2
+returns-2 c = search needs
+
+pub table-length-spec : {M : Type 1} → statement M
+table-length-spec =
+    tie.close
+    (tie.spec
+    read-inputs-requires
+    enum-known-parts
+    add-result
+    mul-result
+    add-result-2
+    mul-result-2
+    add-result-3
+    enum-told
+    returns
+    returns-2)

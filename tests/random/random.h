@@ -1,0 +1,14 @@
+/*
+ * random.h: what random cases ask of make (random_make.c).
+ */
+#ifndef RANDOM_H
+#define RANDOM_H
+
+/* Have a table made for the rule and the plan of the case as they stand, mostly
+   in a buffer of the right length. */
+void ask_for_table(const char *name);
+
+/* Print what the answers were, and hold the counts to their floors. */
+void print_make_counts(unsigned long cases);
+
+#endif
