@@ -1,12 +1,11 @@
 -- What the sweeps over a table give on a row is the mark of the operator there. Assumes nothing.
 use mathlib.Core.Path.{_≡_, refl, sym, ap, ap₂, _∙_, fun-ext}
-use mathlib.Core.Bool.{Bool, true, false, not, _&&_, _||_, and-comm, or-comm}
+use mathlib.Core.Bool.{Bool, true, false, not, _&&_, _||_, or-comm}
 use mathlib.Core.List.{List}
 use Prim.Native.Nat.{ℕ, zero, suc, _+_, _*_, _-_, _≤_, _<_}
 use native.Mathlib.Omega.{arith}
 use lib.Dec.{eqb}
 use lib.ListN.{getD}
-use Rattle.cltlb.specs.declared.Unary.{Unary}
 use Rattle.cltlb.specs.declared.Unary.the-variants as unary
 use Rattle.cltlb.specs.declared.Binary.{Binary}
 use Rattle.cltlb.specs.declared.Binary.the-variants as binary
@@ -14,10 +13,10 @@ use Rattle.cltlb.specs.declared.Operator.the-variants.{One, Two}
 use Rattle.plan.specs.Positions.{last, after}
 use Rattle.plan.proofs.Rows.{after-last, after-other}
 use Rattle.table.specs.Layout.{markByte, marked}
-use Rattle.table.specs.inner.Tables.{flipped, markIn}
+use Rattle.table.specs.inner.Tables.{flipped}
 use Rattle.table.specs.inner.Sweeps.{carried, backed, marksFrom}
 use Rattle.marks.specs.declared.operators.Beside.the-variants.{After, Before}
-use Rattle.marks.specs.Equations.{besideOne, besideTwo, markOne, markTwo, markBeside}
+use Rattle.marks.specs.Equations.{besideTwo, markTwo, markBeside}
 use Rattle.marks.specs.Parts.{running}
 use Rattle.labelling.specs.Labels.{endTwo, following, labelBy, operatorLabel}
 use Rattle.labelling.proofs.Following.{ahead-step}

@@ -1,8 +1,7 @@
 -- An operator that is followed from row to row meets its equation on every row: once round the cycle is enough, as its mark can
--- only rise with what counts behind. Assumes nothing.
-use mathlib.Core.Path.{_≡_, refl, sym, ap, ap₂, _∙_, subst}
-use mathlib.Core.Bool.{Bool, true, false, _&&_, _||_}
-use mathlib.Core.List.{List}
+-- only rise with what counts behind. U made is the least solution of the equation, R the greatest. Assumes nothing.
+use mathlib.Core.Path.{_≡_, refl, sym, ap, _∙_, subst, subst⁻¹}
+use mathlib.Core.Bool.{Bool, true, false}
 use mathlib.Core.Logic.{by-cases}
 use Prim.Native.Nat.{ℕ, zero, suc, _+_, _-_, _≤_, _<_}
 use native.Mathlib.Decide.{decLt}
@@ -14,8 +13,7 @@ use Rattle.cltlb.specs.declared.Operator.{Operator}
 use Rattle.cltlb.specs.declared.Operator.the-variants.{One, Two}
 use Rattle.plan.specs.Positions.{last, after}
 use Rattle.plan.proofs.Rows.{after-last, after-other}
-use Rattle.marks.specs.declared.operators.Beside.{Beside}
-use Rattle.marks.specs.declared.operators.Beside.the-variants.{After, Before}
+use Rattle.marks.specs.declared.operators.Beside.the-variants.{After}
 use Rattle.marks.specs.Equations.{markTwo, stepOn, watchedTruth}
 use Rattle.labelling.specs.Labels.{endOf, following, labelBy}
 
@@ -144,3 +142,29 @@ module _ (P C : ℕ) (hC : 1 ≤ C) (mark : ℕ → ℕ → Bool) (o : Operator)
           let all : P + C - P + C ≡ C + C = omega arith in
           ap (λ (k : ℕ). following P C mark o k row) left
           ∙ ap (step P C mark o row) (ap (following P C mark o C) next ∙ sym once ∙ ap (λ (k : ℕ). following P C mark o k P) (sym all) ∙ ap (λ (r : ℕ). following P C mark o (P + C - r + C) r) (sym next))
+
+-- ---- the least and the greatest solution
+
+after-below : (P C : ℕ) → 1 ≤ C → (row : ℕ) → row < P + C → after P C row < P + C
+unfolding last
+after-below P C hC row l =
+    by-cases (decLt (suc row) (P + C)) (λ q. omega (arith, after-other P C row q))
+    (λ q. let e : row ≡ P + C - 1 = omega arith in let next : after P C row ≡ P = ap (after P C) e ∙ after-last P C in omega arith)
+
+module _ (P C : ℕ) (hC : 1 ≤ C) (mark : ℕ → ℕ → Bool) (o : Operator) (m : ℕ → Bool)
+    (solves : (row : ℕ) → row < P + C → m row ≡ step P C mark o row (m (after P C row))) where
+  -- U made is true only where every solution of its equation is.
+  pub least : endOf o ≡ false → (k row : ℕ) → row < P + C → T (following P C mark o k row) → T (m row)
+  unfolding following
+  least e zero row l h = absurd (subst T e h)
+  least e (suc k) row l h =
+      let next = after P C row in
+      subst⁻¹ T (solves row l) (step-rises P C mark o row (following P C mark o k next) (m next) (least e k next (after-below P C hC row l)) h)
+
+  -- R made is true wherever some solution of its equation is.
+  pub greatest : endOf o ≡ true → (k row : ℕ) → row < P + C → T (m row) → T (following P C mark o k row)
+  unfolding following
+  greatest e zero row l h = subst⁻¹ T e tt
+  greatest e (suc k) row l h =
+      let next = after P C row in
+      step-rises P C mark o row (m next) (following P C mark o k next) (greatest e k next (after-below P C hC row l)) (subst T (solves row l) h)

@@ -1,6 +1,6 @@
 -- Marks that are made as the definition says meet their equations, and the lowest witness of such a part is in order. Assumes
 -- nothing.
-use mathlib.Core.Path.{_≡_, refl, sym, ap, _∙_, subst, subst⁻¹}
+use mathlib.Core.Path.{_≡_, refl, sym, ap, _∙_, subst}
 use mathlib.Core.Bool.{Bool, true, false, cond, not, _&&_, _||_}
 use mathlib.Core.List.{List}
 use mathlib.Core.Option.{Option, none, some}
@@ -16,7 +16,7 @@ use Rattle.cltlb.specs.declared.Operator.the-variants.{One, Two}
 use Rattle.cltlb.specs.declared.View.{View}
 use Rattle.cltlb.specs.declared.View.the-variants as view
 use Rattle.refusal.specs.Lowest.{lowestFrom}
-use Rattle.refusal.proofs.Lowest.{FalseFrom, LowestAt, from-none, from-some}
+use Rattle.refusal.proofs.Lowest.{FalseFrom, from-none, from-some}
 use Rattle.plan.specs.Layout.{startRows, cycleRows, rows}
 use Rattle.plan.specs.Positions.{last, after}
 use Rattle.plan.proofs.Rows.{after-last, after-other}

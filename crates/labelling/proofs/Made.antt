@@ -1,6 +1,6 @@
 -- The marks made, part after part: each is made of the marks made, and where every part closes they are accepted with the lowest
 -- witnesses; where one does not close, no marks are accepted. Assumes nothing.
-use mathlib.Core.Path.{_≡_, refl, sym, ap, _∙_, subst, subst⁻¹}
+use mathlib.Core.Path.{_≡_, refl, sym, _∙_, subst, subst⁻¹}
 use mathlib.Core.Bool.{Bool, true}
 use mathlib.Core.List.{List}
 use mathlib.Core.Logic.{_↔_, Iff·symm, Iff·trans}
@@ -10,21 +10,20 @@ use native.Mathlib.Omega.{arith}
 use lib.Dec.{T}
 use Rattle.cltlb.specs.Fits.{viewFits}
 use Rattle.cltlb.specs.declared.View.{View}
-use Rattle.refusal.specs.First.{_orElse_, inTurn}
+use Rattle.refusal.specs.First.{_orElse_}
 use Rattle.refusal.specs.declared.Outcome.the-variants.{Clear, Refused}
 use Rattle.refusal.specs.declared.Refusal.{Refusal}
 use Rattle.refusal.specs.declared.Refusal.the-variants.{Closing, Witness}
-use Rattle.refusal.proofs.First.{orElse-clear, unless-clear-T, inTurn-clear, clear-refused}
+use Rattle.refusal.proofs.First.{orElse-clear, unless-clear-T, inTurn-clear}
 use Rattle.plan.specs.Layout.{startRows, cycleRows, rows}
 use Rattle.marks.specs.Parts.{witnessInOrder, equationOutcome, closingOutcome, witnessOutcome, partOutcome}
 use Rattle.marks.specs.RefusalMeaning.{ClosingMeans}
 use Rattle.marks.proofs.Rows.{first-position}
 use Rattle.marks.proofs.Tests.{T-ext}
-use Rattle.marks.proofs.Endless.{markAt}
 use Rattle.marks.proofs.Unrolled.{equation-clear}
 use Rattle.marks.proofs.Accepted.{TrueAt, Accepted, below}
 use Rattle.marks.proofs.RefusalMeans.{closing-says}
-use Rattle.labelling.specs.Labels.{labelOf, lowestWitness, labelTo, madeMark, madeWitness}
+use Rattle.labelling.specs.Labels.{lowestWitness, labelTo, madeMark, madeWitness}
 use Rattle.labelling.proofs.Labelled.{Labelled, label-meets, lowest-in-order}
 use Rattle.labelling.proofs.SameMarks.{SameBelow, label-same, closing-same, witness-same}
 

@@ -1,7 +1,7 @@
 -- The table made, by its bytes: it clears refusals 7 and 8, where every part closes it passes 9 to 11, and its witnesses are the
 -- lowest. Assumes nothing.
 use mathlib.Core.Path.{_≡_, sym, _∙_, subst⁻¹}
-use mathlib.Core.Bool.{Bool, true}
+use mathlib.Core.Bool.{true}
 use mathlib.Core.List.{List}
 use Prim.Native.Nat.{ℕ, _≤_, _<_}
 use lib.Dec.{T}
@@ -13,7 +13,7 @@ use Rattle.table.specs.Layout.{marked, witnessOf, tableOutcome}
 use Rattle.table.proofs.TableBytes as bytes
 use Rattle.marks.specs.Parts.{witnessInOrder}
 use Rattle.marks.proofs.Accepted.{Accepted}
-use Rattle.labelling.specs.Labels.{lowestWitness, madeMark, madeWitness, madeTable}
+use Rattle.labelling.specs.Labels.{madeMark, madeWitness, madeTable}
 use Rattle.labelling.proofs.Labelled.{lowest-least, lowest-small}
 use Rattle.labelling.proofs.SameMarks.{SameBelow}
 use Rattle.labelling.proofs.Made.{Closed, agree-witness, made-accepted}

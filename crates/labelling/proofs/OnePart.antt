@@ -1,5 +1,5 @@
 -- One part made, by its view: what the code knows once its rows are written. Assumes nothing.
-use mathlib.Core.Path.{_≡_, refl, sym, ap, _∙_, subst, subst⁻¹}
+use mathlib.Core.Path.{_≡_, sym, ap, _∙_, subst, subst⁻¹}
 use mathlib.Core.Bool.{Bool, true}
 use mathlib.Core.List.{List}
 use mathlib.Core.Logic.{inl}
@@ -7,7 +7,7 @@ use Prim.Native.Nat.{ℕ, _+_, _*_, _≤_, _<_}
 use native.Mathlib.Nat.{mul-le-mul-right}
 use native.Mathlib.Omega.{arith}
 use lib.Dec.{eqb}
-use lib.ListN.{length, getD}
+use lib.ListN.{getD}
 use Rattle.cltlb.specs.Fits.{atomFits, namesLower, viewFits}
 use Rattle.cltlb.specs.declared.Atom.{Atom}
 use Rattle.cltlb.specs.declared.Operator.{Operator}
@@ -15,8 +15,7 @@ use Rattle.cltlb.specs.declared.View.{View}
 use Rattle.cltlb.specs.declared.View.the-variants as view
 use Rattle.cltlb.proofs.Fits.{atom-fits, operator-fits, view-more}
 use Rattle.refusal.specs.declared.Outcome.{Outcome}
-use Rattle.refusal.specs.declared.Outcome.the-variants.{Clear}
-use Rattle.plan.specs.Layout.{startRows, cycleRows, rows}
+use Rattle.plan.specs.Layout.{rows}
 use Rattle.plan.specs.declared.sizes.Sizes.{Sizes}
 use Rattle.plan.specs.inner.Sizes.{allRows, Fitting}
 use Rattle.plan.proofs.Fits.{rows-are}
@@ -26,7 +25,7 @@ use Rattle.table.specs.Bytes.{byteOf}
 use Rattle.table.specs.inner.Tables.{Sized}
 use Rattle.table.specs.inner.Stored.{Stored}
 use Rattle.table.proofs.TableBytes.{read-byte}
-use Rattle.marks.specs.Parts.{steadyOutcome, equationOutcome, closingOutcome}
+use Rattle.marks.specs.Parts.{steadyOutcome, closingOutcome}
 use Rattle.marks.specs.inner.PartsRead.{Readable, Met}
 use Rattle.marks.proofs.PartsChecked.{at-sizes, own-cycle}
 use Rattle.marks.proofs.Unrolled.{equation-clear}

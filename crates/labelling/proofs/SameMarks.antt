@@ -1,10 +1,9 @@
 -- What is made of a part, whether it closes and its witness hang on the marks on the rows of lower parts, and the witness on those
 -- of the part as well. Assumes nothing.
-use mathlib.Core.Path.{_≡_, refl, sym, ap, ap₂, _∙_}
+use mathlib.Core.Path.{_≡_, refl, ap, ap₂, _∙_}
 use mathlib.Core.Bool.{Bool, true, cond, not, _&&_, Bool·beq}
 use mathlib.Core.List.{List}
 use Prim.Native.Nat.{ℕ, zero, suc, _+_, _-_, _≤_, _<_}
-use native.Mathlib.Nat.{not-suc-le-zero}
 use native.Mathlib.Omega.{arith}
 use lib.Dec.{eqb}
 use Rattle.cltlb.specs.Fits.{namesLower, viewFits}
@@ -16,17 +15,16 @@ use Rattle.cltlb.specs.declared.View.{View}
 use Rattle.cltlb.specs.declared.View.the-variants as view
 use Rattle.cltlb.proofs.Fits.{operator-fits, one-lower, two-lower}
 use Rattle.refusal.specs.First.{unless}
-use Rattle.refusal.specs.Lowest.{lowestFrom}
 use Rattle.refusal.specs.declared.Refusal.the-variants.{Closing}
 use Rattle.refusal.proofs.Lowest.{from-ext}
 use Rattle.plan.specs.Layout.{startRows, cycleRows, rows}
-use Rattle.plan.specs.Positions.{last, after}
+use Rattle.plan.specs.Positions.{after}
 use Rattle.marks.specs.declared.operators.Beside.{Beside}
 use Rattle.marks.specs.declared.operators.Beside.the-variants.{After, Before}
 use Rattle.marks.specs.Equations.{besideOf, markOne, markTwo, stepOn, watchedTruth}
 use Rattle.marks.specs.Parts.{noWitness, isCycleRow, names, witnessTwo, witnessOfOperator, witnessInOrder, running, closesBy, closes, closingOutcome}
-use Rattle.marks.proofs.Rows.{lastRow, row-0, last-is-row, after-is-row}
-use Rattle.labelling.specs.Labels.{following, labelBy, operatorLabel, labelOf, orNone, lowestWitness, labelTo, madeMark}
+use Rattle.marks.proofs.Rows.{lastRow, last-is-row, after-is-row}
+use Rattle.labelling.specs.Labels.{following, labelBy, operatorLabel, labelOf, orNone, lowestWitness}
 
 -- Two tables whose marks of the parts below i agree on the rows.
 abbrev pub SameBelow : List ℕ → (ℕ → ℕ → Bool) → (ℕ → ℕ → Bool) → ℕ → Type 0

@@ -1,7 +1,7 @@
 // The lowest witness of a part, in a table of `n` parts. `i` is the part's number.
 ghost use mathlib.Core.Path.{_≡_};
 ghost use mathlib.Core.Bool.{true};
-ghost use Prim.Native.Nat.{_≤_, _<_};
+ghost use Prim.Native.Nat.{_<_};
 ghost use Rattle.cltlb.specs.Fits.{viewFits};
 ghost use Rattle.refusal.specs.Lowest.{lowestFrom};
 ghost use Rattle.plan.specs.inner.Sizes.{allRows, Fitting};

@@ -3,19 +3,18 @@ use Prim.Native.Nat.{ℕ, _+_, _*_, _-_, _≤_, _<_}
 use native.Mathlib.Omega.{arith}
 use mathlib.Core.Path.{_≡_, refl, sym, ap, _∙_, subst, subst⁻¹}
 use mathlib.Core.List.{List}
-use mathlib.Core.Bool.{Bool, true, false}
+use mathlib.Core.Bool.{Bool, true}
 use mathlib.Core.Logic.{_↔_}
-use lib.Dec.{T, eqb}
 use lib.ListN.{length}
 use borrow.Author.Tests.{eq-eqb}
 use Rattle.cltlb.specs.Fits.{viewFits}
 use Rattle.refusal.specs.declared.Outcome.{Outcome}
 use Rattle.refusal.specs.declared.Outcome.the-variants.{Clear, Refused}
 use Rattle.refusal.specs.declared.Refusal.{Refusal}
-use Rattle.refusal.specs.declared.Refusal.the-variants.{Closing, BufferLength, NoTable}
+use Rattle.refusal.specs.declared.Refusal.the-variants.{BufferLength, NoTable}
 use Rattle.refusal.specs.Report.{reportOf}
-use Rattle.refusal.specs.First.{_orElse_, unless, inTurn}
-use Rattle.refusal.proofs.First.{clear-refused, orElse-clear, orElse-refused, unless-clear, inTurn-clear, inTurn-refused}
+use Rattle.refusal.specs.First.{_orElse_}
+use Rattle.refusal.proofs.First.{clear-refused, orElse-clear, unless-clear, inTurn-clear, inTurn-refused}
 use Rattle.refusal.proofs.RefusesOnly.{Small, Within, RefusesOnly, refused-only, orElse-only, unless-only, inTurn-only, orElse-second, within-small, within-wider}
 use Rattle.rule.specs.Layout.{partCount, channelCount}
 use Rattle.rule.specs.Take.{viewsOf}
@@ -24,7 +23,6 @@ use Rattle.plan.specs.Layout.{cycleRows, rows}
 use Rattle.plan.proofs.Outcomes.{cleared}
 use Rattle.inputs.specs.Outcome.{inputsOutcome}
 use Rattle.inputs.proofs.Ways.{clear-both, both-clear, inputs-within}
-use Rattle.table.specs.Layout.{marked, witnessOf}
 use Rattle.marks.specs.Parts.{closingOutcome}
 use Rattle.marks.specs.RefusalMeaning as refusal
 use Rattle.marks.proofs.Accepted.{Accepted}
@@ -34,7 +32,7 @@ use Rattle.labelling.proofs.Made.{Closed, open-says, open-refuted}
 use Rattle.labelling.proofs.MadeTable.{table-same, table-clear, table-accepted, table-lowest}
 use Rattle.acceptance.specs.declared.Checked.the-variants as C
 use Rattle.acceptance.specs.Check.{markOf, witnessAt, partsOutcome, checkOutcome, checkOf}
-use Rattle.acceptance.specs.Promise.{Cleared, RuleTruth, TableRight}
+use Rattle.acceptance.specs.Promise.{Cleared}
 use Rattle.acceptance.proofs.Promised.{accepted-clear, clear-accepted, all-clear, clear-all, check-promise}
 use Rattle.maker.specs.declared.Made.{Made}
 use Rattle.maker.specs.declared.Made.the-variants as M

@@ -2,7 +2,7 @@
 use Prim.Native.Nat.{ℕ, suc, _+_, _*_, _-_, _≤_, _<_}
 use native.Mathlib.Numerals.{add-one}
 use native.Mathlib.Omega.{arith}
-use mathlib.Core.Path.{_≡_, refl, sym, ap, ap₂, _∙_, subst, subst⁻¹}
+use mathlib.Core.Path.{_≡_, sym, ap, ap₂, _∙_, subst, subst⁻¹}
 use mathlib.Core.List.{List, map}
 use mathlib.Core.Bool.{Bool, true}
 use lib.Dec.{eqb}
@@ -39,11 +39,10 @@ use Rattle.table.specs.inner.Stored.{Stored}
 use Rattle.table.proofs.Places.{area}
 use Rattle.marks.specs.Parts.{closingOutcome}
 use Rattle.marks.proofs.PartsChecked.{own-cycle}
-use Rattle.labelling.specs.Labels.{labelOf, lowestWitness, madeMark, madeWitness, madeTable}
+use Rattle.labelling.specs.Labels.{labelOf, lowestWitness, madeMark, madeTable}
 use Rattle.labelling.specs.inner.Rows.{RowsLabelled}
-use Rattle.labelling.proofs.SameMarks.{SameBelow, closing-same}
+use Rattle.labelling.proofs.SameMarks.{closing-same}
 use Rattle.labelling.proofs.MadeTable.{table-same}
-use Rattle.maker.specs.declared.Made.{Made}
 use Rattle.maker.specs.declared.Made.the-variants as M
 use Rattle.maker.specs.Make.{asNoTable, openOutcome, closingsOutcome, lentOutcome, makeOutcome, answered, makeOf, leftBy, bytesAfter}
 use Rattle.maker.specs.inner.Parts.{AgreeOn, MadeBelow, MadeTo}

@@ -82,7 +82,13 @@ returns-2 c =
     let label-part = c .before .before .before .before .before .before .label-part in
     let closing = c .before .before .closing in
     let report-of = c .report-of in
-    (ap (λ (x : Report). Refused (NoTable (x .part) (x .row))) (report-of .ensures) ∙ part-open (now (start .args .rule)) (now (start .args .plan)) (start .pre .0) _ (start .pre .2) (take .ensures .isTake) (taken .given .1) (view-of .ensures) (now (start .args .table)) (start .pre .1) (label-part .ensures .0) (closing .given .1), left-open (now (start .args .rule)) (now (start .args .plan)) (start .pre .0) _ (start .pre .2) (take .ensures .isTake) (taken .given .1) (view-of .ensures) (now (start .args .table)) (start .pre .1) (label-part .ensures .1))
+    let rule = now (start .args .rule) in
+    let plan = now (start .args .plan) in
+    let table = now (start .args .table) in (
+      ap (λ (x : Report). Refused (NoTable (x .part) (x .row))) (report-of .ensures)
+          ∙ part-open rule plan (start .pre .0) _ (start .pre .2) (take .ensures .isTake) (taken .given .1) (view-of .ensures) table (start .pre .1) (label-part .ensures .0) (closing .given .1),
+      left-open rule plan (start .pre .0) _ (start .pre .2) (take .ensures .isTake) (taken .given .1) (view-of .ensures) table (start .pre .1) (label-part .ensures .1),
+    )
 
 enum-told-2 : tie.Need-enum-told-2
 enum-told-2 c = search needs
@@ -96,7 +102,8 @@ lowest-witness-requires c κs =
     let view-of = c .before .before .before .before .before .before .before .view-of in
     let label-part = c .before .before .before .before .before .label-part in
     let enum-told2 = c .before .enum-told2 in
-    (start .pre .0 .fits, still-sized _ (start .args .i) (label-part .ensures .1 .made (enum-told2 .given .1)) (start .pre .1 .sized), start .pre .2, taken-fitting (now (start .args .rule)) (now (start .args .plan)) (start .pre .0) _ (start .pre .2) (take .ensures .isTake) (taken .given .1) (view-of .ensures))
+    let sized = still-sized _ (start .args .i) (label-part .ensures .1 .made (enum-told2 .given .1)) (start .pre .1 .sized) in
+    (start .pre .0 .fits, sized, start .pre .2, taken-fitting (now (start .args .rule)) (now (start .args .plan)) (start .pre .0) _ (start .pre .2) (take .ensures .isTake) (taken .given .1) (view-of .ensures))
 
 -- src/lib.rt:54:27
 mul-put-number : tie.Need-mul-put-number
@@ -139,7 +146,13 @@ returns-3 c =
     let enum-told2 = c .before .before .before .before .before .before .enum-told2 in
     let lowest-witness = c .before .before .before .before .lowest-witness in
     let put-number = c .before .before .put-number in
-    (part-closed (now (start .args .rule)) (now (start .args .plan)) (start .pre .0) _ (start .pre .2) (take .ensures .isTake) (taken .given .1) (view-of .ensures) (now (start .args .table)) (start .pre .1) (label-part .ensures .0) (enum-told2 .given .1), left-made (now (start .args .rule)) (now (start .args .plan)) (start .pre .0) _ (start .pre .2) (take .ensures .isTake) (taken .given .1) (view-of .ensures) (now (start .args .table)) (start .pre .1) _ _ (label-part .ensures .1) (enum-told2 .given .1) (lowest-witness .ensures .0) (put-number .ensures))
+    let rule = now (start .args .rule) in
+    let plan = now (start .args .plan) in
+    let table = now (start .args .table) in (
+      part-closed rule plan (start .pre .0) _ (start .pre .2) (take .ensures .isTake) (taken .given .1) (view-of .ensures) table (start .pre .1) (label-part .ensures .0) (enum-told2 .given .1),
+      left-made rule plan (start .pre .0) _ (start .pre .2) (take .ensures .isTake) (taken .given .1) (view-of .ensures) table (start .pre .1) _ _ (label-part .ensures .1) (enum-told2 .given .1)
+          (lowest-witness .ensures .0) (put-number .ensures),
+    )
 
 pub make-part-spec : {M : Type 1} → statement M
 make-part-spec =

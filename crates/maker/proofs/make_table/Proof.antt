@@ -143,7 +143,11 @@ returns-3 c =
     let put-number = c .before .before .before .before .before .before .before .before .put-number in
     let put-number2 = c .before .before .before .before .put-number2 in
     let mark-at = c .mark-at in
-    made-left (now (start .args .rule)) (now (start .args .plan)) (start .pre) (now (start .args .marks)) (if1 .left) (table-left (now (start .args .rule)) (now (start .args .plan)) (start .pre) (now (start .args .marks)) (if1 .left) _ _ _ (make-parts .ensures .1 .made (enum-told .given .1)) (put-number .ensures) (put-number2 .ensures)) (make-parts .ensures .0) (enum-told .given .1) (mark-at .ensures)
+    let rule = now (start .args .rule) in
+    let plan = now (start .args .plan) in
+    let before = now (start .args .marks) in
+    let whole = table-left rule plan (start .pre) before (if1 .left) _ _ _ (make-parts .ensures .1 .made (enum-told .given .1)) (put-number .ensures) (put-number2 .ensures) in
+    made-left rule plan (start .pre) before (if1 .left) whole (make-parts .ensures .0) (enum-told .given .1) (mark-at .ensures)
 
 pub make-table-spec : {M : Type 1} → statement M
 make-table-spec =
