@@ -18,6 +18,7 @@
 #define C_5 "00 04 05 00 00 00 "
 #define C_9 "00 04 09 00 00 00 "
 #define C_10 "00 04 0A 00 00 00 "
+#define C_15 "00 04 0F 00 00 00 "
 #define C_20 "00 04 14 00 00 00 "
 #define C_25 "00 04 19 00 00 00 "
 #define C_31 "00 04 1F 00 00 00 "
@@ -43,6 +44,9 @@
 #define BELOW_31_UNTIL_BELOW_5 RULE_OF_3 "01 01 07 " X C_31 X C_5 NAMES_0_1
 #define IS_10_RELEASE_BELOW_25 RULE_OF_3 "02 01 08 " X C_10 X C_25 NAMES_0_1
 #define ALWAYS_ABOVE_5 RULE_OF_3 "01 01 08 " C_1 C_0 C_5 X NAMES_0_1
+#define RULE_OF_5 "05 00 01 00 01 02 07 09 08 " C_15 X X C_20 NAMES_0_1
+#define NAMES_1 "01 00 00 00 00 00 00 00 00 00 00 00 "
+#define NAMES_3_1 "03 00 01 00 00 00 00 00 00 00 00 00 "
 #define BELOW_9_UNTIL_BELOW_3 "03 00 01 00 01 01 07 " X C_9 X C_3 NAMES_0_1
 
 /* ---- Plans: V, P, C, readings, drifts ---- */
@@ -54,6 +58,10 @@
     "01 00 03 00 02 00 0A 00 00 00 14 00 00 00 1E 00 00 00 14 00 00 00 1E 00 00 00 "               \
     "00 00 00 00 00 00 00 00 00 00 00 00 00 00 00 00 00 00 00 00"
 #define PLAN_M "01 00 00 00 02 00 14 00 00 00 1E 00 00 00 00 00 00 00 00 00 00 00"
+#define PLAN_D_BY(drift)                                                                           \
+    "01 00 01 00 04 00 14 00 00 00 14 00 00 00 0A 00 00 00 14 00 00 00 1E 00 00 00 "               \
+    "00 00 00 00 00 00 00 00 00 00 00 00 00 00 00 00 " drift
+#define PLAN_D PLAN_D_BY("05 00 00 00")
 #define ONE_ROW "01 00 00 00 01 00 "
 #define PLAN_B ONE_ROW "FE 0F 00 00 01 00 00 00"
 #define FROM_0_BY_3 ONE_ROW "00 00 00 00 03 00 00 00"
@@ -133,6 +141,17 @@ const struct example examples[] = {
     { "R always", ALWAYS_ABOVE_5, PLAN_A, "03 00 03 00 00 00 00 01 01 01 01 01 01 " NO_3, 0, 1 },
     { "R always, marked 0", ALWAYS_ABOVE_5, PLAN_A,
       "03 00 03 00 00 00 00 01 01 01 00 00 00 " NO_2 "01 00", 0, REFUSED(11, 2, 0) },
+
+    { "made step by step", RULE_OF_5 NAMES_0 NAMES_3_1, PLAN_D,
+      "05 00 05 00 01 01 00 01 01 01 01 00 01 00 01 01 00 01 01 00 01 01 00 01 01 01 00 00 00 " NO_2
+      "01 00 " NONE "02 00", 0, 1 },
+    { "made step by step, part 3 Y 1", RULE_OF_5 NAMES_1 NAMES_3_1, PLAN_D,
+      "05 00 05 00 01 01 00 01 01 01 01 00 01 00 01 01 00 01 01 00 01 01 00 01 01 01 00 00 00 " NO_2
+      "01 00 " NONE "02 00", 0, REFUSED(10, 3, 1) },
+    { "made step by step, row 4 drifting down", RULE_OF_5 NAMES_0 NAMES_3_1,
+      PLAN_D_BY("FB FF FF FF"),
+      "05 00 05 00 01 01 00 01 01 01 01 00 01 00 01 01 00 01 01 00 01 01 00 01 01 01 00 00 00 " NO_2
+      "01 00 " NONE "02 00", 0, REFUSED(10, 0, 4) },
 };
 const size_t example_count = sizeof examples / sizeof examples[0];
 
