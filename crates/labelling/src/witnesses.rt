@@ -12,11 +12,9 @@ ghost use Rattle.labelling.specs.inner.Rows.{lowestTwo};
 use cltlb::Binary;
 use cltlb::Operator;
 use cltlb::View;
+use marks::witness::NO_WITNESS;
 use plan::sizes::Sizes;
 use table::bytes::mark_at;
-
-// What stands for no witness.
-const NO_WITNESS: usize = 65535;
 
 // The lowest cycle row on which part `b` has the mark 1, or the mark 0 where the opposite is asked for; 65535 where there is none.
 fn lowest_row(table: &[u8], n: usize, sizes: Sizes, b: usize, opposite: bool) -> usize

@@ -16,7 +16,7 @@ use table::bytes::mark_at;
 use table::bytes::witness_at;
 
 // What stands for no witness.
-const NO_WITNESS: usize = 65535;
+pub const NO_WITNESS: usize = 65535;
 
 // Row `w` is a row from P to W - 1 on which part `b` has the mark 1, or the mark 0 where the opposite is asked for.
 fn names_row(table: &[u8], n: usize, sizes: Sizes, b: usize, w: usize, opposite: bool) -> bool

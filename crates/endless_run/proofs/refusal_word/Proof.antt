@@ -21,15 +21,26 @@ mul-result c = let e = ap (λ (x : Report). x .number) (c .report-of .ensures) i
 
 -- src/lib.rt:21:36
 mul-result-2 : tie.Need-mul-result-2
-mul-result-2 c = let e = ap (λ (x : Report). x .part) (c .report-of .ensures) in omega (arith, c .before .pre, e)
+mul-result-2 c =
+    let e = ap (λ (x : Report). x .part) (c .report-of .ensures) in
+    let f = ap (λ (x : Report). x .row) (c .report-of .ensures) in
+    omega (arith, c .before .pre, e, f)
 
 -- src/lib.rt:21:5
 add-result : tie.Need-add-result
-add-result c = let e = ap (λ (x : Report). x .number) (c .report-of .ensures) in let f = ap (λ (x : Report). x .part) (c .report-of .ensures) in omega (arith, number-within (c .before .args .refusal), c .before .pre, e, f)
+add-result c =
+    let e = ap (λ (x : Report). x .number) (c .report-of .ensures) in
+    let f = ap (λ (x : Report). x .part) (c .report-of .ensures) in
+    let g = ap (λ (x : Report). x .row) (c .report-of .ensures) in
+    omega (arith, number-within (c .before .args .refusal), c .before .pre, e, f, g)
 
 -- src/lib.rt:21:5
 add-result-2 : tie.Need-add-result-2
-add-result-2 c = let e = ap (λ (x : Report). x .number) (c .report-of .ensures) in let f = ap (λ (x : Report). x .part) (c .report-of .ensures) in let g = ap (λ (x : Report). x .row) (c .report-of .ensures) in omega (arith, number-within (c .before .args .refusal), c .before .pre, e, f, g)
+add-result-2 c =
+    let e = ap (λ (x : Report). x .number) (c .report-of .ensures) in
+    let f = ap (λ (x : Report). x .part) (c .report-of .ensures) in
+    let g = ap (λ (x : Report). x .row) (c .report-of .ensures) in
+    omega (arith, number-within (c .before .args .refusal), c .before .pre, e, f, g)
 
 -- src/lib.rt:13:1
 returns : tie.Need-returns

@@ -1,3 +1,4 @@
+use native.Mathlib.Omega.{arith}
 use denote.Ref.{now}
 use Rattle.judge.proofs.Entry as law
 use borrow.Author.Needs.{needs}
@@ -65,7 +66,7 @@ judge-row-requires c κs =
     let if1 = c .before .before .before .before .if1 in
     let view-of = c .before .before .before .view-of in
     let atom = c .before .atom in
-    (start .pre .fits, law.atom-there (now (start .args .rule)) (now (start .args .plan)) (start .args .part) (start .args .row) (start .pre) (take .ensures .isTake) (taken .given .1) (if1 .left) (view-of .ensures) (atom .given .1), if1 .left)
+    (start .pre .fits, law.atom-there (now (start .args .rule)) (now (start .args .plan)) (start .args .part) (start .args .row) (start .pre) (take .ensures .isTake) (taken .given .1) (if1 .left) (view-of .ensures) (atom .given .1), omega (arith, if1 .left, start .pre .fits .a-cycle))
 
 -- src/lib.rt:39:46
 enum-told-2 : tie.Need-enum-told-2
