@@ -9,6 +9,6 @@ pub counted : (lo hi : ℕ) → 15 ≡ length (examples lo hi)
 unfolding examples
 counted lo hi = refl
 
-pub counted-more : 52 ≡ length more
+pub counted-more : 60 ≡ length more
 unfolding more
 counted-more = refl

@@ -1,10 +1,11 @@
--- The numbers of more examples are those that the definitions give. Assumes nothing.
+-- The numbers of more examples, and the bytes left, are those that the definitions give. Assumes nothing.
 use Prim.Native.Nat.{ℕ}
 use mathlib.Core.Path.{_≡_, refl}
-use mathlib.Core.List.{map}
+use mathlib.Core.List.{List, [], _∷_, map}
 use Rattle.refusal.specs.Lowest.{orAfter, lowestFrom, lowest}
 use Rattle.refusal.specs.First.{_orElse_, unless, refusedAt, atLowest, inTurnFrom, inTurn}
-use Rattle.fields.specs.LittleEndian.{numberAt}
+use Rattle.fields.specs.LittleEndian.{numberAt, bytesOf}
+use Rattle.fields.specs.Pieces.{pieces}
 use Rattle.fields.specs.TwosComplement.{signedOf, signedAt}
 use Rattle.cltlb.specs.Truth.{valueAt}
 use Rattle.rule.specs.Layout.{partCount, channelCount, kindPlace, operandPlace, kindByte}
@@ -24,38 +25,52 @@ use Rattle.verdict.specs.Rows.{channelLine, termLine, joinFirst, testAt, judgeC
 use Rattle.judge.specs.Judge.{verdictOn, judgeOutcome, judgedAs, judgeOf}
 use Rattle.inputs.specs.Outcome.{inputsOutcome}
 use Rattle.table.specs.Layout.{markByte, marked, witnessOf, aboveOne, bytesOutcome, tableOutcome}
+use Rattle.table.specs.Bytes.{tableOf, zeroed}
 use Rattle.marks.specs.Equations.{markBeside, operatorMark, expected}
 use Rattle.marks.specs.Parts.{isCycleRow, names, witnessTwo, running, closesBy, closes, witnessOfOperator, witnessInOrder, steadyOutcome, breaks, equationOutcome, closingOutcome, witnessOutcome, partOutcome}
 use Rattle.acceptance.specs.Check.{markOf, witnessAt, partsOutcome, checkOutcome, answered, checkOf}
+use Rattle.labelling.specs.Labels.{following, labelBy, operatorLabel, labelOf, orNone, lowestWitness, labelTo, madeMark, madeWitness, madeTable}
+use Rattle.maker.specs.Make.{asNoTable, openOutcome, closingsOutcome, lentOutcome, makeOutcome, makeOf, leftBy, bytesAfter}
 use Rattle.rule.specs.Layout as rule
 use Rattle.plan.specs.Layout as plan
 use Rattle.table.specs.Layout as marks
+use Rattle.maker.specs.Make as make
 use Rattle.judge.proofs.Promised.{judge-promise}
 use Rattle.acceptance.proofs.Promised.{check-promise}
-use Rattle.endless_run.specs.Packing.{refusalWord, checkWord, judgeWord}
-use Rattle.endless_run.proofs.Words.{check-word, judge-word}
+use Rattle.maker.proofs.Promised.{make-promise}
+use Rattle.endless_run.specs.Packing.{refusalWord, checkWord, makeWord, judgeWord}
+use Rattle.endless_run.proofs.Words.{check-word, make-word, judge-word}
 use Rattle.worked_examples.specs.Rows.{All}
-use Rattle.worked_examples.specs.Calls.{Call, checks, judges, Gives}
+use Rattle.worked_examples.specs.Calls.{Call, checks, makes, judges, Gives}
 use Rattle.worked_examples.specs.MoreSheets.{copies}
 use Rattle.worked_examples.specs.More.{more}
 use Rattle.worked_examples.proofs.EveryRow.{all-same}
 
--- the number that a row states, and the one that the definitions give
-unfoldable stated : Call → ℕ
-stated (checks rule plan marks word) = word
-stated (judges rule plan part row word) = word
+-- the number that a row states with the bytes left, and those that the definitions give
+unfoldable stated : Call → List ℕ
+stated (checks rule plan marks word) = word ∷ []
+stated (makes rule plan before left word) = word ∷ left
+stated (judges rule plan part row word) = word ∷ []
 
-unfoldable defined : Call → ℕ
-defined (checks rule plan marks word) = checkWord (checkOf rule plan marks)
-defined (judges rule plan part row word) = judgeWord (judgeOf rule plan part row)
+unfoldable defined : Call → List ℕ
+defined (checks rule plan marks word) = checkWord (checkOf rule plan marks) ∷ []
+defined (makes rule plan before left word) = makeWord (makeOf rule plan before) ∷ bytesAfter rule plan before
+defined (judges rule plan part row word) = judgeWord (judgeOf rule plan part row) ∷ []
+
+same-word : {word other : ℕ} {left bytes : List ℕ} → word ∷ left ≡ other ∷ bytes → word ≡ other
+same-word e = cc
+
+same-bytes : {word other : ℕ} {left bytes : List ℕ} → word ∷ left ≡ other ∷ bytes → left ≡ bytes
+same-bytes e = cc
 
 given : (call : Call) → stated call ≡ defined call → Gives call
 unfolding stated defined Gives
-given (checks rule plan marks word) e = check-word rule plan marks e (check-promise rule plan marks refl)
-given (judges rule plan part row word) e = judge-word rule plan part row e (judge-promise rule plan part row refl)
+given (checks rule plan marks word) e = check-word rule plan marks (same-word e) (check-promise rule plan marks refl)
+given (makes rule plan before left word) e = make-word rule plan before left (same-word e) (make-promise rule plan before refl (same-bytes e))
+given (judges rule plan part row word) e = judge-word rule plan part row (same-word e) (judge-promise rule plan part row refl)
 
 computed : map stated more ≡ map defined more
-unfolding stated defined more copies refusalWord checkWord judgeWord orAfter lowestFrom lowest _orElse_ unless refusedAt atLowest inTurnFrom inTurn numberAt signedOf signedAt valueAt partCount channelCount kindPlace operandPlace kindByte shiftOf shiftFits termFits atomFits namesLower viewFits termAt allZero bothTerms operandAt shapeOf kindUnknown partOf takenOperand takeOf partTaken partsOf viewsOf isRefused untakeable sheetOutcome channels startRows cycleRows rows arrayLength readings drifts cell entry readingOf driftOf rowOf passOf last after readingOn readingAt runOf isZero anyBelow driftsAt drifting planOutcome judgeLess meets judgeEqual ofNumber tested channelLine termLine joinFirst testAt judgeCycle judgeRow atomAt verdictOf verdictOn inputsOutcome judgeOutcome judgedAs judgeOf markByte marked witnessOf aboveOne bytesOutcome tableOutcome markBeside operatorMark expected isCycleRow names witnessTwo running closesBy closes witnessOfOperator witnessInOrder steadyOutcome breaks equationOutcome closingOutcome witnessOutcome partOutcome markOf witnessAt partsOutcome checkOutcome answered checkOf rule.sizesFit plan.sizesFit marks.sizesFit
+unfolding stated defined more copies refusalWord checkWord makeWord judgeWord orAfter lowestFrom lowest _orElse_ unless refusedAt atLowest inTurnFrom inTurn numberAt signedOf signedAt valueAt partCount channelCount kindPlace operandPlace kindByte shiftOf shiftFits termFits atomFits namesLower viewFits termAt allZero bothTerms operandAt shapeOf kindUnknown partOf takenOperand takeOf partTaken partsOf viewsOf isRefused untakeable sheetOutcome channels startRows cycleRows rows arrayLength readings drifts cell entry readingOf driftOf rowOf passOf last after readingOn readingAt runOf isZero anyBelow driftsAt drifting planOutcome judgeLess meets judgeEqual ofNumber tested channelLine termLine joinFirst testAt judgeCycle judgeRow atomAt verdictOf verdictOn inputsOutcome judgeOutcome judgedAs judgeOf markByte marked witnessOf aboveOne bytesOutcome tableOutcome markBeside operatorMark expected isCycleRow names witnessTwo running closesBy closes witnessOfOperator witnessInOrder steadyOutcome breaks equationOutcome closingOutcome witnessOutcome partOutcome markOf witnessAt partsOutcome checkOutcome answered checkOf bytesOf pieces tableOf zeroed following labelBy operatorLabel labelOf orNone lowestWitness labelTo madeMark madeWitness madeTable asNoTable openOutcome closingsOutcome lentOutcome makeOutcome make.answered makeOf leftBy bytesAfter rule.sizesFit plan.sizesFit marks.sizesFit
 computed = refl
 
 pub words : All Gives more

@@ -1,17 +1,17 @@
--- More examples: a table of calls with the numbers that they return, in which every kind and every refusal occurs, and all
--- that is said of the bytes of both tables. Assumes nothing.
+-- More examples: a table of calls with the numbers that they return and the bytes that they leave, in which every kind and
+-- every refusal occurs, and all that is said of the bytes of both tables. Assumes nothing.
 use Prim.Native.Nat.{ℕ, _<_}
 use mathlib.Core.List.{List, [], _∷_}
 use Rattle.fields.specs.inner.Ranges.{Bytes}
 use Rattle.worked_examples.specs.Rows.{All}
-use Rattle.worked_examples.specs.Calls.{Call, checks, judges, Gives}
+use Rattle.worked_examples.specs.Calls.{Call, checks, makes, judges, Gives}
 use Rattle.worked_examples.specs.SheetsRead.{sheets, ReadsAs}
 use Rattle.worked_examples.specs.PlansRead.{plans, sights, SizedAs, SeesAs}
 use Rattle.worked_examples.specs.Handed.{questionBytes, callBytes}
-use Rattle.worked_examples.specs.Table.{examples, ruleE1, ruleE2, ruleE4, planA, planB, planE10}
+use Rattle.worked_examples.specs.Table.{examples, ruleE1, ruleE2, ruleE4, planA, planB, planE10, marksE4-2}
 use Rattle.worked_examples.specs.MoreSheets.{ruleKinds, ruleRelease, rulePast, ruleLimit, ruleMet, ruleReach, ruleEightChannels, ruleNoParts, ruleLong, ruleNineChannels, ruleKind0, ruleKind13, ruleShiftedConstant, ruleShiftCode9, ruleForm2, ruleChannel1, ruleNamesItself, ruleSpareByte, ruleMostParts, ruleTooManyParts}
 use Rattle.worked_examples.specs.MorePlans.{planThree, planStartDrift, planNoCycle, planLong, planMostRows, planTooManyRows, planMostChannels, planTooManyChannels}
-use Rattle.worked_examples.specs.MoreMarks.{marksKinds, marksRelease-1, marksRelease-0, marksRelease-spare, marksLong, marksByte2, marksBytes2, marksBroken, marksSpare, marksSpareBroken, marksPast, marksLimit, marksLimitBroken, marksLimitSpare}
+use Rattle.worked_examples.specs.MoreMarks.{marksKinds, marksRelease-1, marksRelease-0, marksRelease-spare, marksLong, marksByte2, marksBytes2, marksBroken, marksSpare, marksSpareBroken, marksPast, marksLimit, marksLimitBroken, marksLimitSpare, lentFull, lentSevens, zeros}
 
 -- A refusal is number × 2^32 + part × 2^16 + row; beside it stand its number, part and row.
 unfoldable pub more : List Call
@@ -70,6 +70,18 @@ more =
     ∷ checks ruleE1 planTooManyRows [] 17179869184  -- 4, 0, 0
     ∷ checks ruleEightChannels planMostChannels [] 30064771072  -- 7, 0, 0
     ∷ checks ruleEightChannels planTooManyChannels [] 17179869184  -- 4, 0, 0
+    -- Made, whatever the buffer held. Every kind: the witnesses of U and R, rows 3 and 2, are the lowest that serve.
+    ∷ makes ruleKinds planThree lentFull marksKinds 0
+    -- U has witness 2; R marked 1 has none, though the buffer held one.
+    ∷ makes ruleE4 planA lentSevens marksE4-2 1
+    ∷ makes ruleRelease planE10 marksRelease-0 marksRelease-1 1
+    -- 13: a byte too many, no bytes. It comes after 1 to 6 and before 14, and the buffer is as it was.
+    ∷ makes ruleE1 planA marksLong marksLong 55834574848  -- 13, 0, 0
+    ∷ makes rulePast planThree [] [] 55834574848  -- 13, 0, 0
+    ∷ makes ruleE1 planStartDrift marksByte2 marksByte2 25769803777  -- 6, 0, 1
+    -- 14: part and row as in 10. The buffer is all zero bytes.
+    ∷ makes rulePast planThree marksPast zeros 60129607682  -- 14, 1, 2
+    ∷ makes ruleLimit planThree marksLimit zeros 60129607683  -- 14, 1, 3
     -- Judged on start rows and on cycle rows: 0 always false, 1 always true, 2 changes.
     ∷ judges ruleKinds planThree 0 0 1
     ∷ judges ruleKinds planThree 0 1 0
@@ -88,7 +100,7 @@ more =
 
 -- What is said of the examples beside `Says`.
 pub record MoreSaid : Type 0 where
-  -- every call returns its number
+  -- every call returns its number and leaves its bytes
   pub words : All Gives more
   -- every sheet that is not refused, E1 to E10's among them, and every plan reads as stated
   pub sheets-read : All ReadsAs sheets

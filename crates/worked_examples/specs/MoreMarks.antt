@@ -1,6 +1,7 @@
--- The mark tables of more examples: their bytes. Assumes nothing.
+-- The mark tables and lent buffers of more examples: their bytes. Assumes nothing.
 use Prim.Native.Nat.{ℕ}
 use mathlib.Core.List.{List, [], _∷_}
+use lib.ListN.{replicate}
 
 -- of ruleKinds on planThree, a line for each part: U's witness is row 3, and R's, being marked 0 on the last row, row 2
 abbrev pub marksKinds : List ℕ
@@ -158,3 +159,27 @@ marksLimitSpare =
     ∷ 0x01 ∷ 0x01 ∷ 0x01 ∷ 0x01 ∷ 0x01
     ∷ 0xFF ∷ 0xFF
     ∷ 0x04 ∷ 0x00 ∷ []
+
+-- lent for ruleKinds on planThree: 88 bytes, all 255
+abbrev pub lentFull : List ℕ
+lentFull = replicate 88 0xFF
+
+-- lent for ruleE4 on planA: 19 bytes, all 7
+abbrev pub lentSevens : List ℕ
+lentSevens =
+    0x07 ∷ 0x07 ∷ 0x07 ∷ 0x07
+    ∷ 0x07 ∷ 0x07 ∷ 0x07
+    ∷ 0x07 ∷ 0x07 ∷ 0x07
+    ∷ 0x07 ∷ 0x07 ∷ 0x07
+    ∷ 0x07 ∷ 0x07
+    ∷ 0x07 ∷ 0x07
+    ∷ 0x07 ∷ 0x07 ∷ []
+
+-- of rulePast or ruleLimit on planThree: as many bytes as a mark table has, all 0
+abbrev pub zeros : List ℕ
+zeros =
+    0x00 ∷ 0x00 ∷ 0x00 ∷ 0x00
+    ∷ 0x00 ∷ 0x00 ∷ 0x00 ∷ 0x00 ∷ 0x00
+    ∷ 0x00 ∷ 0x00 ∷ 0x00 ∷ 0x00 ∷ 0x00
+    ∷ 0x00 ∷ 0x00
+    ∷ 0x00 ∷ 0x00 ∷ []
