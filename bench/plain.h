@@ -1,14 +1,14 @@
 /*
- * plain.h: what the plain C check and the plain C maker share: fields, refusals
- * 1 to 6, and comparisons.
+ * plain.h: what the check in C and the maker in C share: fields, refusals 1 to 6,
+ * and comparisons row by row.
  *
  * How a comparison is judged on a cycle row. From some pass on each side is a
  * straight line in the pass: a number, and a step for each pass more. That
  * pass is 0 unless a shift reaches back before row P; then it is 4, and the
  * passes below are looked at one by one. Numbers stay below 2^36.
  *
- * Every function is static and used by both, so that each is compiled into the
- * one and the other as if it stood there.
+ * Every function is static, so that each is compiled into the one and the other as
+ * if it stood there.
  */
 #ifndef PLAIN_H
 #define PLAIN_H
@@ -20,7 +20,7 @@
 enum {
     LESS = 1, EQUAL, NOT, AND, OR, NEXT, UNTIL, RELEASE, YESTERDAY, WEAK_YESTERDAY, SINCE, TRIGGER
 };
-enum { MOST_ROWS = 256, MOST_SHIFT = 4, NO_WITNESS = 65535 };
+enum { MOST_CHANNELS = 8, MOST_ROWS = 256, MOST_SHIFT = 4, NO_WITNESS = 65535 };
 enum { ALWAYS_FALSE, ALWAYS_TRUE, CHANGES };
 
 struct term {
@@ -40,55 +40,50 @@ struct line {
 
 /* ---- Fields ---- */
 
-static unsigned get16(const uint8_t *at)
+static inline unsigned get16(const uint8_t *at)
 {
     return at[0] | (unsigned)at[1] << 8;
 }
 
-static int32_t get32(const uint8_t *at)
+static inline int32_t get32(const uint8_t *at)
 {
     return (int32_t)(at[0] | (uint32_t)at[1] << 8 | (uint32_t)at[2] << 16 | (uint32_t)at[3] << 24);
 }
 
-static uint64_t refuse(unsigned number, size_t part, size_t row)
+static inline uint64_t refuse(unsigned number, size_t part, size_t row)
 {
     return (uint64_t)number << 32 | (uint64_t)part << 16 | row;
 }
 
 /* ---- Refusals 1 to 6 ---- */
 
-static bool is_comparison(int kind)
+static inline bool is_comparison(int kind)
 {
     return kind == LESS || kind == EQUAL;
 }
 
-static bool is_unary(int kind)
+static inline bool is_unary(int kind)
 {
     return kind == NOT || kind == NEXT || kind == YESTERDAY || kind == WEAK_YESTERDAY;
 }
 
-static bool term_is_right(const uint8_t *at, unsigned channels)
+static inline bool term_is_right(const uint8_t *at, unsigned channels)
 {
     if (at[0] == 0)
         return at[1] == 4;
     return at[0] == 1 && at[1] <= 8 && (uint32_t)get32(at + 2) < channels;
 }
 
-static bool operand_is_right(int kind, const uint8_t *at, unsigned user, unsigned channels)
+static inline bool operand_is_right(int kind, const uint8_t *at, unsigned user, unsigned channels)
 {
     if (is_comparison(kind))
         return term_is_right(at, channels) && term_is_right(at + 6, channels);
-    int named = is_unary(kind) ? 1 : 2;
-    unsigned padding = 0;
-    for (int i = 0; i < named; i++)
-        if (get16(at + 2 * i) >= user)
-            return false;
-    for (int i = 2 * named; i < 12; i++)
-        padding |= at[i];
-    return padding == 0;
+    /* Where one part is named, the second field is padding too. */
+    uint32_t padding = (uint32_t)get32(at + 4) | (uint32_t)get32(at + 8);
+    return get16(at) < user && get16(at + 2) < (is_unary(kind) ? 1 : user) && padding == 0;
 }
 
-static uint64_t check_rule(const uint8_t *rule, size_t len)
+static inline uint64_t check_rule(const uint8_t *rule, size_t len)
 {
     if (len < 4)
         return refuse(1, 0, 0);
@@ -105,7 +100,23 @@ static uint64_t check_rule(const uint8_t *rule, size_t len)
     return 0;
 }
 
-static uint64_t check_plan(const uint8_t *bytes, size_t len, unsigned channels, struct plan *plan)
+/* All bytes are gone through first, so that the loop has no exit and takes many at a
+   time. */
+static inline uint64_t check_start_drifts(const struct plan *plan)
+{
+    size_t row_bytes = 4 * (size_t)plan->channels, end = row_bytes * (size_t)plan->start;
+    uint8_t seen = 0;
+    for (size_t i = 0; i < end; i++)
+        seen |= plan->drifts[i];
+    if (seen != 0)
+        for (size_t i = 0; i < end; i++)
+            if (plan->drifts[i] != 0)
+                return refuse(6, 0, i / row_bytes);
+    return 0;
+}
+
+static inline uint64_t check_plan(const uint8_t *bytes, size_t len, unsigned channels,
+                                  struct plan *plan)
 {
     if (len < 6)
         return refuse(4, 0, 0);
@@ -117,15 +128,12 @@ static uint64_t check_plan(const uint8_t *bytes, size_t len, unsigned channels, 
         return refuse(5, 0, 0);
     *plan = (struct plan){ bytes + 6, bytes + 6 + 4 * (size_t)v * rows, (int)v, (int)start,
                            (int)cycle, (int)rows };
-    for (unsigned i = 0; i < 4 * v * start; i++)
-        if (plan->drifts[i] != 0)
-            return refuse(6, 0, i / (4 * v));
-    return 0;
+    return check_start_drifts(plan);
 }
 
 /* ---- Comparisons ---- */
 
-static struct term get_term(const uint8_t *at)
+static inline struct term get_term(const uint8_t *at)
 {
     struct term term = { at[0] == 1, at[1] - 4, 0, 0 };
     if (term.is_reading)
@@ -157,7 +165,7 @@ static inline bool compare(int kind, int64_t left, int64_t right)
     return kind == LESS ? left < right : left == right;
 }
 
-static int reach_back(const struct term *left, const struct term *right)
+static inline int reach_back(const struct term *left, const struct term *right)
 {
     int least = left->is_reading ? left->shift : 0;
     if (right->is_reading && right->shift < least)
@@ -165,8 +173,8 @@ static int reach_back(const struct term *left, const struct term *right)
     return least < 0 ? -least : 0;
 }
 
-static bool truth_at(const struct plan *plan, int kind, const struct term *left,
-                     const struct term *right, int position)
+static inline bool truth_at(const struct plan *plan, int kind, const struct term *left,
+                            const struct term *right, int position)
 {
     if (position < reach_back(left, right))
         return false;
@@ -191,8 +199,8 @@ static inline int judge_lines(int kind, struct line left, struct line right)
 }
 
 /* A cycle row from which a shift reaches back to before row P. */
-static int judge_early_row(const struct plan *plan, int kind, const struct term *left,
-                           const struct term *right, int row)
+static inline int judge_early_row(const struct plan *plan, int kind, const struct term *left,
+                                  const struct term *right, int row)
 {
     int late = row + MOST_SHIFT * plan->cycle;
     int judged = judge_lines(kind, line_at(plan, left, late), line_at(plan, right, late));
@@ -200,24 +208,6 @@ static int judge_early_row(const struct plan *plan, int kind, const struct term 
         if (judged != truth_at(plan, kind, left, right, position))
             return CHANGES;
     return judged;
-}
-
-/* The lines of a term on the rows from the first to W - 1. */
-static void get_lines(const struct plan *plan, const struct term *term, int first,
-                      struct line *lines)
-{
-    int direct = term->is_reading && term->shift > 0 ? plan->rows - term->shift : plan->rows;
-    int row = first;
-    if (term->is_reading) {
-        size_t stride = 4 * (size_t)plan->channels;
-        size_t cell = 4 * (size_t)term->channel;
-        for (; row < direct; row++) {
-            size_t at = (size_t)(row + term->shift) * stride + cell;
-            lines[row] = (struct line){ get32(plan->readings + at), get32(plan->drifts + at) };
-        }
-    }
-    for (; row < plan->rows; row++)
-        lines[row] = line_at(plan, term, row);
 }
 
 #endif

@@ -1,16 +1,16 @@
 /*
- * plain_check.c: the whole check and the judge in plain C.
+ * plain_check.c: the whole check and the judge in C written for speed.
  *
- * Written as a C programmer would who wants it fast and readable: each part is
- * decoded once, the loops over the rows have nothing in them that does not
- * change with the row, and no pass is looked at that a division can spare.
- * Nothing of it is proved. It is the measure in bench.c.
+ * A part is first held against its marks as a whole, by the sweeps of
+ * plain_sweeps.c. Only where they say no are its rows gone through one by one, for
+ * the lowest that is refused. Nothing of it is proved. It is the measure in bench.c.
  */
 #include "plain_check.h"
 
 #include "plain.h"
+#include "plain_sweeps.h"
 
-/* ---- Comparisons ---- */
+/* ---- Comparisons, row by row ---- */
 
 static int judge_row(const struct plan *plan, int kind, const struct term *left,
                      const struct term *right, int row)
@@ -23,168 +23,61 @@ static int judge_row(const struct plan *plan, int kind, const struct term *left,
 }
 
 /* Refusals 9 and 10 for a comparison. */
-static uint64_t check_comparison(const struct plan *plan, int kind, const uint8_t *operand,
-                                 const uint8_t *marks, size_t part)
+static uint64_t search_comparison(const struct plan *plan, int kind, const struct term *left,
+                                  const struct term *right, const uint8_t *m, size_t part)
 {
-    struct term left = get_term(operand), right = get_term(operand + 6);
-    struct line lefts[MOST_ROWS], rights[MOST_ROWS];
-    int back = reach_back(&left, &right);
-    int row = 0;
-    for (; row < back && row < plan->rows; row++)
-        if (marks[row] != 0)
+    for (int row = 0; row < plan->rows; row++)
+        if (m[row] != truth_at(plan, kind, left, right, row))
             return refuse(9, part, (size_t)row);
-    get_lines(plan, &left, row, lefts);
-    get_lines(plan, &right, row, rights);
-    for (; row < plan->rows; row++)
-        if (marks[row] != compare(kind, lefts[row].number, rights[row].number))
-            return refuse(9, part, (size_t)row);
-
-    row = plan->start;
-    for (; row < plan->start + back && row < plan->rows; row++)
-        if (judge_early_row(plan, kind, &left, &right, row) == CHANGES)
-            return refuse(10, part, (size_t)row);
-    for (; row < plan->rows; row++)
-        if (judge_lines(kind, lefts[row], rights[row]) == CHANGES)
+    for (int row = plan->start; row < plan->rows; row++)
+        if (judge_row(plan, kind, left, right, row) == CHANGES)
             return refuse(10, part, (size_t)row);
     return 0;
 }
 
-/* ---- Operators ---- */
-
-/* The lowest row from the first on, before the end, whose mark is not the
-   formula, which may use row; the end if there is none. The differences are
-   gathered first, so that the loop has no exit and goes many rows at a time. */
-#define LOWEST_WRONG(first, end, formula)                                                          \
-    do {                                                                                           \
-        unsigned wrong = 0;                                                                        \
-        for (int row = (first); row < (end); row++)                                                \
-            wrong |= m[row] ^ (formula);                                                           \
-        if (wrong)                                                                                 \
-            for (int row = (first); row < (end); row++)                                            \
-                if (m[row] != (formula))                                                           \
-                    return row;                                                                    \
-        return (end);                                                                              \
-    } while (0)
-
-static int wrong_not(const uint8_t *m, const uint8_t *a, int rows)
-{
-    LOWEST_WRONG(0, rows, a[row] ^ 1u);
-}
-
-static int wrong_and(const uint8_t *m, const uint8_t *a, const uint8_t *b, int rows)
-{
-    LOWEST_WRONG(0, rows, a[row] & b[row]);
-}
-
-static int wrong_or(const uint8_t *m, const uint8_t *a, const uint8_t *b, int rows)
-{
-    LOWEST_WRONG(0, rows, a[row] | b[row]);
-}
-
-static int wrong_next(const uint8_t *m, const uint8_t *a, int rows)
-{
-    LOWEST_WRONG(0, rows - 1, a[row + 1]);
-}
-
-static int wrong_until(const uint8_t *m, const uint8_t *a, const uint8_t *b, int rows)
-{
-    LOWEST_WRONG(0, rows - 1, b[row] | (a[row] & m[row + 1]));
-}
-
-static int wrong_release(const uint8_t *m, const uint8_t *a, const uint8_t *b, int rows)
-{
-    LOWEST_WRONG(0, rows - 1, b[row] & (a[row] | m[row + 1]));
-}
-
-static int wrong_yesterday(const uint8_t *m, const uint8_t *a, int rows)
-{
-    LOWEST_WRONG(1, rows, a[row - 1]);
-}
-
-static int wrong_since(const uint8_t *m, const uint8_t *a, const uint8_t *b, int rows)
-{
-    LOWEST_WRONG(1, rows, b[row] | (a[row] & m[row - 1]));
-}
-
-static int wrong_trigger(const uint8_t *m, const uint8_t *a, const uint8_t *b, int rows)
-{
-    LOWEST_WRONG(1, rows, b[row] & (a[row] | m[row - 1]));
-}
+/* ---- Operators, row by row ---- */
 
 /* What the mark on a row is by the equation, with the row after or before it. */
 static unsigned equation(int kind, const uint8_t *m, const uint8_t *a, const uint8_t *b, int row,
-                         int neighbour)
+                         int beside)
 {
     switch (kind) {
+    case NOT:
+        return a[row] ^ 1u;
+    case AND:
+        return a[row] & b[row];
+    case OR:
+        return a[row] | b[row];
     case UNTIL:
     case SINCE:
-        return b[row] | (a[row] & m[neighbour]);
+        return b[row] | (a[row] & m[beside]);
     case RELEASE:
     case TRIGGER:
-        return b[row] & (a[row] | m[neighbour]);
+        return b[row] & (a[row] | m[beside]);
     default:
-        return a[neighbour];
+        return a[beside];
     }
 }
 
-/* Refusal 9 for X, U and R: all rows, the last of them before row P. */
-static int wrong_future(int kind, const uint8_t *m, const uint8_t *a, const uint8_t *b,
-                        const struct plan *plan)
+/* What the mark of Y, Z, S or T on row 0 is. */
+static unsigned first_mark(int kind, const uint8_t *b)
 {
-    int last = plan->rows - 1;
-    int row = kind == NEXT    ? wrong_next(m, a, plan->rows)
-              : kind == UNTIL ? wrong_until(m, a, b, plan->rows)
-                              : wrong_release(m, a, b, plan->rows);
-    if (row < last || m[last] != equation(kind, m, a, b, last, plan->start))
-        return row;
-    return plan->rows;
-}
-
-/* Refusal 9 for Y, Z, S and T: row 0, then the others. */
-static int wrong_past(int kind, const uint8_t *m, const uint8_t *a, const uint8_t *b,
-                      const struct plan *plan)
-{
-    unsigned first = kind == YESTERDAY ? 0 : kind == WEAK_YESTERDAY ? 1 : b[0];
-    if (m[0] != first)
-        return 0;
-    switch (kind) {
-    case SINCE:
-        return wrong_since(m, a, b, plan->rows);
-    case TRIGGER:
-        return wrong_trigger(m, a, b, plan->rows);
-    default:
-        return wrong_yesterday(m, a, plan->rows);
-    }
+    return kind == YESTERDAY ? 0 : kind == WEAK_YESTERDAY ? 1 : b[0];
 }
 
 /* Refusals 9 and 10 for a part that is no comparison. */
-static uint64_t check_operator(const struct plan *plan, int kind, const uint8_t *m,
-                               const uint8_t *a, const uint8_t *b, size_t part)
+static uint64_t search_operator(const struct plan *plan, int kind, const uint8_t *m,
+                                const uint8_t *a, const uint8_t *b, size_t part)
 {
-    bool past = false;
-    int wrong;
-    switch (kind) {
-    case NOT:
-        wrong = wrong_not(m, a, plan->rows);
-        break;
-    case AND:
-        wrong = wrong_and(m, a, b, plan->rows);
-        break;
-    case OR:
-        wrong = wrong_or(m, a, b, plan->rows);
-        break;
-    case NEXT:
-    case UNTIL:
-    case RELEASE:
-        wrong = wrong_future(kind, m, a, b, plan);
-        break;
-    default:
-        past = true;
-        wrong = wrong_past(kind, m, a, b, plan);
+    int last = plan->rows - 1;
+    bool past = kind >= YESTERDAY;
+    for (int row = 0; row <= last; row++) {
+        int beside = past ? row - 1 : row == last ? plan->start : row + 1;
+        unsigned due = beside < 0 ? first_mark(kind, b) : equation(kind, m, a, b, row, beside);
+        if (m[row] != due)
+            return refuse(9, part, (size_t)row);
     }
-    if (wrong < plan->rows)
-        return refuse(9, part, (size_t)wrong);
-    if (past && m[plan->start] != equation(kind, m, a, b, plan->start, plan->rows - 1))
+    if (past && m[plan->start] != equation(kind, m, a, b, plan->start, last))
         return refuse(10, part, (size_t)plan->start);
     return 0;
 }
@@ -203,7 +96,7 @@ static bool witness_is_right(const struct plan *plan, int kind, unsigned witness
 
 static uint64_t check_mark_bytes(const uint8_t *marks, size_t parts, size_t rows)
 {
-    unsigned seen = 0;
+    uint8_t seen = 0;
     for (size_t i = 0; i < parts * rows; i++)
         seen |= marks[i];
     if (seen > 1)
@@ -213,24 +106,76 @@ static uint64_t check_mark_bytes(const uint8_t *marks, size_t parts, size_t rows
     return 0;
 }
 
-static uint64_t check_part(const struct plan *plan, int kind, const uint8_t *operand,
-                           const uint8_t *marks, size_t part, unsigned witness)
+/* ---- The parts ---- */
+
+/* A part of the rule, with the marks of its own and of the parts that it names. */
+struct part {
+    int kind;
+    struct term left, right;
+    const uint8_t *m, *a, *b;
+    unsigned witness;
+};
+
+static struct part get_part(const uint8_t *rule, const uint8_t *marks, size_t rows, size_t number)
 {
-    size_t rows = (size_t)plan->rows;
-    const uint8_t *m = marks + part * rows;
-    const uint8_t *a = m, *b = m;
-    uint64_t refused;
-    if (is_comparison(kind)) {
-        refused = check_comparison(plan, kind, operand, m, part);
+    size_t parts = get16(rule);
+    const uint8_t *operand = rule + 4 + parts + 12 * number;
+    struct part part = { .kind = rule[4 + number], .m = marks + number * rows };
+    part.witness = get16(marks + parts * rows + 2 * number);
+    if (is_comparison(part.kind)) {
+        part.left = get_term(operand);
+        part.right = get_term(operand + 6);
     } else {
-        a = marks + get16(operand) * rows;
-        if (!is_unary(kind))
-            b = marks + get16(operand + 2) * rows;
-        refused = check_operator(plan, kind, m, a, b, part);
+        /* Where one part is named the second field is 0, and b is not used. */
+        part.a = marks + get16(operand) * rows;
+        part.b = marks + get16(operand + 2) * rows;
     }
-    if (refused)
+    return part;
+}
+
+/* No refusal 9 or 10, by the sweeps, and no refusal 11. */
+static bool part_is_clear(struct lanes *lanes, const struct part *part)
+{
+    if (is_comparison(part->kind))
+        return part->witness == NO_WITNESS &&
+               comparison_is_clear(lanes, part->kind, &part->left, &part->right, part->m);
+    return operator_is_clear(lanes->plan, part->kind, part->m, part->a, part->b) &&
+           witness_is_right(lanes->plan, part->kind, part->witness, part->m, part->b);
+}
+
+/* Refusals 9 to 11 of a part, row by row. */
+static uint64_t search_part(const struct plan *plan, const struct part *part, size_t number)
+{
+    uint64_t refused =
+        is_comparison(part->kind)
+            ? search_comparison(plan, part->kind, &part->left, &part->right, part->m, number)
+            : search_operator(plan, part->kind, part->m, part->a, part->b, number);
+    if (refused || witness_is_right(plan, part->kind, part->witness, part->m, part->b))
         return refused;
-    return witness_is_right(plan, kind, witness, m, b) ? 0 : refuse(11, part, 0);
+    return refuse(11, number, 0);
+}
+
+/* Refusals 8 to 11. A part that is clear over parts with marks of 0 and 1 alone has
+   no other marks either: so the mark bytes need to be looked at for refusal 8 only
+   when a part is met that is not clear. */
+static uint64_t check_parts(const struct plan *plan, const uint8_t *rule, const uint8_t *marks)
+{
+    struct lanes lanes;
+    size_t parts = get16(rule), rows = (size_t)plan->rows;
+    bool bytes_are_marks = false;
+    start_lanes(&lanes, plan);
+    for (size_t i = 0; i < parts; i++) {
+        struct part part = get_part(rule, marks, rows, i);
+        if (part_is_clear(&lanes, &part))
+            continue;
+        uint64_t refused = bytes_are_marks ? 0 : check_mark_bytes(marks, parts, rows);
+        if (!refused)
+            refused = search_part(plan, &part, i);
+        if (refused)
+            return refused;
+        bytes_are_marks = true;
+    }
+    return 0;
 }
 
 /* ---- Check and judge ---- */
@@ -250,19 +195,8 @@ uint64_t plain_check(const uint8_t *rule, size_t rule_len, const uint8_t *plan, 
     if (marks_len < 4 || get16(marks) != parts || get16(marks + 2) != rows ||
         marks_len != 4 + parts * rows + 2 * parts)
         return refuse(7, 0, 0);
-    refused = check_mark_bytes(marks + 4, parts, rows);
-    if (refused)
-        return refused;
-
-    const uint8_t *kinds = rule + 4, *operands = kinds + parts;
-    const uint8_t *witnesses = marks + 4 + parts * rows;
-    for (size_t i = 0; i < parts; i++) {
-        refused = check_part(&p, kinds[i], operands + 12 * i, marks + 4, i,
-                             get16(witnesses + 2 * i));
-        if (refused)
-            return refused;
-    }
-    return marks[4 + (parts - 1) * rows];
+    refused = check_parts(&p, rule, marks + 4);
+    return refused ? refused : marks[4 + (parts - 1) * rows];
 }
 
 uint64_t plain_judge(const uint8_t *rule, size_t rule_len, const uint8_t *plan, size_t plan_len,

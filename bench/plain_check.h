@@ -1,6 +1,6 @@
 /*
- * plain_check.h: check and judge in plain C, to time the exported ones beside.
- * The same arguments and the same answers as in include/endless_run.h.
+ * plain_check.h: check and judge in C, to time the exported ones beside. The same
+ * arguments and the same answers as in include/endless_run.h.
  */
 #ifndef PLAIN_CHECK_H
 #define PLAIN_CHECK_H

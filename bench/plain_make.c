@@ -1,9 +1,11 @@
 /*
  * plain_make.c: the maker of mark tables in plain C.
  *
- * Written as plain_check.c is: fast and readable, and nothing of it is proved. The
- * marks are written into the lent buffer at once, the lowest part first, and the
- * parts above read them there. It is the measure in bench.c.
+ * Written as a C programmer would who wants it fast and readable: each part is
+ * decoded once, the loops over the rows have nothing in them that does not change
+ * with the row, and no pass is looked at that a division can spare. The marks are
+ * written into the lent buffer at once, the lowest part first, and the parts above
+ * read them there. Nothing of it is proved. It is the measure in bench.c.
  */
 #include "plain_make.h"
 
@@ -18,6 +20,24 @@ static void put16(uint8_t *at, size_t n)
 }
 
 /* ---- Comparisons ---- */
+
+/* The lines of a term on the rows from the first to W - 1. */
+static void get_lines(const struct plan *plan, const struct term *term, int first,
+                      struct line *lines)
+{
+    int direct = term->is_reading && term->shift > 0 ? plan->rows - term->shift : plan->rows;
+    int row = first;
+    if (term->is_reading) {
+        size_t stride = 4 * (size_t)plan->channels;
+        size_t cell = 4 * (size_t)term->channel;
+        for (; row < direct; row++) {
+            size_t at = (size_t)(row + term->shift) * stride + cell;
+            lines[row] = (struct line){ get32(plan->readings + at), get32(plan->drifts + at) };
+        }
+    }
+    for (; row < plan->rows; row++)
+        lines[row] = line_at(plan, term, row);
+}
 
 /* The marks of a comparison. Gives the lowest cycle row on which it changes; W if
    there is none. */

@@ -1,0 +1,215 @@
+/*
+ * cases.c: the rules, plans and mark tables that bench.c times.
+ *
+ * A rule is grown part by part. Operators over random lower parts are tried until
+ * one closes, as found by the second evaluator, which gives the marks as well.
+ */
+#include "cases.h"
+
+enum { CHANNELS = 8 };
+
+static struct sheet rule, plan;
+static struct truth truth;
+static uint64_t dice;
+
+static int below(int n)
+{
+    dice = dice * 6364136223846793005u + 1442695040888963407u;
+    return (int)((dice >> 33) % (uint64_t)n);
+}
+
+/* ---- Plans ---- */
+
+/* Readings from 0 to 9. The start rows are as the last rows of the cycle, so that
+   what looks back from the cycle sees the same on every pass. */
+static void steady_plan(int rows, int start)
+{
+    int cycle = rows - start;
+    start_plan(&plan, CHANNELS, start, cycle);
+    for (int row = rows - 1; row >= 0; row--)
+        for (int channel = 0; channel < CHANNELS; channel++) {
+            const uint8_t *later = reading_bytes(&plan, row + cycle, channel);
+            if (row < start)
+                write_reading(&plan, row, channel, later[0]);
+            else
+                write_reading(&plan, row, channel, below(10));
+        }
+}
+
+/* Even channels lie above 0 and rise, odd ones lie below 0 and fall. */
+static void parting_plan(int rows, int start)
+{
+    start_plan(&plan, CHANNELS, start, rows - start);
+    for (int row = 0; row < rows; row++)
+        for (int channel = 0; channel < CHANNELS; channel++) {
+            int sign = channel % 2 ? -1 : 1;
+            write_reading(&plan, row, channel, sign * (1 + below(1000)));
+            if (row >= start)
+                write_drift(&plan, row, channel, sign * (1 + below(9)));
+        }
+}
+
+/* Even channels start low, rise fast and leave remainder 0 by 3; odd ones start
+   high, rise slowly and leave remainder 1. They pass and never meet. */
+static void passing_plan(int rows, int start)
+{
+    start_plan(&plan, CHANNELS, start, rows - start);
+    for (int row = 0; row < rows; row++)
+        for (int channel = 0; channel < CHANNELS; channel++) {
+            bool odd = channel % 2;
+            write_reading(&plan, row, channel, 3 * below(100) + (odd ? 3001 : 0));
+            if (row >= start)
+                write_drift(&plan, row, channel, odd ? 3 * below(3) : 9 + 3 * below(3));
+        }
+}
+
+/* ---- Parts ---- */
+
+static void begin_rule(int parts)
+{
+    start_rule(&rule, parts, CHANNELS);
+    decode_rule(slice_of(&rule), &truth.rule);
+    decode_plan(slice_of(&plan), CHANNELS, &truth.plan);
+}
+
+static bool try_formula(int part, struct formula f)
+{
+    truth.rule.part[part] = f;
+    find_truth(&truth, part);
+    write_formula(&rule, part, &f);
+    return is_row_periodic(&truth, part);
+}
+
+static void write_two_channels(int part, enum kind kind, int left_shift, int right_shift)
+{
+    struct formula f = { .kind = kind };
+    f.left = reading(part % CHANNELS, left_shift);
+    f.right = reading((part + 1 + 2 * (part / CHANNELS)) % CHANNELS, right_shift);
+    try_formula(part, f);
+}
+
+/* All pairs of shifts come in turn. */
+static void write_shifted(int part, enum kind kind)
+{
+    write_two_channels(part, kind, part % 9 - 4, part / 9 % 9 - 4);
+}
+
+/* An operator over two lower parts that closes: of this kind if such are found. */
+static void write_closing_operator(int part, enum kind kind)
+{
+    struct formula f = { .kind = kind };
+    for (int tries = 0; tries < 40; tries++) {
+        f.a = below(part);
+        f.b = below(part);
+        if (try_formula(part, f))
+            return;
+    }
+    try_formula(part, (struct formula){ .kind = NEXT, .a = part - 1, .b = 0 });
+}
+
+/* ---- The cases ---- */
+
+void no_drift(int parts, int rows)
+{
+    steady_plan(rows, rows / 2);
+    begin_rule(parts);
+    for (int part = 0; part < parts; part++) {
+        struct formula f = { .kind = part % 2 ? EQUAL : LESS };
+        f.left = reading(part % CHANNELS, 0);
+        f.right = part % 4 < 2 ? constant(part % 10) : reading((part + 3) % CHANNELS, 0);
+        try_formula(part, f);
+    }
+}
+
+void all_shifts(int parts, int rows)
+{
+    steady_plan(rows, 16);
+    begin_rule(parts);
+    for (int part = 0; part < parts; part++)
+        write_shifted(part, part % 2 ? EQUAL : LESS);
+}
+
+void drifting_apart(int parts, int rows)
+{
+    parting_plan(rows, 16);
+    begin_rule(parts);
+    for (int part = 0; part < parts; part++)
+        write_two_channels(part, LESS, part % 5, part / 5 % 5);
+}
+
+void stepped_over(int parts, int rows)
+{
+    passing_plan(rows, 16);
+    begin_rule(parts);
+    for (int part = 0; part < parts; part++)
+        write_shifted(part, EQUAL);
+}
+
+void all_temporal(int parts, int rows)
+{
+    static const enum kind kinds[] = { NEXT,  UNTIL, RELEASE, YESTERDAY, WEAK_YESTERDAY,
+                                       SINCE, TRIGGER };
+    steady_plan(rows, rows / 2);
+    begin_rule(parts);
+    write_two_channels(0, LESS, 0, 0);
+    write_two_channels(1, EQUAL, 0, 0);
+    for (int part = 2; part < parts; part++)
+        write_closing_operator(part, kinds[part % 7]);
+}
+
+void many_start_rows(int parts, int rows)
+{
+    parting_plan(rows, rows - 1);
+    begin_rule(parts);
+    for (int part = 0; part < parts; part++)
+        if (part < 8 || part % 2 == 0)
+            write_shifted(part, LESS);
+        else
+            write_closing_operator(part, (enum kind)(NOT + part / 2 % 10));
+}
+
+void all_kinds(int parts, int rows)
+{
+    steady_plan(rows, rows / 2);
+    begin_rule(parts);
+    for (int part = 0; part < parts; part++)
+        if (part < 8 || part % 4 == 0)
+            write_shifted(part, part % 8 ? LESS : EQUAL);
+        else
+            write_closing_operator(part, (enum kind)(NOT + part % 10));
+}
+
+/* The shifts of the two sides in another order: nine parts have all of each, and so
+   have nine of every other part. */
+static void write_mixed_shifts(int part, enum kind kind)
+{
+    write_two_channels(part, kind, part % 9 - 4, 4 * part % 9 - 4);
+}
+
+void mixed_comparisons(int parts, int rows)
+{
+    steady_plan(rows, 16);
+    begin_rule(parts);
+    for (int part = 0; part < parts; part++)
+        write_mixed_shifts(part, part % 2 ? LESS : EQUAL);
+}
+
+void mixed_parts(int parts, int rows)
+{
+    steady_plan(rows, 16);
+    begin_rule(parts);
+    for (int part = 0; part < parts; part++)
+        if (part % 2 == 0)
+            write_mixed_shifts(part, part % 4 ? LESS : EQUAL);
+        else
+            write_closing_operator(part, (enum kind)(NOT + part / 2 % 10));
+}
+
+void build_case(struct sheets *sheets, builder *build, int parts, int rows)
+{
+    dice = 1;
+    build(parts, rows);
+    sheets->rule = rule;
+    sheets->plan = plan;
+    write_true_marks(&sheets->marks, &truth);
+}

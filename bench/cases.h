@@ -1,0 +1,33 @@
+/*
+ * cases.h: the rules, plans and mark tables that bench.c times.
+ *
+ * A case is built by one of the functions below with so many parts on so many
+ * rows of 8 channels. Its table is one that is accepted.
+ */
+#ifndef CASES_H
+#define CASES_H
+
+#include "../tests/support/write.h"
+
+struct sheets {
+    struct sheet rule, plan, marks;
+};
+
+typedef void builder(int parts, int rows);
+
+/* Build a case: the same one for the same sizes. */
+void build_case(struct sheets *sheets, builder *build, int parts, int rows);
+
+builder no_drift;        /* comparisons of readings and constants, not shifted */
+builder all_shifts;      /* comparisons with all shifts */
+builder drifting_apart;  /* each row's readings move apart for ever */
+builder stepped_over;    /* equalities with a gap that narrows and is never 0 */
+builder all_temporal;    /* two comparisons, and temporal operators over them */
+builder many_start_rows; /* a cycle of one row */
+builder all_kinds;       /* operators of all kinds over a third of comparisons */
+
+/* Of one mix throughout, so that few parts have the same as many. */
+builder mixed_comparisons; /* less and equal in turn, with all shifts */
+builder mixed_parts;       /* such a comparison and an operator in turn */
+
+#endif

@@ -1,0 +1,45 @@
+/*
+ * plain_sweeps.h: whole parts held against their marks at once.
+ *
+ * Both questions below are answered by loops that go over all rows and leave none
+ * early, so that the compiler takes many rows at a time. "Clear" means that the part
+ * has no refusal 9 and no refusal 10. "Not clear" names no row, and where a number
+ * is too large for the loops it says nothing: then the rows are to be looked at one
+ * by one.
+ *
+ * A part that is clear, over named parts with marks 0 and 1 alone, has marks 0 and 1
+ * alone itself.
+ */
+#ifndef PLAIN_SWEEPS_H
+#define PLAIN_SWEEPS_H
+
+#include "plain.h"
+
+/* A comparison is looked at on some positions after row W - 1, and reads ahead of
+   them: so many in all. */
+enum { ROWS_AFTER = 2 * MOST_SHIFT, LANE_LONGEST = MOST_ROWS + ROWS_AFTER };
+
+/* The readings of one channel, and its drifts from row P on, in the order of the
+   positions, from 0 to W + ROWS_AFTER - 1. */
+struct lane {
+    bool laid_out;
+    bool fits; /* every reading fits 32 bits */
+    int32_t readings[LANE_LONGEST], drifts[LANE_LONGEST];
+};
+
+/* A plan channel by channel. A lane is laid out when it is first read. */
+struct lanes {
+    const struct plan *plan;
+    bool still; /* no drift in the cycle: the drifts are not laid out */
+    struct lane of[MOST_CHANNELS];
+};
+
+void start_lanes(struct lanes *lanes, const struct plan *plan);
+
+bool comparison_is_clear(struct lanes *lanes, int kind, const struct term *left,
+                         const struct term *right, const uint8_t *m);
+
+bool operator_is_clear(const struct plan *plan, int kind, const uint8_t *m, const uint8_t *a,
+                       const uint8_t *b);
+
+#endif
