@@ -1,7 +1,10 @@
 pub mod SizesRead
 pub mod Shifts
 pub mod TermsRead
+pub mod TermsSound
+pub mod Padding
 pub mod OperandsRead
+pub mod OperandsSound
 pub mod Overwriting
 pub mod TermsWritten
 pub mod OperandsWritten

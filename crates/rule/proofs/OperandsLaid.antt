@@ -7,7 +7,6 @@ use mathlib.Core.List.{List, [], _∷_, _++_, append-assoc}
 use mathlib.Core.Bool.{Bool, true, false, cond, and-eq-true-iff}
 use lib.Dec.{eqb}
 use lib.ListN.{length, take, drop, replicate, length-append, length-take, length-drop}
-use lib.Seq.{take-add, drop-drop}
 use borrow.Author.Tests.{eqb-true}
 use Rattle.fields.specs.LittleEndian.{numberAt, bytesOf}
 use Rattle.fields.specs.inner.Ranges.{Bytes}
@@ -35,6 +34,7 @@ use Rattle.rule.proofs.Laid.{shapeIn}
 use Rattle.rule.proofs.Overwritten.{between}
 use Rattle.rule.proofs.TermsWritten.{term-length}
 use Rattle.rule.proofs.TermsLaid.{term-read, term-laid}
+use Rattle.rule.proofs.Padding.{parted}
 use Rattle.rule.proofs.OperandsRead.{both-read, one-read, two-read}
 
 -- padding is zeros
@@ -115,10 +115,6 @@ module _ (s : List ℕ) (at : ℕ) (bytes : Bytes s) (long : at + 12 ≤ length 
   abbrev Says : Shape → OperandRead → Type 0
   Says k t = (o : Operand) → t ≡ O.Operand o → (shapeIn o ≡ k) × (take 12 (drop at s) ≡ operandBytes o) × WordOperand o
 
-  -- the bytes from a on, in two fields
-  parted : (a n m : ℕ) → take (n + m) (drop a s) ≡ take n (drop a s) ++ take m (drop (a + n) s)
-  parted a n m = take-add n m (drop a s) ∙ ap (λ (t : List ℕ). take n (drop a s) ++ take m t) (drop-drop n a s)
-
   name : (a : ℕ) → a + 2 ≤ length s → take 2 (drop a s) ≡ bytesOf 2 (numberAt 2 s a)
   name a h = sym (written-read 2 s a bytes h)
 
@@ -136,14 +132,14 @@ module _ (s : List ℕ) (at : ℕ) (bytes : Bytes s) (long : at + 12 ≤ length 
   of-terms x y p q o e =
       let same : Terms x y ≡ o = cc in
       subst (λ (o : Operand). (shapeIn o ≡ S.Comparison) × (take 12 (drop at s) ≡ operandBytes o) × WordOperand o) same
-      (refl, parted at 6 6 ∙ ap₂ (λ (a b : List ℕ). a ++ b) (p .0) (q .0), (p .1, q .1))
+      (refl, parted s at 6 6 ∙ ap₂ (λ (a b : List ℕ). a ++ b) (p .0) (q .0), (p .1, q .1))
 
   of-one : (b : Bool) → allZero (take 10 (drop (at + 2) s)) ≡ b → Says S.NamesOne (cond b (O.Operand (One (numberAt 2 s at))) O.Broken)
   unfolding operandBytes WordOperand
   of-one true z o e =
       let same : One (numberAt 2 s at) ≡ o = cc in
       subst (λ (o : Operand). (shapeIn o ≡ S.NamesOne) × (take 12 (drop at s) ≡ operandBytes o) × WordOperand o) same
-      (refl, parted at 2 10 ∙ ap₂ (λ (a b : List ℕ). a ++ b) (name at (omega arith)) (padding (at + 2) 10 (omega arith) z), tt)
+      (refl, parted s at 2 10 ∙ ap₂ (λ (a b : List ℕ). a ++ b) (name at (omega arith)) (padding (at + 2) 10 (omega arith) z), tt)
   of-one false z o e = of-broken S.NamesOne o e
 
   of-two : (b : Bool) → allZero (take 8 (drop (at + 4) s)) ≡ b
@@ -154,9 +150,9 @@ module _ (s : List ℕ) (at : ℕ) (bytes : Bytes s) (long : at + 12 ≤ length 
       let four : at + 2 + 2 ≡ at + 4 = omega arith in
       let end : take 8 (drop (at + 2 + 2) s) ≡ replicate 8 0 = ap (λ (i : ℕ). take 8 (drop i s)) four ∙ padding (at + 4) 8 (omega arith) z in
       let rest : take 10 (drop (at + 2) s) ≡ bytesOf 2 (numberAt 2 s (at + 2)) ++ replicate 8 0 =
-      parted (at + 2) 2 8 ∙ ap₂ (λ (a b : List ℕ). a ++ b) (name (at + 2) (omega arith)) end in
+      parted s (at + 2) 2 8 ∙ ap₂ (λ (a b : List ℕ). a ++ b) (name (at + 2) (omega arith)) end in
       subst (λ (o : Operand). (shapeIn o ≡ S.NamesTwo) × (take 12 (drop at s) ≡ operandBytes o) × WordOperand o) same
-      (refl, parted at 2 10 ∙ ap₂ (λ (a b : List ℕ). a ++ b) (name at (omega arith)) rest, tt)
+      (refl, parted s at 2 10 ∙ ap₂ (λ (a b : List ℕ). a ++ b) (name at (omega arith)) rest, tt)
   of-two false z o e = of-broken S.NamesTwo o e
 
   by-terms : (t u : TermRead) → termAt s at ≡ t → termAt s (at + 6) ≡ u → Says S.Comparison (bothTerms t u)

@@ -4,10 +4,10 @@ use native.Mathlib.Nat.{add-comm}
 use native.Mathlib.Omega.{arith}
 use mathlib.Core.Path.{_≡_, refl, sym, ap}
 use mathlib.Core.Bool.{Bool, true, false, cond, not, _&&_}
-use lib.Dec.{ltb}
+use lib.Dec.{ltb, leb}
 use lib.IntN.{ℤ, pos, negsuc, subℕ, _+ℤ_}
 use lib.Signed.{mag, ltZ, leZ}
-use borrow.Author.Tests.{ltb-false, leb-true, le-ltb, lt-ltb, le-leb}
+use borrow.Author.Tests.{ltb-true, ltb-false, leb-true, leb-false, le-ltb, lt-ltb, le-leb, lt-leb}
 use Rattle.cltlb.specs.Fits.{shiftFits}
 use Rattle.rule.specs.Terms.{shiftOf, codeOf}
 
@@ -42,11 +42,14 @@ coded (negsuc n) h =
       back = simp (lt-ltb (3 - n) 4 (omega arith)) (ap negsuc (omega arith));
     }
 
--- a code of at most 8 is a shift that fits, and is that shift's code
-pub code-fits : (c : ℕ) → c ≤ 8 → shiftFits (shiftOf c) ≡ true
+-- A shift fits where its code is at most 8.
+pub code-tested : (c : ℕ) → shiftFits (shiftOf c) ≡ leb c 8
 unfolding shiftFits shiftOf
-code-fits c h = go (ltb c 4) refl
+code-tested c = go (ltb c 4) refl (leb c 8) refl
   where
-    go : (b : Bool) → ltb c 4 ≡ b → not (ltZ (cond b (negsuc (4 - suc c)) (pos (c - 4))) (negsuc 3)) && leZ (cond b (negsuc (4 - suc c)) (pos (c - 4))) (pos 4) ≡ true
-    go true e = simp (le-ltb 3 (4 - suc c) (omega arith))
-    go false e = simp (le-leb (c - 4) 4 (omega arith))
+    go : (b : Bool) → ltb c 4 ≡ b → (r : Bool) → leb c 8 ≡ r
+        → not (ltZ (cond b (negsuc (4 - suc c)) (pos (c - 4))) (negsuc 3)) && leZ (cond b (negsuc (4 - suc c)) (pos (c - 4))) (pos 4) ≡ r
+    go true e true f = simp (le-ltb 3 (4 - suc c) (omega arith))
+    go true e false f = absurd (omega (arith, ltb-true c 4 e, leb-false c 8 f))
+    go false e true f = let h : c ≤ 8 = leb-true c 8 f in simp (le-leb (c - 4) 4 (omega arith))
+    go false e false f = let h : 8 < c = leb-false c 8 f in simp (lt-leb (c - 4) 4 (omega arith))

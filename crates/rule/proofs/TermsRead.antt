@@ -1,10 +1,9 @@
--- A term by the tests that the reader makes, one law for each way out. Assumes nothing.
+-- The term that six bytes stand for, by its form. Assumes nothing.
 use Prim.Native.Nat.{ℕ, _+_}
 use mathlib.Core.Path.{_≡_}
 use mathlib.Core.List.{List}
 use lib.ListN.{getD}
 use lib.IntN.{ℤ}
-use borrow.Author.Tests.{ne-eqb}
 use Rattle.fields.specs.LittleEndian.{numberAt}
 use Rattle.fields.specs.TwosComplement.{signedAt}
 use Rattle.cltlb.specs.declared.Term.the-variants as T
@@ -16,14 +15,6 @@ module _ (s : List ℕ) (at : ℕ) where
   unfolding termAt
   constant p q e = simp (p, q, e)
 
-  pub constant-code : getD s at 0 ≡ 0 → (getD s (at + 1) 0 ≡ 4 → ⊥) → R.Broken ≡ termAt s at
-  unfolding termAt
-  constant-code p q = simp (p, ne-eqb _ _ q)
-
   pub reading : {u : ℕ} {z : ℤ} → getD s at 0 ≡ 1 → u ≡ numberAt 4 s (at + 2) → z ≡ shiftOf (getD s (at + 1) 0) → R.Term (T.Reading u z) ≡ termAt s at
   unfolding termAt
   reading p e f = simp (p, e, f)
-
-  pub no-form : (getD s at 0 ≡ 0 → ⊥) → (getD s at 0 ≡ 1 → ⊥) → R.Broken ≡ termAt s at
-  unfolding termAt
-  no-form p q = simp (ne-eqb _ _ p, ne-eqb _ _ q)

@@ -1,10 +1,11 @@
 -- The whole sheet: refusals 1, 2 and 3 by the tests that the check makes, and what a sheet that clears them is known for.
 -- Assumes nothing.
-use Prim.Native.Nat.{ℕ, _<_}
+use Prim.Native.Nat.{ℕ, _+_, _*_, _≤_, _<_}
 use native.Mathlib.Omega.{arith}
 use mathlib.Core.Path.{_≡_, sym, ap, ap₂, _∙_, subst}
 use mathlib.Core.List.{List}
-use mathlib.Core.Bool.{Bool, true, false, cond}
+use mathlib.Core.Bool.{Bool, not}
+use lib.ListN.{length, getD}
 use borrow.Author.Tests.{lt-leb}
 use Rattle.refusal.specs.declared.Outcome.{Outcome}
 use Rattle.refusal.specs.declared.Outcome.the-variants.{Clear, Refused}
@@ -13,53 +14,37 @@ use Rattle.refusal.specs.declared.Refusal.the-variants.{RuleSizes, Kind}
 use Rattle.refusal.specs.declared.Refusal.the-variants as N
 use Rattle.refusal.specs.First.{_orElse_, unless, atLowest}
 use Rattle.refusal.proofs.First.{atLowest-clear}
-use Rattle.rule.specs.declared.Taken.{Taken}
-use Rattle.rule.specs.declared.Taken.the-variants as K
 use Rattle.rule.specs.declared.sizes.Sizes.the-variants.{Counts, Wrong}
-use Rattle.rule.specs.declared.operands.OperandRead.{OperandRead}
-use Rattle.rule.specs.declared.operands.OperandRead.the-variants as O
-use Rattle.rule.specs.Layout.{partCount, channelCount, kindByte, operandPlace}
+use Rattle.rule.specs.declared.operands.Shape.{Shape}
+use Rattle.rule.specs.Layout.{partCount, channelCount, kindPlace, kindByte, operandPlace}
 use Rattle.rule.specs.inner.Sizes.{sizesOf}
-use Rattle.cltlb.specs.Views.{viewOf}
-use Rattle.cltlb.specs.Fits.{viewFits}
 use Rattle.rule.specs.declared.SheetRead.the-variants as R
 use Rattle.rule.specs.inner.Read.{countsUnless, sheetRead}
 use Rattle.rule.specs.Operands.{operandAt}
-use Rattle.rule.specs.Kinds.{shapeOf, kindUnknown, partOf}
-use Rattle.rule.specs.Take.{takenOperand, takeOf}
+use Rattle.rule.specs.Kinds.{shapeOf, kindUnknown}
+use Rattle.rule.specs.Take.{takeOf}
 use Rattle.rule.specs.inner.Known.{KindsKnown}
-use Rattle.rule.specs.inner.Untaken.{refusalTaken}
-use Rattle.rule.specs.Sheet.{isRefused, untakeable, sheetOutcome}
+use Rattle.rule.specs.inner.Sound.{operandSound}
+use Rattle.rule.specs.Sheet.{untakeable, sheetOutcome}
 use Rattle.rule.proofs.SizesRead.{wrong-sizes, right-sizes}
-
--- an operand that was read is refused by 3 alone
-operand-alone : (v n k : ℕ) (x : OperandRead) (r : Refusal) → takenOperand v n k x ≡ K.Refused r → r ≡ N.Operand n
-unfolding takenOperand
-operand-alone v n k O.Broken r e = cc
-operand-alone v n k (O.Operand o) r e = by-fit (viewFits v n (viewOf (partOf k o))) e
-  where
-    by-fit : (b : Bool) → cond b (K.Part (partOf k o)) (K.Refused (N.Operand n)) ≡ K.Refused r → r ≡ N.Operand n
-    by-fit true f = absurd (let z : _≡_ {A = ℕ} 0 1 = cc in omega arith)
-    by-fit false f = cc
+use Rattle.rule.proofs.SizesKnown.{sizes-known}
+use Rattle.rule.proofs.Taking.{refused-operand}
 
 module _ (s : List ℕ) (parts : ℕ) (known : KindsKnown s parts) where
-  -- take's answer on a part whose kind is known
-  take-known : (n : ℕ) → n < parts → takeOf s n ≡ takenOperand (channelCount s) n (kindByte s n) (operandAt (shapeOf (kindByte s n)) s (operandPlace (partCount s) n))
-  unfolding takeOf KindsKnown
-  take-known n h = let low : n < partCount s = omega (arith, known .1) in simp (known .0, lt-leb _ _ low, known .2 n h)
+  -- what is known of a sheet where all kinds are
+  pub known-length : (parts ≤ 64) × (length s ≡ 4 + 13 * parts)
+  unfolding KindsKnown
+  known-length = let z = sizes-known s (known .0) in rw (known .1) (z .1, z .4)
 
-  -- it is refused by 3 alone
-  pub refused-operand : (n : ℕ) → n < parts → {t : Taken} {r q : Refusal} → t ≡ takeOf s n → t ≡ K.Refused r → q ≡ refusalTaken t → q ≡ N.Operand n
-  refused-operand n h {t} {r} {q} e f g = g ∙ ap refusalTaken f ∙ operand-alone _ n _ _ r (sym (take-known n h) ∙ sym e ∙ f)
-
-module _ (s : List ℕ) (n : ℕ) {t : Taken} (e : t ≡ takeOf s n) where
-  pub untaken : {r : Refusal} → t ≡ K.Refused r → untakeable s n ≡ true
-  unfolding untakeable isRefused
-  untaken f = ap isRefused (sym e ∙ f)
-
-  pub taken : (p : _) → t ≡ K.Part p → untakeable s n ≡ false
-  unfolding untakeable isRefused
-  taken p f = ap isRefused (sym e ∙ f)
+  -- A part of a known kind cannot be taken where its operand is not sound.
+  pub operand-tested : {v : ℕ} → v ≡ channelCount s → (n : ℕ) → n < parts → {k : Shape} {r b : Bool}
+      → k ≡ shapeOf (getD s (4 + n) 0) → r ≡ operandSound v n (operandAt k s (4 + parts + 12 * n)) → not r ≡ b → untakeable s n ≡ b
+  unfolding untakeable takeOf KindsKnown kindByte kindPlace operandPlace
+  operand-tested c n h e f g =
+      let low : n < partCount s = omega (arith, known .1) in
+      simp (known .0, lt-leb _ _ low, known .2 n h)
+      (refused-operand (channelCount s) n (getD s (4 + n) 0) (operandAt (shapeOf (getD s (4 + n) 0)) s (4 + partCount s + 12 * n))
+      ∙ rw (← known .1, ← c, ← e) (ap not (sym f) ∙ g))
 
 module _ (s : List ℕ) where
   pub sheet-sizes : sizesOf s ≡ Wrong → Refused RuleSizes ≡ sheetOutcome s

@@ -4,3 +4,4 @@ pub mod Words
 pub mod Known
 pub mod Untaken
 pub mod Read
+pub mod Sound

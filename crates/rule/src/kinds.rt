@@ -1,9 +1,14 @@
-// The kind byte of a part, and a part off its kind byte and its operand.
+// The kind byte of a part, and a part off its kind byte and the bytes of its operand.
 ghost use mathlib.Core.Path.{_≡_};
+ghost use Prim.Native.Nat.{_+_, _≤_};
+ghost use lib.ListN.{length};
 ghost use Rattle.rule.specs.Kinds.{kindOf, shapeOf, isUnknown, partOf};
+ghost use Rattle.rule.specs.Operands.{operandAt};
+ghost use Rattle.rule.specs.inner.Sound.{IsPart};
 use crate::operands::Operand;
 use crate::operands::Shape;
 use cltlb::Part;
+use cltlb::Term;
 
 pub fn kind_of(part: Part) -> u8
     ensures { λ r. ⌜ r ≡ kindOf part ⌝ }
@@ -56,7 +61,18 @@ pub fn is_unknown(shape: Shape) -> bool
     }
 }
 
-fn one_part(kind: u8, a: usize) -> Part
+// The part of a kind: of those that compare two terms, that name one part, that name two.
+fn atom_part(kind: u8, x: Term, y: Term) -> Part
+    ensures { λ r. ⌜ r ≡ partOf kind (Operand.Terms x y) ⌝ }
+{
+    if kind == 1 {
+        Part::Less(x, y)
+    } else {
+        Part::Equal(x, y)
+    }
+}
+
+pub fn one_part(kind: u8, a: usize) -> Part
     ensures { λ r. ⌜ r ≡ partOf kind (Operand.One a) ⌝ }
 {
     match kind {
@@ -67,7 +83,7 @@ fn one_part(kind: u8, a: usize) -> Part
     }
 }
 
-fn two_part(kind: u8, a: usize, b: usize) -> Part
+pub fn two_part(kind: u8, a: usize, b: usize) -> Part
     ensures { λ r. ⌜ r ≡ partOf kind (Operand.Two a b) ⌝ }
 {
     match kind {
@@ -80,19 +96,22 @@ fn two_part(kind: u8, a: usize, b: usize) -> Part
     }
 }
 
-// The part of a kind with an operand of the shape that the kind asks for.
-pub fn part_of(kind: u8, operand: Operand) -> Part
-    ensures { λ r. ⌜ r ≡ partOf kind operand ⌝ }
+// The part of a kind, off twelve bytes from `at` on that are known to be an operand of the kind's shape.
+pub fn part_on(s: &[u8], at: usize, kind: u8, shape: Shape) -> Part
+    requires { ⌜ at + 12 ≤ length (now s) ⌝ }
+    ensures { λ r. ⌜ IsPart kind (operandAt shape (now (s .entry)) at) r ⌝ }
 {
-    match operand {
-        Operand::Terms(x, y) => {
-            if kind == 1 {
-                Part::Less(x, y)
-            } else {
-                Part::Equal(x, y)
-            }
+    match shape {
+        Shape::Comparison => {
+            atom_part(
+                kind,
+                crate::terms::term_on(s, at),
+                crate::terms::term_on(s, at + 6),
+            )
         }
-        Operand::One(a) => one_part(kind, a),
-        Operand::Two(a, b) => two_part(kind, a, b),
+        Shape::NamesOne => one_part(kind, fields::u16_at(s, at)),
+        Shape::NamesTwo => two_part(kind, fields::u16_at(s, at), fields::u16_at(s, at + 2)),
+        // Nothing is an operand of this shape, so any part will do.
+        Shape::Unknown => Part::Not(0),
     }
 }

@@ -7,9 +7,9 @@ ghost use Rattle.rule.specs.inner.Untaken.{refusalTaken};
 ghost use Rattle.rule.specs.inner.Words.{WordOperand};
 ghost use Rattle.rule.specs.Promise.{TakePromise, PutPromise};
 ghost use Rattle.rule.specs.Sheet.{untakeable};
-ghost use Rattle.rule.specs.Layout.{partCount};
+ghost use Rattle.rule.specs.Layout.{partCount, channelCount};
 ghost use Rattle.rule.specs.Kinds.{operandOf, kindUnknown};
-ghost use Rattle.rule.specs.Take.{takenPart, takeOf};
+ghost use Rattle.rule.specs.Take.{takeOf};
 ghost use Rattle.rule.specs.Put.{putOutcome, written};
 ghost use Rattle.cltlb.specs.Views.{viewOf};
 ghost use Rattle.cltlb.specs.Fits.{viewFits};
@@ -18,7 +18,6 @@ ghost use Prim.Native.Nat.{_+_, _≤_, _<_};
 ghost use lib.ListN.{length};
 use cltlb::Part;
 use operands::OPERAND_BYTES;
-use operands::OperandRead;
 use refusal::Outcome;
 use refusal::Refusal;
 use sizes::KINDS_AT;
@@ -48,17 +47,6 @@ fn part_fits(part: Part, channels: usize, n: usize) -> bool
     cltlb::view_fits(cltlb::view_of(part), channels, n)
 }
 
-// A part that was read for number `n`: refused by 3 unless it fits.
-fn fitting(part: Part, channels: usize, n: usize) -> Taken
-    ensures { λ r. ⌜ r ≡ takenPart channels n part ⌝ }
-{
-    if part_fits(part, channels, n) {
-        Taken::Part(part)
-    } else {
-        Taken::Refused(Refusal::Operand { part: n })
-    }
-}
-
 // The part with number `n` of a sheet that has it. Refused: 2 and 3 on that part.
 fn part_at(sheet: &[u8], parts: usize, channels: usize, n: usize) -> Taken
     requires { ⌜ (sizesOf (now sheet) ≡ Sizes.Counts parts channels) × (n < parts) ⌝ }
@@ -69,14 +57,12 @@ fn part_at(sheet: &[u8], parts: usize, channels: usize, n: usize) -> Taken
     if kinds::is_unknown(shape) {
         return Taken::Refused(Refusal::Kind { part: n });
     }
-    let OperandRead::Operand(operand) = operands::operand_at(
-        sheet,
-        KINDS_AT + parts + OPERAND_BYTES * n,
-        shape,
-    ) else {
-        return Taken::Refused(Refusal::Operand { part: n });
-    };
-    fitting(kinds::part_of(kind, operand), channels, n)
+    let at = KINDS_AT + parts + OPERAND_BYTES * n;
+    if operands::operand_sound(sheet, at, shape, channels, n) {
+        Taken::Part(kinds::part_on(sheet, at, kind, shape))
+    } else {
+        Taken::Refused(Refusal::Operand { part: n })
+    }
 }
 
 // The part with number `n`. Refused: 1, 12, then 2 and 3 on that part.
@@ -147,17 +133,18 @@ pub fn refusal_of(taken: Taken) -> Refusal
     }
 }
 
-// The lowest part that cannot be taken, all kinds being known.
-fn check_operands(sheet: &[u8], parts: usize) -> Outcome
-    requires { ⌜ KindsKnown (now sheet) parts ⌝ }
+// The lowest part that cannot be taken, all kinds being known: asked of the bytes, so that no part is made.
+fn check_operands(sheet: &[u8], parts: usize, channels: usize) -> Outcome
+    requires { ⌜ KindsKnown (now sheet) parts × (channels ≡ channelCount (now sheet)) ⌝ }
     ensures { λ r. ⌜ r ≡ atLowest (untakeable (now (sheet .entry))) parts Refusal.Operand ⌝ }
 {
     let mut n = 0;
     while n < parts {
-        let taken = take(sheet, n);
-        let Taken::Part(_) = taken else {
-            return Outcome::Refused(refusal_of(taken));
-        };
+        let shape = kinds::shape_of(sheet[KINDS_AT + n]);
+        let at = KINDS_AT + parts + OPERAND_BYTES * n;
+        if !operands::operand_sound(sheet, at, shape, channels, n) {
+            return Outcome::Refused(Refusal::Operand { part: n });
+        }
         n += 1;
     }
     Outcome::Clear
@@ -174,7 +161,7 @@ pub fn check_sheet(sheet: &[u8]) -> SheetRead
     if let Outcome::Refused(refusal) = kinds {
         return SheetRead::Refused(refusal);
     }
-    let operands = check_operands(sheet, parts);
+    let operands = check_operands(sheet, parts, channels);
     if let Outcome::Refused(refusal) = operands {
         return SheetRead::Refused(refusal);
     }

@@ -1,14 +1,16 @@
-// An operand in twelve bytes: read and written.
+// An operand in twelve bytes: held against the layout, and written.
 ghost use mathlib.Core.Path.{_≡_};
-ghost use mathlib.Core.Bool.{true};
+ghost use mathlib.Core.Bool.{true, _&&_};
 ghost use mathlib.Core.List.{_++_};
 ghost use Prim.Native.Nat.{_+_, _≤_, _<_};
-ghost use lib.ListN.{length, drop, replicate};
+ghost use lib.Dec.{ltb};
+ghost use lib.ListN.{length, take, drop, replicate};
+ghost use Rattle.fields.specs.LittleEndian.{numberAt};
 ghost use Rattle.rule.specs.Operands.{operandAt, operandBytes, allZero};
 ghost use Rattle.rule.specs.Kinds.{operandIn};
 ghost use Rattle.cltlb.specs.Fits.{termFits, atomFits, namesLower, viewFits};
+ghost use Rattle.rule.specs.inner.Sound.{operandSound};
 ghost use Rattle.rule.specs.inner.Words.{WordOperand};
-use crate::terms::TermRead;
 use cltlb::Atom;
 use cltlb::Operator;
 use cltlb::Term;
@@ -23,6 +25,7 @@ pub enum Operand {
     Two(usize, usize),
 }
 
+// What twelve bytes stand for. The definitions say it so; code asks the bytes, and makes none of these.
 pub enum OperandRead {
     Operand(Operand),
     Broken,
@@ -36,64 +39,41 @@ pub enum Shape {
     Unknown,
 }
 
-fn all_zero(t: &[u8]) -> bool
-    ensures { λ r. ⌜ r ≡ allZero (now (t .entry)) ⌝ }
+// Whether the last eight of twelve bytes from `at` on are zero: what stands behind two names.
+fn rest_zero(s: &[u8], at: usize) -> bool
+    requires { ⌜ at + 12 ≤ length (now s) ⌝ }
+    ensures { λ r. ⌜ r ≡ allZero (take 8 (drop (at + 4) (now (s .entry)))) ⌝ }
 {
-    let mut i = 0;
-    while i < t.len() {
-        if t[i] != 0 {
-            return false;
-        }
-        i += 1;
-    }
-    true
+    (fields::u32_at(s, at + 4) == 0) & (fields::u32_at(s, at + 8) == 0)
 }
 
-fn two_terms(s: &[u8], at: usize) -> OperandRead
+// Whether the twelve bytes from `at` on name one part, lower than `n`.
+fn name_sound(s: &[u8], at: usize, n: usize) -> bool
     requires { ⌜ at + 12 ≤ length (now s) ⌝ }
-    ensures { λ r. ⌜ r ≡ operandAt Shape.Comparison (now (s .entry)) at ⌝ }
+    ensures { λ r. ⌜ r ≡ (ltb (numberAt 2 (now (s .entry)) at) n && allZero (take 10 (drop (at + 2) (now (s .entry))))) ⌝ }
 {
-    let TermRead::Term(left) = crate::terms::term_at(s, at) else {
-        return OperandRead::Broken;
-    };
-    let TermRead::Term(right) = crate::terms::term_at(s, at + 6) else {
-        return OperandRead::Broken;
-    };
-    OperandRead::Operand(Operand::Terms(left, right))
+    (fields::u16_at(s, at) < n) & ((fields::u16_at(s, at + 2) == 0) & rest_zero(s, at))
 }
 
-fn one_name(s: &[u8], at: usize) -> OperandRead
+// Whether the twelve bytes from `at` on name two parts, both lower than `n`.
+fn names_sound(s: &[u8], at: usize, n: usize) -> bool
     requires { ⌜ at + 12 ≤ length (now s) ⌝ }
-    ensures { λ r. ⌜ r ≡ operandAt Shape.NamesOne (now (s .entry)) at ⌝ }
+    ensures { λ r. ⌜ r ≡ ((ltb (numberAt 2 (now (s .entry)) at) n && ltb (numberAt 2 (now (s .entry)) (at + 2)) n) && allZero (take 8 (drop (at + 4) (now (s .entry))))) ⌝ }
 {
-    if all_zero(&s[at + 2..at + OPERAND_BYTES]) {
-        OperandRead::Operand(Operand::One(fields::u16_at(s, at)))
-    } else {
-        OperandRead::Broken
-    }
+    ((fields::u16_at(s, at) < n) & (fields::u16_at(s, at + 2) < n)) & rest_zero(s, at)
 }
 
-fn two_names(s: &[u8], at: usize) -> OperandRead
+// Whether the twelve bytes from `at` on are an operand of a stated shape that fits `v` channels at number `n`.
+pub fn operand_sound(s: &[u8], at: usize, shape: Shape, v: usize, n: usize) -> bool
     requires { ⌜ at + 12 ≤ length (now s) ⌝ }
-    ensures { λ r. ⌜ r ≡ operandAt Shape.NamesTwo (now (s .entry)) at ⌝ }
-{
-    if all_zero(&s[at + 4..at + OPERAND_BYTES]) {
-        OperandRead::Operand(Operand::Two(fields::u16_at(s, at), fields::u16_at(s, at + 2)))
-    } else {
-        OperandRead::Broken
-    }
-}
-
-// The operand of twelve bytes from `at` on, of a stated shape.
-pub fn operand_at(s: &[u8], at: usize, shape: Shape) -> OperandRead
-    requires { ⌜ at + 12 ≤ length (now s) ⌝ }
-    ensures { λ r. ⌜ r ≡ operandAt shape (now (s .entry)) at ⌝ }
+    ensures { λ r. ⌜ r ≡ operandSound v n (operandAt shape (now (s .entry)) at) ⌝ }
 {
     match shape {
-        Shape::Comparison => two_terms(s, at),
-        Shape::NamesOne => one_name(s, at),
-        Shape::NamesTwo => two_names(s, at),
-        Shape::Unknown => OperandRead::Broken,
+        Shape::Comparison => crate::terms::term_sound(s, at, v)
+            & crate::terms::term_sound(s, at + 6, v),
+        Shape::NamesOne => name_sound(s, at, n),
+        Shape::NamesTwo => names_sound(s, at, n),
+        Shape::Unknown => false,
     }
 }
 

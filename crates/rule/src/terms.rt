@@ -1,15 +1,17 @@
-// A term in six bytes: read and written.
+// A term in six bytes: held against the layout, read and written.
 ghost use mathlib.Core.Path.{_≡_};
 ghost use mathlib.Core.Bool.{true};
 ghost use mathlib.Core.List.{_∷_, _++_};
 ghost use Prim.Native.Nat.{_+_, _≤_};
 ghost use lib.ListN.{length, drop};
 ghost use Rattle.fields.specs.LittleEndian.{bytesOf};
+ghost use Rattle.rule.specs.inner.Sound.{termSound, IsTerm};
 ghost use Rattle.rule.specs.inner.Words.{WordTerm};
 ghost use Rattle.rule.specs.Terms.{shiftOf, codeOf, termAt, termBytes};
 ghost use Rattle.cltlb.specs.Fits.{shiftFits, termFits};
 use cltlb::Term;
 
+// What six bytes stand for. The definitions say it so; code asks the bytes, and makes none of these.
 pub enum TermRead {
     Term(Term),
     Broken,
@@ -21,27 +23,33 @@ fn shift_of(code: u8) -> i32
     (code as i32) - 4
 }
 
-// The term of six bytes from `at` on.
-pub fn term_at(s: &[u8], at: usize) -> TermRead
+// Whether the six bytes from `at` on are a term that fits `v` channels.
+pub fn term_sound(s: &[u8], at: usize, v: usize) -> bool
     requires { ⌜ at + 6 ≤ length (now s) ⌝ }
-    ensures { λ r. ⌜ r ≡ termAt (now (s .entry)) at ⌝ }
+    ensures { λ r. ⌜ r ≡ termSound v (termAt (now (s .entry)) at) ⌝ }
 {
     let form = s[at];
     let code = s[at + 1];
     if form == 0 {
-        if code == 4 {
-            return TermRead::Term(Term::Constant(fields::i32_at(s, at + 2)));
-        }
-        return TermRead::Broken;
+        return code == 4;
     }
-    if form == 1 {
-        let channel = fields::u32_at(s, at + 2) as usize;
-        return TermRead::Term(Term::Reading {
-            channel: channel,
-            shift: shift_of(code),
-        });
+    let channel = fields::u32_at(s, at + 2) as usize;
+    (form == 1) & ((channel < v) & (code <= 8))
+}
+
+// The term that six bytes from `at` on are, once they are known to be one.
+pub fn term_on(s: &[u8], at: usize) -> Term
+    requires { ⌜ at + 6 ≤ length (now s) ⌝ }
+    ensures { λ r. ⌜ IsTerm (termAt (now (s .entry)) at) r ⌝ }
+{
+    if s[at] == 0 {
+        return Term::Constant(fields::i32_at(s, at + 2));
     }
-    TermRead::Broken
+    let channel = fields::u32_at(s, at + 2) as usize;
+    Term::Reading {
+        channel: channel,
+        shift: shift_of(s[at + 1]),
+    }
 }
 
 // The code of a shift from -4 to 4.

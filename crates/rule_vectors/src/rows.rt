@@ -3,7 +3,6 @@
 // 1 PART KIND NAMED 0 and 2 PART KIND NAMED NAMED: an operator over one part or two is put at PART.
 ghost use Prim.Native.Nat.{_+_, _≤_, _<_};
 ghost use lib.ListN.{length};
-use rule::operands::Operand;
 
 // A digit; a blank counts as 0.
 fn digit(x: u8) -> usize
@@ -25,11 +24,11 @@ fn number_at(row: &[u8], at: usize) -> usize
 }
 
 fn try_named(letter: u8, name: &[u8], n: usize, kind: u8, a: usize, b: usize) {
-    let mut operand = Operand::One(a);
+    let mut part = rule::kinds::one_part(kind, a);
     if letter == b'2' {
-        operand = Operand::Two(a, b);
+        part = rule::kinds::two_part(kind, a, b);
     }
-    crate::puts::try_put(name, n, rule::kinds::part_of(kind, operand));
+    crate::puts::try_put(name, n, part);
 }
 
 fn try_row(row: &[u8]) {

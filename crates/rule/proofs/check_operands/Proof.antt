@@ -1,11 +1,9 @@
 use Prim.Native.Nat.{_≤_, _-_}
 use native.Mathlib.Omega.{arith}
 use borrow.Author.Needs.{needs}
-use mathlib.Core.Path.{_≡_, ap, sym, _∙_}
+use mathlib.Core.Path.{_≡_, sym, _∙_}
 use denote.Ref.{now}
 use Rattle.refusal.specs.First.{atLowest}
-use Rattle.refusal.specs.declared.Outcome.the-variants.{Refused}
-use Rattle.refusal.specs.declared.Refusal.{Refusal}
 use Rattle.refusal.specs.declared.Refusal.the-variants.{Operand}
 use Rattle.refusal.proofs.Search.{searchFrom, search-starts, search-on, search-stops, search-ends}
 use Rattle.rule.specs.Sheet.{untakeable}
@@ -14,64 +12,75 @@ use Rattle.rule.proofs.check_operands.Statement.{statement}
 use Rattle.rule.proofs.check_operands.Tie as tie
 use Rattle.rule.proofs.check_operands.Reads as reads
 use Rattle.rule.proofs.check_operands.Lts as lts
-use Rattle.rule.proofs.refusal_of.Reads as refusal-of-reads
-use Rattle.rule.proofs.take.Reads as take-reads
+use Rattle.rule.proofs.kinds.shape_of.Reads as shape-of-reads
+use Rattle.rule.proofs.operands.operand_sound.Reads as operand-sound-reads
 
 abbrev Inv-loop : tie.InvT-loop
-Inv-loop sheet parts n₀ n = (n ≤ parts) × (atLowest (untakeable sheet) parts Operand ≡ searchFrom (untakeable sheet) parts Operand n)
+Inv-loop sheet parts channels n₀ n = (n ≤ parts) × (atLowest (untakeable sheet) parts Operand ≡ searchFrom (untakeable sheet) parts Operand n)
 
 abbrev μ-loop : tie.MeasureT-loop
-μ-loop sheet parts n₀ n = parts - n
+μ-loop sheet parts channels n₀ n = parts - n
 
--- src/lib.rt:103:5
+-- src/lib.rt:142:5
 loop-holds : tie.Need-loop-holds Inv-loop μ-loop
 loop-holds c = (omega arith, search-starts _ _ _)
 
--- src/lib.rt:104:13
-take-requires : tie.Need-take-requires Inv-loop μ-loop
-take-requires c κs = search needs
+-- src/lib.rt:143:43
+add-shape-of : tie.Need-add-shape-of Inv-loop μ-loop
+add-shape-of c = let start = c .before .before .before in omega (arith, law.known-length (now (start .args .sheet)) (start .args .parts) (start .pre .0))
 
-enum-told : tie.Need-enum-told Inv-loop μ-loop
-enum-told c = search needs
+-- src/lib.rt:143:37
+shared-slice-read-shape-of : tie.Need-shared-slice-read-shape-of Inv-loop μ-loop
+shared-slice-read-shape-of c = let start = c .before .before .before .before in omega (arith, law.known-length (now (start .args .sheet)) (start .args .parts) (start .pre .0))
 
--- src/lib.rt:106:37
-enum-told-2 : tie.Need-enum-told-2 Inv-loop μ-loop
-enum-told-2 c = search needs
+-- src/lib.rt:143:13
+shape-of-requires : tie.Need-shape-of-requires Inv-loop μ-loop
+shape-of-requires c κs = search needs
 
--- src/lib.rt:106:37
-refusal-of-requires : tie.Need-refusal-of-requires Inv-loop μ-loop
-refusal-of-requires c κs = search needs
+-- src/lib.rt:144:18
+add-at : tie.Need-add-at Inv-loop μ-loop
+add-at c = let start = c .before .before .before .before .before in omega (arith, law.known-length (now (start .args .sheet)) (start .args .parts) (start .pre .0))
 
--- src/lib.rt:106:13
+-- src/lib.rt:144:37
+mul-at : tie.Need-mul-at Inv-loop μ-loop
+mul-at c = let start = c .before .before .before .before .before in omega (arith, law.known-length (now (start .args .sheet)) (start .args .parts) (start .pre .0))
+
+-- src/lib.rt:144:18
+add-at-2 : tie.Need-add-at-2 Inv-loop μ-loop
+add-at-2 c = let start = c .before .before .before .before .before in omega (arith, law.known-length (now (start .args .sheet)) (start .args .parts) (start .pre .0))
+
+-- src/lib.rt:145:13
+operand-sound-requires : tie.Need-operand-sound-requires Inv-loop μ-loop
+operand-sound-requires c κs = let start = c .before .before .before .before .before in omega (arith, law.known-length (now (start .args .sheet)) (start .args .parts) (start .pre .0))
+
+-- src/lib.rt:146:13
 returns : tie.Need-returns Inv-loop μ-loop
-returns c =
-    let start = c .before .before .before .before .before .before .before in
+returns c = let start = c .before .before .before .before .before .before .before in
     let loop = c .before .before .before .before .before .loop in
-    let loop-test = c .before .before .before .before .loop-test in
-    let take = c .before .before .before .take in
-    let enum-told2 = c .before .enum-told2 in
-    let refusal-of = c .refusal-of in
-    ap (λ (r : Refusal). Refused r) (law.refused-operand (now (start .args .sheet)) (start .args .parts) (start .pre) (loop .n) (loop-test .taken) (take .ensures .isTake) (enum-told2 .given .1) (refusal-of .ensures)) ∙ search-stops (untakeable (now (start .args .sheet))) (start .args .parts) Operand (loop .n) (loop-test .taken) (law.untaken (now (start .args .sheet)) (loop .n) (take .ensures .isTake) (enum-told2 .given .1)) ∙ sym (loop .inv .1)
+    let low = c .before .before .before .before .loop-test .taken in
+    search-stops (untakeable (now (start .args .sheet))) (start .args .parts) Operand (loop .n) low
+    (law.operand-tested (now (start .args .sheet)) (start .args .parts) (start .pre .0) (start .pre .1) (loop .n) low (c .before .before .shape-of .ensures) (c .before .operand-sound .ensures) (c .if1 .taken))
+    ∙ sym (loop .inv .1)
 
--- src/lib.rt:108:9
+-- src/lib.rt:148:9
 add-n : tie.Need-add-n Inv-loop μ-loop
 add-n c = omega arith
 
--- src/lib.rt:103:5
+-- src/lib.rt:142:5
 loop-less : tie.Need-loop-less Inv-loop μ-loop
 loop-less c = omega arith
 
--- src/lib.rt:103:5
+-- src/lib.rt:142:5
 loop-again : tie.Need-loop-again Inv-loop μ-loop
-loop-again c =
-    let start = c .before .before .before .before .before .before in
-    let loop = c .before .before .before .before .loop in
-    let loop-test = c .before .before .before .loop-test in
-    let take = c .before .before .take in
-    let enum-told = c .enum-told in
-    (omega arith, loop .inv .1 ∙ search-on (untakeable (now (start .args .sheet))) (start .args .parts) Operand (loop .n) (loop-test .taken) (law.taken (now (start .args .sheet)) (loop .n) (take .ensures .isTake) _ (enum-told .given .1)))
+loop-again c = let start = c .before .before .before .before .before .before .before in
+    let loop = c .before .before .before .before .before .loop in
+    let low = c .before .before .before .before .loop-test .taken in (
+      omega arith,
+      loop .inv .1 ∙ search-on (untakeable (now (start .args .sheet))) (start .args .parts) Operand (loop .n) low
+          (law.operand-tested (now (start .args .sheet)) (start .args .parts) (start .pre .0) (start .pre .1) (loop .n) low (c .before .before .shape-of .ensures) (c .before .operand-sound .ensures) (c .if1 .left)),
+    )
 
--- src/lib.rt:98:1
+-- src/lib.rt:137:1
 returns-2 : tie.Need-returns-2 Inv-loop μ-loop
 returns-2 c = search-ends (untakeable (now (c .before .before .before .args .sheet))) (c .before .before .before .args .parts) Operand (c .before .loop .n) (c .loop-test .left) ∙ sym (c .before .loop .inv .1)
 
@@ -82,10 +91,13 @@ check-operands-spec =
     Inv-loop
     μ-loop
     loop-holds
-    take-requires
-    enum-told
-    enum-told-2
-    refusal-of-requires
+    add-shape-of
+    shared-slice-read-shape-of
+    shape-of-requires
+    add-at
+    mul-at
+    add-at-2
+    operand-sound-requires
     returns
     add-n
     loop-less

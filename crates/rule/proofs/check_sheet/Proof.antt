@@ -1,6 +1,7 @@
 use denote.Ref.{now}
 use native.Mathlib.Omega.{arith}
 use mathlib.Core.Path.{refl, sym, _∙_}
+use Rattle.rule.proofs.SizesRead.{right-sizes}
 use Rattle.rule.proofs.SizesKnown.{counts-known}
 use Rattle.rule.proofs.WholeSheet as law
 use borrow.Author.Needs.{needs}
@@ -47,7 +48,10 @@ enum-told-2 c = search needs
 
 -- src/lib.rt:160:9
 check-operands-requires : tie.Need-check-operands-requires
-check-operands-requires c κs = law.kinds-known (now (c .before .before .before .before .before .before .before .before .args .sheet)) (sym (c .before .before .before .before .before .before .read-sizes .ensures) ∙ c .before .before .before .before .parts .given .1) (c .before .before .check-kinds .ensures) (c .enum-told2 .given .1)
+check-operands-requires c κs =
+    let sheet = now (c .before .before .before .before .before .before .before .before .args .sheet) in
+    let read = sym (c .before .before .before .before .before .before .read-sizes .ensures) ∙ c .before .before .before .before .parts .given .1 in
+    (law.kinds-known sheet read (c .before .before .check-kinds .ensures) (c .enum-told2 .given .1), right-sizes sheet read .2)
 
 -- src/lib.rt:161:29
 enum-known-operands : tie.Need-enum-known-operands

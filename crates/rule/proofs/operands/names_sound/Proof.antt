@@ -1,0 +1,32 @@
+use mathlib.Core.Path.{refl}
+use borrow.Author.Needs.{needs}
+use Rattle.rule.proofs.operands.names_sound.Statement.{statement}
+use Rattle.rule.proofs.operands.names_sound.Tie as tie
+use Rattle.rule.proofs.operands.names_sound.Reads as reads
+use Rattle.rule.proofs.operands.names_sound.Lts as lts
+use Rattle.fields.proofs.u16_at.Reads as u16-at-reads
+use Rattle.rule.proofs.operands.rest_zero.Reads as rest-zero-reads
+
+-- src/operands.rt:62:7
+u16-at-requires : tie.Need-u16-at-requires
+u16-at-requires c κs = search needs
+
+-- src/operands.rt:62:55
+add-u16-at : tie.Need-add-u16-at
+add-u16-at c = search needs
+
+-- src/operands.rt:62:37
+u16-at-requires-2 : tie.Need-u16-at-requires-2
+u16-at-requires-2 c κs = search needs
+
+-- src/operands.rt:62:71
+rest-zero-requires : tie.Need-rest-zero-requires
+rest-zero-requires c κs = search needs
+
+-- src/operands.rt:58:1
+returns : tie.Need-returns
+returns c = rw (c .before .before .u16-at .ensures .0, c .before .u16-at2 .ensures .0, c .rest-zero .ensures) refl
+
+pub names-sound-spec : {M : Type 1} → statement M
+names-sound-spec =
+    tie.close (tie.spec u16-at-requires add-u16-at u16-at-requires-2 rest-zero-requires returns)
