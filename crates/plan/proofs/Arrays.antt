@@ -21,15 +21,15 @@ cell-lt v w row channel h k = let g : (row + 1) * v ≤ w * v = mul-le-mul-right
 
 module _ {plan : List ℕ} {z : Sizes} (fits : Fitting plan z) where
   -- the bytes of one array
-  abbrev long : ℕ
+  abbrev pub long : ℕ
   long = arrayLength (z .channels) (allRows z)
 
   -- the two arrays are the parts that are handed on
-  readings-part : (a b : ℕ) → a ≡ headLength → b ≡ headLength + long → take (b - a) (drop a plan) ≡ readings plan
+  pub readings-part : (a b : ℕ) → a ≡ headLength → b ≡ headLength + long → take (b - a) (drop a plan) ≡ readings plan
   unfolding readings rows
   readings-part a b f g = let k : b - a ≡ long = omega arith in rw (k, f, fits .v-is, fits .p-is, fits .c-is) refl
 
-  drifts-part : (b e : ℕ) → b ≡ headLength + long → e ≡ b + long → take (e - b) (drop b plan) ≡ drifts plan
+  pub drifts-part : (b e : ℕ) → b ≡ headLength + long → e ≡ b + long → take (e - b) (drop b plan) ≡ drifts plan
   unfolding drifts rows
   drifts-part b e f g = let k : e - b ≡ long = omega arith in rw (k, f, fits .v-is, fits .p-is, fits .c-is) refl
 

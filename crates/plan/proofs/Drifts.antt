@@ -1,17 +1,25 @@
--- A row that has a drift other than 0, looked for channel by channel. Assumes nothing.
-use Prim.Native.Nat.{ℕ, zero, suc, _+_, _-_, _<_}
+-- Rows that have a drift other than 0, looked for channel by channel, and rows that have none, found at once. Assumes nothing.
+use Prim.Native.Nat.{ℕ, zero, suc, _+_, _*_, _-_, _≤_, _<_}
+use native.Mathlib.Nat.{mul-le-mul-right}
 use native.Mathlib.Decide.{decLt}
 use native.Mathlib.Numerals.{add-one}
 use native.Mathlib.Omega.{arith}
-use mathlib.Core.Path.{_≡_, sym, ap, ap₂, _∙_, subst}
-use mathlib.Core.Bool.{Bool, true, false, _||_, not, or-true}
+use mathlib.Core.Path.{_≡_, refl, sym, ap, ap₂, _∙_, subst}
+use mathlib.Core.Bool.{Bool, true, false, _&&_, _||_, not, or-true, false≢true}
 use mathlib.Core.List.{List}
 use mathlib.Core.Logic.{by-cases}
-use lib.IntN.{ℤ}
-use borrow.Author.Tests.{eq-eqb, ne-eqb}
+use lib.Dec.{eqb}
+use lib.ListN.{length, take, drop, length-take, length-drop}
+use lib.IntN.{ℤ, pos}
+use borrow.Author.Tests.{eq-eqb, ne-eqb, eqb-true}
+use Rattle.fields.specs.LittleEndian.{numberAt}
+use Rattle.fields.specs.TwosComplement.{signedOf, signedAt}
 use Rattle.fields.proofs.Differences.{sub-pos, sub-neg}
-use Rattle.plan.specs.Layout.{driftOf}
-use Rattle.plan.specs.inner.Sizes.{Fitting}
+use Rattle.fields.proofs.Patterns.{signed-low}
+use Rattle.plan.specs.Layout.{channels, headLength, arrayLength, cell, entry, driftOf}
+use Rattle.plan.specs.inner.Sizes.{allRows, Fitting}
+use Rattle.plan.specs.inner.Drifts.{other, allZero, Still}
+use Rattle.plan.proofs.Arrays.{array-le, drifts-part}
 use Rattle.plan.specs.declared.sizes.Sizes.{Sizes}
 use Rattle.fields.specs.inner.Biased.{bias, unbiased}
 use Rattle.plan.specs.Refusals.{isZero, anyBelow, driftsAt, drifting}
@@ -21,6 +29,11 @@ module _ (f : ℕ → Bool) where
   pub none-more : (k : ℕ) → anyBelow f k ≡ false → f k ≡ false → anyBelow f (k + 1) ≡ false
   unfolding anyBelow
   none-more k e g = rw add-one (ap₂ _||_ e g)
+
+  pub none-below : (n : ℕ) → ((k : ℕ) → k < n → f k ≡ false) → anyBelow f n ≡ false
+  unfolding anyBelow
+  none-below zero h = refl
+  none-below (suc n) h = ap₂ _||_ (none-below n (λ k l. h k (omega arith))) (h n (omega arith))
 
   pub one-here : (k n : ℕ) → k < n → f k ≡ true → anyBelow f n ≡ true
   unfolding anyBelow
@@ -61,3 +74,73 @@ module _ {plan : List ℕ} {z : Sizes} (fits : Fitting plan z) (row : ℕ) where
   pub row-still : (n : ℕ) → n ≡ z .channels → anyBelow (driftsAt plan row) n ≡ false → drifting plan row ≡ false
   unfolding drifting
   row-still n h e = rw (fits .v-is, ← h) e
+
+-- A row none of whose channels drifts.
+pub row-quiet : (plan : List ℕ) (row : ℕ) → ((channel : ℕ) → channel < channels plan → driftOf plan row channel ≡ pos 0) → drifting plan row ≡ false
+unfolding drifting driftsAt isZero
+row-quiet plan row h = none-below (driftsAt plan row) (channels plan) (λ channel l. rw (h channel l) refl)
+
+-- ---- many at once
+
+-- one more that is 0
+sweeps-on : (x b : Bool) → (not x && b) ≡ not (x || not b)
+sweeps-on true b = refl
+sweeps-on false true = refl
+sweeps-on false false = refl
+
+module _ (array : List ℕ) (from : ℕ) where
+  pub zero-first : true ≡ allZero array from 0
+  unfolding allZero anyBelow
+  zero-first = refl
+
+  pub zero-next : (k n : ℕ) {all : Bool} → all ≡ allZero array from k → n ≡ numberAt 4 array (4 * (from + k)) → (all && eqb n 0) ≡ allZero array from (k + 1)
+  unfolding allZero anyBelow other
+  zero-next k n e g = rw (add-one, ← g) (ap (λ b. b && eqb n 0) e ∙ sweeps-on (anyBelow (other array from) k) (eqb n 0))
+
+  pub zero-end : (k n : ℕ) {all : Bool} → k ≤ n → n ≤ k → all ≡ allZero array from k → all ≡ allZero array from n
+  zero-end k n h l e = e ∙ ap (allZero array from) (omega arith)
+
+  zero-each : (n : ℕ) → allZero array from n ≡ true → (j : ℕ) → j < n → numberAt 4 array (4 * (from + j)) ≡ 0
+  unfolding allZero other
+  zero-each n e j l = go (eqb (numberAt 4 array (4 * (from + j))) 0) refl
+    where
+      go : (b : Bool) → eqb (numberAt 4 array (4 * (from + j))) 0 ≡ b → numberAt 4 array (4 * (from + j)) ≡ 0
+      go true g = eqb-true _ _ g
+      go false g = absurd (false≢true (sym (ap not (one-here (other array from) j n l (ap not g))) ∙ e))
+
+module _ {plan : List ℕ} {z : Sizes} (fits : Fitting plan z) where
+  -- The numbers of the drifts on the rows from one up to another lie in their array,
+  module _ (from to : ℕ) (h : from ≤ to) (l : to ≤ allRows z) where
+    together : from * z .channels + (to - from) * z .channels ≡ to * z .channels
+    together = let back : from + (to - from) ≡ to = omega arith in omega (arith, ap (λ (r : ℕ). r * z .channels) back)
+
+    pub few-numbers : from * z .channels + (to - from) * z .channels ≤ 2048
+    few-numbers =
+        let few = fits .few-rows in
+        let most = array-le (z .channels) to (fits .few-channels) (omega arith) in
+        omega (arith, together, most)
+
+    pub numbers-there : (b e : ℕ) → b ≡ headLength + arrayLength (z .channels) (allRows z) → e ≡ b + arrayLength (z .channels) (allRows z)
+        → (4 * (from * z .channels + (to - from) * z .channels) ≤ length (take (e - b) (drop b plan))) × (length (take (e - b) (drop b plan)) ≤ 8192)
+    unfolding arrayLength
+    numbers-there b e hb he =
+        let whole = fits .whole in
+        let most = array-le (z .channels) (allRows z) (fits .few-channels) (fits .few-rows) in
+        simp (length-take, length-drop) (omega (arith, together, mul-le-mul-right (z .channels) l, most))
+
+  -- and where they are 0, no channel drifts there.
+  pub still-rows : (b e from to : ℕ) → b ≡ headLength + arrayLength (z .channels) (allRows z) → e ≡ b + arrayLength (z .channels) (allRows z)
+      → allZero (take (e - b) (drop b plan)) (from * z .channels) ((to - from) * z .channels) ≡ true → Still plan from to
+  unfolding Still driftOf entry signedAt cell
+  still-rows b e from to hb he all row channel low high l =
+      let there : channel < z .channels = rw (← fits .v-is) l in
+      let near : row - from + 1 ≤ to - from = omega arith in
+      let inside : (row - from) * z .channels + channel < (to - from) * z .channels = omega (arith, mul-le-mul-right (z .channels) near) in
+      let back : from + (row - from) ≡ row = omega arith in
+      let place : from * z .channels + ((row - from) * z .channels + channel) ≡ row * z .channels + channel =
+      omega (arith, ap (λ (r : ℕ). r * z .channels) back) in
+      rw (fits .v-is, ← place, ← drifts-part fits b e hb he)
+      (ap (signedOf 4) (zero-each (take (e - b) (drop b plan)) (from * z .channels) ((to - from) * z .channels) all ((row - from) * z .channels + channel) inside) ∙ zero-signed)
+    where
+      zero-signed : signedOf 4 0 ≡ pos 0
+      zero-signed = sym (signed-low 4 0 (omega arith))

@@ -1,5 +1,6 @@
 pub mod Rows
 pub mod Lines
+pub mod Landings
 pub mod Shifts
 pub mod Lifts
 pub mod Arrays

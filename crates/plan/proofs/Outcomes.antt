@@ -13,12 +13,14 @@ use Rattle.refusal.specs.declared.Refusal.the-variants.{PlanSizes, Channels, St
 use Rattle.refusal.proofs.First.{orElse-clear, unless-clear, atLowest-clear}
 use Rattle.plan.specs.Layout.{channels, startRows, sizesFit}
 use Rattle.plan.specs.inner.Sizes.{sizesIn, sizesRead, Fitting}
+use Rattle.plan.specs.inner.Drifts.{Still}
 use Rattle.plan.specs.inner.Read.{readOf, planRead}
 use Rattle.plan.specs.Refusals.{drifting, planOutcome}
 use Rattle.plan.specs.declared.sizes.Sizes.{Sizes}
 use Rattle.plan.specs.declared.sizes.SizesRead.the-variants.{Counts, Wrong}
 use Rattle.plan.specs.declared.check.PlanRead.the-variants as read
 use Rattle.plan.proofs.Fits.{fitting, fits-true, sizes-are, counted, unfit}
+use Rattle.plan.proofs.Drifts.{row-quiet}
 
 module _ (v : ℕ) (plan : List ℕ) where
   pub sizes-refused : sizesRead plan ≡ Wrong → read.Refused PlanSizes ≡ planRead v plan
@@ -42,6 +44,13 @@ module _ (v : ℕ) (plan : List ℕ) where
       pub fits-read : r ≡ Clear → read.Fits z ≡ planRead v plan
       unfolding planRead
       fits-read e = ap read.Fits (sym (sizes-are (counted plan counts))) ∙ ap (readOf plan) (sym e ∙ drifts-remain)
+
+    -- start rows that were found still at once
+    pub still-read : z .channels ≡ v → Still plan 0 (z .start) → read.Fits z ≡ planRead v plan
+    unfolding Still
+    still-read same h =
+        fits-read same Clear
+        (sym (atLowest-clear (drifting plan) (z .start) StartDrift .1 (λ row l. row-quiet plan row (λ channel g. h row channel (omega arith) l g)))) refl
 
   -- A plan that is not refused fits the rule, and its start rows do not drift.
   pub cleared : planOutcome v plan ≡ Clear → Fitting plan (sizesIn plan) × (channels plan ≡ v) × ((row : ℕ) → row < startRows plan → drifting plan row ≡ false)

@@ -2,3 +2,5 @@
 pub mod Lifted
 pub mod Sizes
 pub mod Read
+pub mod Drifts
+pub mod Landing

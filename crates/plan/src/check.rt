@@ -10,6 +10,7 @@ use crate::lookup::drift_at;
 use crate::sizes::Sizes;
 use crate::sizes::SizesRead;
 use crate::sizes::read_sizes;
+use crate::sweeps::still;
 use fields::BIAS;
 use refusal::Outcome;
 use refusal::Refusal;
@@ -50,7 +51,8 @@ fn start_rows(plan: &[u8], sizes: Sizes) -> Outcome
     Outcome::Clear
 }
 
-// Refusals 4, 5 and 6 of a plan, in this order, against a rule of `v` channels.
+// Refusals 4, 5 and 6 of a plan, in this order, against a rule of `v` channels. The start rows are searched one by one only where a
+// look at all of them at once finds a drift.
 pub fn check_plan(plan: &[u8], v: usize) -> PlanRead
     ensures { λ r. ⌜ r ≡ planRead v (now (plan .entry)) ⌝ }
 {
@@ -60,6 +62,9 @@ pub fn check_plan(plan: &[u8], v: usize) -> PlanRead
     };
     if sizes.channels != v {
         return PlanRead::Refused(Refusal::Channels);
+    }
+    if still(plan, sizes, 0, sizes.start) {
+        return PlanRead::Fits(sizes);
     }
     let drifts = start_rows(plan, sizes);
     if let Outcome::Refused(refusal) = drifts {

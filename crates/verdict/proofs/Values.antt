@@ -6,7 +6,7 @@ use mathlib.Core.Path.{_≡_, refl, sym, ap, ap₂, _∙_, subst}
 use mathlib.Core.Bool.{Bool, true, false, cond}
 use mathlib.Core.List.{List}
 use lib.Dec.{ltb, eqb}
-use lib.IntN.{ℤ, pos, negsuc, subℕ}
+use lib.IntN.{ℤ, pos, subℕ}
 use borrow.Author.Tests.{lt-ltb, le-ltb}
 use Rattle.cltlb.specs.Run as cltlb
 use Rattle.cltlb.specs.Truth.{valueAt}
@@ -16,11 +16,9 @@ use Rattle.cltlb.specs.declared.Term.the-variants.{Constant, Reading}
 use Rattle.cltlb.specs.declared.Atom.{Atom}
 use Rattle.cltlb.proofs.Fits as fits
 use Rattle.fields.specs.inner.Biased.{bias, unbiased}
-use Rattle.fields.proofs.Differences.{sub-pos, sub-eq, pos-sub, negsuc-sub}
 use Rattle.plan.specs.Layout.{cycleRows, driftOf}
-use Rattle.plan.specs.Positions.{rowOf, passOf}
 use Rattle.plan.specs.inner.Sizes.{allRows, Fitting}
-use Rattle.plan.specs.Run.{readingOn, readingAt, runOf}
+use Rattle.plan.specs.Run.{readingOn, runOf}
 use Rattle.plan.specs.inner.Lifted.{valueBias, lowered, seenOf}
 use Rattle.plan.specs.declared.lookup.Seen.{Seen}
 use Rattle.plan.specs.declared.lookup.Seen.the-variants.{Number, BeforeRun}
@@ -28,8 +26,10 @@ use Rattle.plan.specs.declared.sizes.Sizes.{Sizes}
 use Rattle.plan.proofs.Shifts.{shifted}
 use Rattle.verdict.specs.Comparisons.{comparisonOf, testOf, ofNumber, tested, judgeLines}
 use Rattle.verdict.specs.Lines.{Line}
-use Rattle.verdict.specs.Rows.{channelLine, termLine, join, joinFirst, testAt, judgeCycle, judgeRow, verdictOf}
+use Rattle.verdict.specs.Rows.{termLine, join, joinFirst, testAt, judgeCycle, judgeRow, verdictOf}
+use Rattle.verdict.specs.inner.Landed.{lineOn, landedLine}
 use Rattle.verdict.specs.inner.Reach.{back, reach, TermsFit}
+use Rattle.plan.specs.declared.landing.Landing.{Landing}
 use Rattle.verdict.specs.inner.Judgement.{Judgement}
 use Rattle.verdict.specs.declared.Comparison.{Comparison}
 use Rattle.verdict.specs.declared.Relation.the-variants.{Below, Same}
@@ -49,15 +49,6 @@ module _ (x : Term) (channel : ℕ) (shift : ℤ) (e : x ≡ Reading channel shi
   unfolding reach
   reading-reach = rw e refl
 
-  -- a term that does not reach before the cycle is read in the cycle
-  pub reading-inside : (p t code : ℕ) → p + reach x ≤ t → subℕ code 4 ≡ shift → p + 4 ≤ t + code
-  unfolding back
-  reading-inside p t code h g = inside shift g (omega (arith, reading-reach))
-    where
-      inside : (s : ℤ) → subℕ code 4 ≡ s → p + back s ≤ t → p + 4 ≤ t + code
-      inside (pos n) g h = let k = sub-eq code 4 n 0 .0 (g ∙ pos-sub n) in omega arith
-      inside (negsuc n) g h = let k = sub-eq code 4 0 (suc n) .0 (g ∙ negsuc-sub n) in omega arith
-
 module _ (plan : List ℕ) (x : Term) (t : ℕ) where
   -- what is seen of a constant and of a reading
   pub sees-constant : (a : ℕ) (z : ℤ) → x ≡ Constant z → lowered a ≡ z → seenOf (Number a) ≡ valueAt (runOf plan) x t
@@ -69,23 +60,17 @@ module _ (plan : List ℕ) (x : Term) (t : ℕ) where
   unfolding valueAt
   sees-reading seen channel code shift e g h = rw e (h ∙ ap (runOf plan channel) (sym (shifted t code shift g)))
 
-  -- the line of a constant and of a reading
-  pub line-constant : (a : ℕ) (z : ℤ) → x ≡ Constant z → lowered a ≡ z → lifted valueBias bias a bias ≡ termLine plan x t
-  unfolding termLine
-  line-constant a z e h = rw e (ap (λ (n : ℤ). record { at = n; step = pos 0 }) h)
+-- the line of a constant and of a channel
+pub line-constant : (plan : List ℕ) (x : Term) (l : Landing) (k a : ℕ) (z : ℤ) → x ≡ Constant z → lowered a ≡ z → lifted valueBias bias a bias ≡ landedLine plan x l k
+line-constant plan x l k a z e h = rw e (ap (λ (n : ℤ). record { at = n; step = pos 0 }) h)
 
-  pub line-reading : (line : Line) (channel code : ℕ) (shift : ℤ) → x ≡ Reading channel shift → subℕ code 4 ≡ shift → 4 ≤ t + code
-      → line ≡ channelLine plan channel (pos (t + code - 4)) → line ≡ termLine plan x t
-  unfolding termLine
-  line-reading line channel code shift e g h l =
-      rw e (l ∙ ap (channelLine plan channel) (sym (shifted t code shift g ∙ sub-pos (t + code) 4 h)))
+pub line-reading : (plan : List ℕ) (x : Term) (l : Landing) (k channel : ℕ) (shift : ℤ) → x ≡ Reading channel shift
+    → (line : Line) → line ≡ lineOn plan channel (l .row) (k + l .off - 4) → line ≡ landedLine plan x l k
+line-reading plan x l k channel shift e line h = rw e h
 
-pub line-channel : {plan : List ℕ} {z : Sizes} → Fitting plan z → (channel t row pass a d : ℕ) → row ≡ rowOf (z .start) (z .cycle) t
-    → pass ≡ passOf (z .start) (z .cycle) t → lowered a ≡ readingOn plan channel row pass → unbiased d ≡ driftOf plan row channel
-    → lifted valueBias bias a d ≡ channelLine plan channel (pos t)
-unfolding channelLine readingAt
-line-channel {plan} f channel t row pass a d e g h k =
-    rw (f .p-is, f .c-is, ← e, ← g) (ap₂ (λ (m n : ℤ). record { at = m; step = n }) h k)
+pub line-channel : (plan : List ℕ) (channel row pass a d : ℕ) → lowered a ≡ readingOn plan channel row pass → unbiased d ≡ driftOf plan row channel
+    → lifted valueBias bias a d ≡ lineOn plan channel row pass
+line-channel plan channel row pass a d h k = ap₂ (λ (m n : ℤ). record { at = m; step = n }) h k
 
 -- ---- comparisons of two values that are seen
 

@@ -9,6 +9,7 @@ ghost use Rattle.plan.specs.inner.Lifted.{seenOf};
 ghost use Rattle.verdict.specs.Comparisons.{comparisonOf, testOf, tested};
 ghost use Rattle.verdict.specs.Rows.{joinFirst, testAt, judgeCycle, judgeRow, atomAt};
 ghost use Rattle.verdict.specs.inner.Reach.{TermsFit, latest, latestFrom};
+ghost use Rattle.verdict.specs.inner.Landed.{BothLand};
 ghost use Rattle.verdict.specs.inner.Judgement.{Judgement};
 use crate::Comparison;
 use crate::Relation;
@@ -17,10 +18,14 @@ use crate::early::early_passes;
 use crate::early::join;
 use crate::early::larger;
 use crate::lines::decide;
+use crate::terms::code_in;
+use crate::terms::landed_line;
 use crate::terms::reach_of;
+use crate::terms::seen_on;
 use crate::terms::seen_term;
-use crate::terms::term_line;
 use cltlb::Atom;
+use plan::landing::Landing;
+use plan::landing::landing_of;
 use plan::lookup::Seen;
 use plan::sizes::Sizes;
 
@@ -55,16 +60,41 @@ fn test_at(plan: &[u8], sizes: Sizes, comparison: Comparison, t: usize) -> bool
     )
 }
 
+// A comparison on pass k of a row, from which the shifts of its two terms land so.
+fn test_on(
+    plan: &[u8],
+    sizes: Sizes,
+    comparison: Comparison,
+    left: Landing,
+    right: Landing,
+    row: usize,
+    k: usize,
+) -> bool
+    requires { ⌜ (Fitting (now plan) sizes) × (TermsFit sizes comparison) × (sizes .start ≤ row) × (BothLand sizes row comparison left right) × (row + k * sizes .cycle ≤ latest sizes) ⌝ }
+    ensures { λ r. ⌜ r ≡ testAt (now (plan .entry)) comparison (row + k * sizes .cycle) ⌝ }
+{
+    let relation = comparison.relation;
+    let x = comparison.left;
+    let y = comparison.right;
+    compare(
+        relation,
+        seen_on(plan, sizes, x, left, row, k),
+        seen_on(plan, sizes, y, right, row, k),
+    )
+}
+
 // The first n passes from a position on, looked at one by one, in front of the verdict on the later ones.
 fn join_first(
     plan: &[u8],
     sizes: Sizes,
     comparison: Comparison,
+    left: Landing,
+    right: Landing,
     row: usize,
     n: usize,
     later: Verdict,
 ) -> Verdict
-    requires { ⌜ (Fitting (now plan) sizes) × (TermsFit sizes comparison) × (row ≤ latestFrom sizes) × (n ≤ 4) ⌝ }
+    requires { ⌜ (Fitting (now plan) sizes) × (TermsFit sizes comparison) × (sizes .start ≤ row) × (BothLand sizes row comparison left right) × (row ≤ latestFrom sizes) × (n ≤ 4) ⌝ }
     ensures { λ r. ⌜ r ≡ joinFirst (λ k. testAt (now (plan .entry)) comparison (row + k * cycleRows (now (plan .entry)))) n later ⌝ }
 {
     let mut verdict = later;
@@ -72,14 +102,14 @@ fn join_first(
     while 0 < k {
         k -= 1;
         verdict = join(
-            test_at(plan, sizes, comparison, row + k * sizes.cycle),
+            test_on(plan, sizes, comparison, left, right, row, k),
             verdict,
         );
     }
     verdict
 }
 
-// The verdict on the passes from a position of the cycle on.
+// The verdict on the passes from a position of the cycle on. Where the two shifts land is found once, ahead of the passes.
 fn judge_cycle(plan: &[u8], sizes: Sizes, comparison: Comparison, row: usize) -> Verdict
     requires { ⌜ (Fitting (now plan) sizes) × (TermsFit sizes comparison) × (sizes .start ≤ row) × (row ≤ latestFrom sizes) ⌝ }
     ensures { λ r. ⌜ r ≡ judgeCycle (now (plan .entry)) comparison 4 row ⌝ }
@@ -87,14 +117,15 @@ fn judge_cycle(plan: &[u8], sizes: Sizes, comparison: Comparison, row: usize) ->
     let relation = comparison.relation;
     let x = comparison.left;
     let y = comparison.right;
+    let left = landing_of(sizes, row, code_in(x));
+    let right = landing_of(sizes, row, code_in(y));
     let n = early_passes(sizes, row, larger(reach_of(x), reach_of(y)));
-    let t = row + n * sizes.cycle;
     let later = decide(
         relation,
-        term_line(plan, sizes, x, t),
-        term_line(plan, sizes, y, t),
+        landed_line(plan, sizes, x, left, n),
+        landed_line(plan, sizes, y, right, n),
     );
-    join_first(plan, sizes, comparison, row, n, later)
+    join_first(plan, sizes, comparison, left, right, row, n, later)
 }
 
 // The verdict on a comparison, on a row. A caller with many rows makes the comparison once.

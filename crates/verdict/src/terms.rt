@@ -1,28 +1,27 @@
-// A term at a position: what is seen of it, its line on the passes from there on, and how far back it is read.
+// A term at a position and on the passes of a cycle row: what is seen of it, its line from a pass on, and how far back it is read.
 ghost use mathlib.Core.Path.{_≡_};
-ghost use Prim.Native.Nat.{_+_, _≤_, _<_};
-ghost use lib.IntN.{pos, subℕ};
+ghost use Prim.Native.Nat.{_+_, _*_, _≤_, _<_};
+ghost use lib.IntN.{subℕ};
 ghost use mathlib.Core.Bool.{true};
 ghost use Rattle.cltlb.specs.Truth.{valueAt};
 ghost use Rattle.cltlb.specs.Fits.{shiftFits, termFits};
 ghost use Rattle.fields.specs.inner.Biased.{patterns, unbiased};
-ghost use Rattle.plan.specs.inner.Sizes.{farthest, Fitting};
+ghost use Rattle.plan.specs.inner.Sizes.{allRows, farthest, Fitting};
 ghost use Rattle.plan.specs.Run.{runOf};
-ghost use Rattle.plan.specs.inner.Lifted.{lowered, seenOf};
-ghost use Rattle.verdict.specs.Rows.{channelLine, termLine};
+ghost use Rattle.plan.specs.inner.Lifted.{passes, lowered, seenOf};
 ghost use Rattle.verdict.specs.inner.Reach.{back, reach, latest};
 ghost use Rattle.verdict.specs.inner.Lifted.{lineOf};
+ghost use Rattle.verdict.specs.inner.Landed.{shiftIn, Lands, LandsAt, lineOn, landedLine};
 use crate::lines::LiftedLine;
 use cltlb::Term;
 use fields::BIAS;
 use fields::biased;
 use fields::pattern;
+use plan::landing::Landing;
 use plan::lookup::LAST_PASS;
 use plan::lookup::Seen;
 use plan::lookup::drift_at;
 use plan::lookup::number_at;
-use plan::positions::pass_of;
-use plan::positions::row_of;
 use plan::sizes::Sizes;
 use plan::view::seen_through;
 
@@ -30,7 +29,7 @@ use plan::view::seen_through;
 const LEAST_SHIFT: u64 = BIAS - 4;
 
 // A number of 32 bits, kept without a sign.
-fn lift(z: i32) -> u64
+pub fn lift(z: i32) -> u64
     ensures { λ r. ⌜ (unbiased r ≡ z) × (r < patterns) ⌝ }
 {
     biased(pattern(z))
@@ -44,7 +43,7 @@ fn constant(z: i32) -> u64
 }
 
 // The code of a shift, which is the shift + 4.
-fn code_of(shift: i32) -> usize
+pub fn code_of(shift: i32) -> usize
     requires { ⌜ shiftFits shift ≡ true ⌝ }
     ensures { λ r. ⌜ (subℕ r 4 ≡ shift) × (r ≤ 8) ⌝ }
 {
@@ -83,34 +82,88 @@ pub fn seen_term(plan: &[u8], sizes: Sizes, term: Term, t: usize) -> Seen
     }
 }
 
-// The line of a channel on the passes from position t on.
-fn channel_line(plan: &[u8], sizes: Sizes, channel: usize, t: usize) -> LiftedLine
-    requires { ⌜ (Fitting (now plan) sizes) × (channel < sizes .channels) × (t < farthest sizes) ⌝ }
-    ensures { λ r. ⌜ lineOf r ≡ channelLine (now (plan .entry)) channel (pos t) ⌝ }
+// The code of the shift by which a term is read; a constant, which is read nowhere, has that of no shift.
+pub fn code_in(term: Term) -> usize
+    requires { ⌜ shiftFits (shiftIn term) ≡ true ⌝ }
+    ensures { λ r. ⌜ (subℕ r 4 ≡ shiftIn term) × (r ≤ 8) ⌝ }
 {
-    let row = row_of(sizes, t);
-    let pass = pass_of(sizes, t);
+    match term {
+        Term::Constant(_) => 4,
+        Term::Reading { channel: _, shift } => code_of(shift),
+    }
+}
+
+// What is seen of a channel at the position `ahead` - 4, which is on pass k of a row whose shift lands so: before the cycle it is
+// looked up as it comes.
+fn seen_on_landing(
+    plan: &[u8],
+    sizes: Sizes,
+    channel: usize,
+    landing: Landing,
+    ahead: usize,
+    k: usize,
+) -> Seen
+    requires { ⌜ (Fitting (now plan) sizes) × (channel < sizes .channels) × (ahead ≤ farthest sizes) × (LandsAt sizes landing ahead k) ⌝ }
+    ensures { λ r. ⌜ seenOf r ≡ runOf (now (plan .entry)) channel (subℕ ahead 4) ⌝ }
+{
+    if ahead < sizes.start + 4 {
+        return seen_through(plan, sizes, channel, ahead);
+    }
+    Seen::Number(number_at(plan, sizes, channel, landing.row, k + landing.off - 4))
+}
+
+// What is seen of a term on pass k of a row from which its shift lands so.
+pub fn seen_on(
+    plan: &[u8],
+    sizes: Sizes,
+    term: Term,
+    landing: Landing,
+    row: usize,
+    k: usize,
+) -> Seen
+    requires { ⌜ (Fitting (now plan) sizes) × (termFits (sizes .channels) term ≡ true) × (sizes .start ≤ row) × (Lands sizes row term landing) × (row + k * sizes .cycle ≤ latest sizes) ⌝ }
+    ensures { λ r. ⌜ seenOf r ≡ valueAt (runOf (now (plan .entry))) term (row + k * sizes .cycle) ⌝ }
+{
+    match term {
+        Term::Constant(z) => Seen::Number(constant(z)),
+        Term::Reading { channel, shift } => seen_on_landing(
+            plan,
+            sizes,
+            channel,
+            landing,
+            row + k * sizes.cycle + code_of(shift),
+            k,
+        ),
+    }
+}
+
+// The line of a channel from a row and a pass on.
+fn channel_line(plan: &[u8], sizes: Sizes, channel: usize, row: usize, pass: usize) -> LiftedLine
+    requires { ⌜ (Fitting (now plan) sizes) × (channel < sizes .channels) × (row < allRows sizes) × (pass < passes) ⌝ }
+    ensures { λ r. ⌜ lineOf r ≡ lineOn (now (plan .entry)) channel row pass ⌝ }
+{
     LiftedLine {
         at: number_at(plan, sizes, channel, row, pass),
         step: drift_at(plan, sizes, channel, row),
     }
 }
 
-// The line of a term on the passes from position t on, where it is not read before the cycle.
-pub fn term_line(plan: &[u8], sizes: Sizes, term: Term, t: usize) -> LiftedLine
-    requires { ⌜ (Fitting (now plan) sizes) × (termFits (sizes .channels) term ≡ true) × (sizes .start + reach term ≤ t) × (t ≤ latest sizes) ⌝ }
-    ensures { λ r. ⌜ lineOf r ≡ termLine (now (plan .entry)) term t ⌝ }
+// The line of a term from pass k on, of a row from which its shift lands so.
+pub fn landed_line(plan: &[u8], sizes: Sizes, term: Term, landing: Landing, k: usize) -> LiftedLine
+    requires { ⌜ (Fitting (now plan) sizes) × (termFits (sizes .channels) term ≡ true) × (landing .row < allRows sizes) × (4 ≤ k + landing .off) × (k + landing .off < passes + 4) ⌝ }
+    ensures { λ r. ⌜ lineOf r ≡ landedLine (now (plan .entry)) term landing k ⌝ }
 {
     match term {
         Term::Constant(z) => LiftedLine {
             at: constant(z),
             step: BIAS,
         },
-        Term::Reading { channel, shift } => channel_line(
+        Term::Reading { channel, shift: _ } => channel_line(
             plan,
             sizes,
             channel,
-            t + code_of(shift) - 4,
+            landing.row,
+            k + landing.off - 4,
         ),
     }
 }

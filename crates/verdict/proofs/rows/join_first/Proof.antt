@@ -1,4 +1,4 @@
--- `verdict::rows::join_first` meets its contract. The invariant: the passes from `k` on are joined, and those before it are left. Each is looked at once. Assumes nothing.
+-- `verdict::rows::join_first` meets its contract. Assumes nothing.
 use Prim.Native.Nat.{_*_, _-_, _≤_}
 use native.Mathlib.Nat.{mul-le-mul-right}
 use native.Mathlib.Omega.{arith}
@@ -7,55 +7,55 @@ use Rattle.verdict.specs.Rows.{joinFirst}
 use Rattle.verdict.proofs.Values.{passTest, pass-joined, all-joined}
 use Rattle.verdict.proofs.rows.join_first.Statement.{statement}
 use Rattle.verdict.proofs.rows.join_first.Tie as tie
+use Rattle.verdict.proofs.rows.join_first.Reads as reads
+use Rattle.verdict.proofs.rows.join_first.Lts as lts
+use Rattle.verdict.proofs.early.join.Reads as join-reads
+use Rattle.verdict.proofs.rows.test_on.Reads as test-on-reads
 
 abbrev Inv-loop : tie.InvT-loop
-Inv-loop plan sizes comparison row n verdict₀ k₀ verdict k = (k ≤ 4) × (joinFirst (passTest plan comparison row) k₀ verdict₀ ≡ joinFirst (passTest plan comparison row) k verdict)
+Inv-loop plan sizes comparison left right row n verdict₀ k₀ verdict k = (k ≤ 4) × (joinFirst (passTest plan comparison row) k₀ verdict₀ ≡ joinFirst (passTest plan comparison row) k verdict)
 
 abbrev μ-loop : tie.MeasureT-loop
-μ-loop plan sizes comparison row n verdict₀ k₀ verdict k = k
+μ-loop plan sizes comparison left right row n verdict₀ k₀ verdict k = k
 
+-- src/rows.rt:102:5
 loop-holds : tie.Need-loop-holds Inv-loop μ-loop
 loop-holds c =
     let start = c .before in
-    (start .pre .3, refl)
+    (start .pre .5, refl)
 
+-- src/rows.rt:103:9
 sub-k : tie.Need-sub-k Inv-loop μ-loop
 sub-k c = omega arith
 
--- the passes are few
-few : (c : tie.After-struct-known Inv-loop μ-loop) →
-    let start = c .before .before .before .before in
-    (c .before .before .loop .k - 1) * start .args .sizes .cycle ≤ 4 * start .args .sizes .cycle
-few c = mul-le-mul-right (c .before .before .before .before .args .sizes .cycle) (omega arith)
+-- src/rows.rt:105:13
+test-on-requires : tie.Need-test-on-requires Inv-loop μ-loop
+test-on-requires c κs =
+    let start = c .before .before .before in
+    let loop = c .before .loop in
+    (start .pre .0, start .pre .1, start .pre .2, start .pre .3, let few : (loop .k - 1) * start .args .sizes .cycle ≤ 4 * start .args .sizes .cycle = mul-le-mul-right (start .args .sizes .cycle) (omega arith) in omega (arith, few))
 
-mul-test-at : tie.Need-mul-test-at Inv-loop μ-loop
-mul-test-at c = omega (arith, few c)
-
-add-test-at : tie.Need-add-test-at Inv-loop μ-loop
-add-test-at c = omega (arith, few c)
-
-test-at-requires : tie.Need-test-at-requires Inv-loop μ-loop
-test-at-requires c κs =
-    let start = c .before .before .before .before in
-    (start .pre .0, start .pre .1, omega (arith, few c))
-
+-- src/rows.rt:104:9
 join-requires : tie.Need-join-requires Inv-loop μ-loop
 join-requires c κs = tt
 
+-- src/rows.rt:102:5
 loop-less : tie.Need-loop-less Inv-loop μ-loop
 loop-less c = omega arith
 
+-- src/rows.rt:102:5
 loop-again : tie.Need-loop-again Inv-loop μ-loop
 loop-again c =
-    let start = c .before .before .before .before .before .before in
-    let loop = c .before .before .before .before .loop in (
-      omega arith,
-      pass-joined (start .pre .0) (start .args .comparison) (start .args .row) (loop .k) (omega arith) _ (loop .verdict) (c .join .result) (c .before .test-at .result)
-          (loop .inv .1) (c .before .test-at .ensures) (c .join .ensures),
-    )
+    let start = c .before .before .before .before .before in
+    let loop = c .before .before .before .loop in
+    let test-on = c .before .test-on in
+    (omega arith, pass-joined (start .pre .0) (start .args .comparison) (start .args .row) (loop .k) (omega arith) _ (loop .verdict) (c .join .result) (test-on .result) (loop .inv .1) (test-on .ensures) (c .join .ensures))
 
+-- src/rows.rt:87:1
 returns : tie.Need-returns Inv-loop μ-loop
-returns c = all-joined _ (c .before .loop .k) (omega arith) _ (c .before .loop .verdict) (c .before .loop .inv .1)
+returns c =
+    let loop = c .before .loop in
+    all-joined _ (loop .k) (omega arith) _ (loop .verdict) (loop .inv .1)
 
 pub join-first-spec : {M : Type 1} → statement M
 join-first-spec =
@@ -65,9 +65,7 @@ join-first-spec =
     μ-loop
     loop-holds
     sub-k
-    mul-test-at
-    add-test-at
-    test-at-requires
+    test-on-requires
     join-requires
     loop-less
     loop-again

@@ -1,0 +1,22 @@
+-- Rows on which nothing drifts. Assumes nothing.
+use Prim.Native.Nat.{ℕ, _+_, _*_, _≤_, _<_}
+use mathlib.Core.Path.{_≡_}
+use mathlib.Core.Bool.{Bool, not}
+use mathlib.Core.List.{List}
+use lib.Dec.{eqb}
+use lib.IntN.{pos}
+use Rattle.fields.specs.LittleEndian.{numberAt}
+use Rattle.plan.specs.Layout.{channels, driftOf}
+use Rattle.plan.specs.Refusals.{anyBelow}
+
+-- the number at an index of an array is not 0
+unfoldable pub other : List ℕ → ℕ → ℕ → Bool
+other array from k = not (eqb (numberAt 4 array (4 * (from + k))) 0)
+
+-- `count` numbers of an array, from an index on, are 0
+unfoldable pub allZero : List ℕ → ℕ → ℕ → Bool
+allZero array from count = not (anyBelow (other array from) count)
+
+-- no channel drifts on the rows from one up to another
+unfoldable pub Still : List ℕ → ℕ → ℕ → Type 0
+Still plan from to = (row channel : ℕ) → from ≤ row → row < to → channel < channels plan → driftOf plan row channel ≡ pos 0

@@ -1,0 +1,92 @@
+-- A term on the passes of a cycle row, looked at by where its shift lands, is what the run gives. Assumes nothing.
+use Prim.Native.Nat.{ℕ, suc, _+_, _*_, _-_, _≤_, _<_}
+use native.Mathlib.Omega.{arith}
+use mathlib.Core.Path.{_≡_, refl, sym, ap, ap₂, _∙_}
+use mathlib.Core.Bool.{true}
+use mathlib.Core.List.{List}
+use lib.IntN.{ℤ, pos, negsuc, subℕ}
+use Rattle.cltlb.specs.Run as cltlb
+use Rattle.cltlb.specs.Fits.{shiftFits, termFits}
+use Rattle.cltlb.specs.declared.Term.{Term}
+use Rattle.cltlb.specs.declared.Term.the-variants.{Constant, Reading}
+use Rattle.cltlb.proofs.Fits as fits
+use Rattle.fields.proofs.Differences.{sub-pos, sub-eq, pos-sub, negsuc-sub}
+use Rattle.plan.specs.Positions.{passOf}
+use Rattle.plan.specs.Run.{readingOn, readingAt, runOf}
+use Rattle.plan.specs.inner.Lifted.{passes, lowered, seenOf}
+use Rattle.plan.specs.inner.Sizes.{allRows, farthest, Fitting}
+use Rattle.plan.specs.declared.landing.Landing.{Landing}
+use Rattle.plan.specs.declared.lookup.Seen.the-variants.{Number}
+use Rattle.plan.specs.declared.sizes.Sizes.{Sizes}
+use Rattle.plan.proofs.Arrays.{value-at}
+use Rattle.plan.proofs.Fits.{reached}
+use Rattle.plan.proofs.Landings.{lands-on-row, lands-off}
+use Rattle.plan.proofs.Shifts.{shifted, in-run}
+use Rattle.verdict.specs.Lines.{Line}
+use Rattle.verdict.specs.Rows.{channelLine, termLine}
+use Rattle.verdict.specs.inner.Reach.{back, reach, latest}
+use Rattle.verdict.specs.inner.Landed.{shiftIn, Lands, LandsAt, lineOn, landedLine}
+
+-- ---- shifts of terms
+
+pub shift-fits : (v : ℕ) (x : Term) → termFits v x ≡ true → shiftFits (shiftIn x) ≡ true
+unfolding shiftFits
+shift-fits v (Constant z) e = refl
+shift-fits v (Reading channel shift) e = fits.reading-fits v channel shift e .1
+
+-- A term that does not reach before the cycle is read in the cycle.
+pub read-inside : (x : Term) (p t code : ℕ) → p + reach x ≤ t → subℕ code 4 ≡ shiftIn x → p + 4 ≤ t + code
+unfolding reach back
+read-inside (Constant z) p t code h g = let k = sub-eq code 4 0 0 .0 (g ∙ pos-sub 0) in omega arith
+read-inside (Reading channel (pos n)) p t code h g = let k = sub-eq code 4 n 0 .0 (g ∙ pos-sub n) in omega arith
+read-inside (Reading channel (negsuc n)) p t code h g = let k = sub-eq code 4 0 (suc n) .0 (g ∙ negsuc-sub n) in omega arith
+
+-- A shift has one code.
+pub one-code : (m n : ℕ) {s : ℤ} → subℕ m 4 ≡ s → subℕ n 4 ≡ s → m ≡ n
+one-code m n e f = let k = sub-eq m 4 n 4 .0 (e ∙ sym f) in omega arith
+
+-- ---- what is seen by a landing
+
+module _ {plan : List ℕ} {z : Sizes} (f : Fitting plan z) where
+  -- the landing on pass k, of a position that is not before the cycle
+  pub lands-at : (row : ℕ) → z .start ≤ row → (x : Term) (l : Landing) → (there : Lands z row x l) → (k : ℕ) → LandsAt z l (row + k * z .cycle + there .code) k
+  unfolding LandsAt
+  lands-at row h x l there k g = (
+    there .on-row ∙ sym (lands-on-row (z .start) (z .cycle) (f .a-cycle) row (there .code) h k g),
+    ap (λ (n : ℕ). k + n) (there .off-by) ∙ sym (lands-off (z .start) (z .cycle) (f .a-cycle) row (there .code) h k g),
+  )
+
+  -- in reach of the lookups
+  pub landing-reached : (l : Landing) (ahead k : ℕ) → LandsAt z l ahead k → z .start + 4 ≤ ahead → ahead ≤ farthest z
+      → (l .row < allRows z) × (4 ≤ k + l .off) × (k + l .off < passes + 4)
+  unfolding LandsAt
+  landing-reached l ahead k lands g h =
+      let there = lands g in
+      let within = reached f (ahead - 4) (omega arith) in
+      (omega (arith, there .0, within .0), omega (arith, there .1), omega (arith, there .1, within .1))
+
+  -- so are those of a term that does not reach before the cycle
+  pub line-reached : (row : ℕ) → z .start ≤ row → (x : Term) (l : Landing) → Lands z row x l → (k : ℕ) → z .start + reach x ≤ row + k * z .cycle → row + k * z .cycle ≤ latest z
+      → (l .row < allRows z) × (4 ≤ k + l .off) × (k + l .off < passes + 4)
+  line-reached row h x l there k g far =
+      landing-reached l (row + k * z .cycle + there .code) k (lands-at row h x l there k)
+      (read-inside x (z .start) (row + k * z .cycle) (there .code) g (there .is-code)) (omega (arith, there .small, f .a-cycle))
+
+  pub seen-landed : (channel : ℕ) (l : Landing) (ahead k a : ℕ) → LandsAt z l ahead k → z .start + 4 ≤ ahead
+      → lowered a ≡ readingOn plan channel (l .row) (k + l .off - 4) → seenOf (Number a) ≡ runOf plan channel (subℕ ahead 4)
+  unfolding LandsAt seenOf
+  seen-landed channel l ahead k a lands g e =
+      let there = lands g in
+      ap cltlb.number (e ∙ value-at f channel (ahead - 4) (there .0) (omega (arith, there .1))) ∙ in-run plan channel ahead (omega arith)
+
+  -- the line of a term, by its landing
+  pub landed-line-is : (row : ℕ) → z .start ≤ row → (x : Term) (l : Landing) → Lands z row x l → (k : ℕ) → z .start + reach x ≤ row + k * z .cycle
+      → (line : Line) → line ≡ landedLine plan x l k → line ≡ termLine plan x (row + k * z .cycle)
+  unfolding termLine channelLine readingAt LandsAt
+  landed-line-is row h (Constant c) l there k g line e = e
+  landed-line-is row h (Reading channel shift) l there k g line e =
+      let low = read-inside (Reading channel shift) (z .start) (row + k * z .cycle) (there .code) g (there .is-code) in
+      let lands = lands-at row h (Reading channel shift) l there k low in
+      let passed : k + l .off - 4 ≡ passOf (z .start) (z .cycle) (row + k * z .cycle + there .code - 4) = omega (arith, lands .1) in
+      rw (shifted (row + k * z .cycle) (there .code) shift (there .is-code) ∙ sub-pos (row + k * z .cycle + there .code) 4 (omega arith), f .p-is, f .c-is)
+      (e ∙ ap₂ (lineOn plan channel) (lands .0) passed)
