@@ -17,6 +17,7 @@ use Rattle.inputs.specs.inner.Read.{Ready}
 use Rattle.inputs.proofs.Ways.{both-ready}
 use Rattle.inputs.proofs.Parts.{few-there}
 use Rattle.table.specs.Layout.{marked, tableOutcome}
+use Rattle.table.proofs.Refused.{cleared-marks}
 use Rattle.marks.proofs.MarkNames.{cleared-sized}
 use Rattle.acceptance.specs.declared.Checked.the-variants as C
 use Rattle.acceptance.specs.Check.{markOf, partsOutcome, checkOutcome, answered, checkOf}
@@ -40,7 +41,9 @@ module _ (rule plan table : List ℕ) where
       f = sym d ∙ c
 
       pub prepared : Prepared rule plan table n z
-      prepared = record { ready = ready; sized = cleared-sized n (allRows z) table (few-there rule plan ready .0) (few-there rule plan ready .1) f }
+      prepared =
+          let sized = cleared-sized n (allRows z) table (few-there rule plan ready .0) (few-there rule plan ready .1) f in
+          record { ready = ready; sized = sized; marks = cleared-marks n (allRows z) table f sized }
 
       pub parts-refused : {o : Outcome} {r : Refusal} → o ≡ partsOutcome rule plan table → o ≡ Refused r → C.Refused r ≡ checkOf rule plan table
       unfolding checkOf answered checkOutcome _orElse_

@@ -1,15 +1,24 @@
 // The whole check: a rule sheet, a plan and a mark table, accepted with the rule's truth at position 0, or refused.
 ghost use mathlib.Core.Path.{_≡_};
+ghost use lib.ListN.{length};
+ghost use Rattle.plan.specs.Layout.{readings};
+ghost use Rattle.plan.specs.inner.Sizes.{allRows};
+ghost use Rattle.plan.specs.inner.Drifts.{Still};
+ghost use Rattle.lanes.specs.inner.Lanes.{Laid, Lanes};
 ghost use Rattle.inputs.specs.inner.Read.{Ready};
 ghost use Rattle.acceptance.specs.Check.{partsOutcome, checkOf};
 ghost use Rattle.acceptance.specs.Promise.{CheckPromise};
 ghost use Rattle.acceptance.specs.inner.Parts.{Prepared};
 use inputs::InputsRead;
+use lanes::layout::LANE_BYTES;
+use lanes::layout::lay_drifts;
+use lanes::layout::lay_readings;
 use marks::refusals::breaks_on;
 use marks::refusals::check_rest;
 use marks::refusals::surely_clear;
 use marks::stretches::choose;
 use plan::sizes::Sizes;
+use plan::sweeps::still;
 use refusal::Outcome;
 use refusal::Refusal;
 use rule::Taken;
@@ -22,9 +31,19 @@ pub enum Checked {
     Refused(Refusal),
 }
 
-// Refusals 9 to 11 of a table of `n` parts, the lowest part first, each with all its rows.
-fn check_parts(rule: &[u8], plan: &[u8], table: &[u8], n: usize, sizes: Sizes) -> Outcome
-    requires { ⌜ Prepared (now rule) (now plan) (now table) n sizes ⌝ }
+// Refusals 9 to 11 of a table of `n` parts, the lowest part first, each with all its rows. `values` and `drifts` are the plan's
+// lanes; where it is `still`, nothing drifts in the cycle.
+fn check_parts(
+    rule: &[u8],
+    plan: &[u8],
+    values: &[u8],
+    drifts: &[u8],
+    still: bool,
+    table: &[u8],
+    n: usize,
+    sizes: Sizes,
+) -> Outcome
+    requires { ⌜ (Prepared (now rule) (now plan) (now table) n sizes) × (Lanes (now plan) sizes (now values) (now drifts) still) ⌝ }
     ensures { λ r. ⌜ r ≡ partsOutcome (now (rule .entry)) (now (plan .entry)) (now (table .entry)) ⌝ }
 {
     let w = sizes.start + sizes.cycle;
@@ -37,7 +56,7 @@ fn check_parts(rule: &[u8], plan: &[u8], table: &[u8], n: usize, sizes: Sizes) -
             break 'parts;
         };
         let view = cltlb::view_of(part);
-        let sure = surely_clear(plan, table, n, sizes, i, view);
+        let sure = surely_clear(plan, values, drifts, still, table, n, sizes, i, view);
         let rows = choose(sure, 0, w);
         let mut row = 0;
         while row < rows {
@@ -57,6 +76,74 @@ fn check_parts(rule: &[u8], plan: &[u8], table: &[u8], n: usize, sizes: Sizes) -
     answer
 }
 
+// Refusals 9 to 11, where nothing drifts in the cycle; lanes of drifts are not looked at.
+fn check_still(
+    rule: &[u8],
+    plan: &[u8],
+    values: &[u8],
+    table: &[u8],
+    n: usize,
+    sizes: Sizes,
+) -> Outcome
+    requires { ⌜ (Prepared (now rule) (now plan) (now table) n sizes) × (Laid (readings (now plan)) (sizes .channels) (allRows sizes) (now values)) × (Still (now plan) (sizes .start) (allRows sizes)) ⌝ }
+    ensures { λ r. ⌜ r ≡ partsOutcome (now (rule .entry)) (now (plan .entry)) (now (table .entry)) ⌝ }
+{
+    check_parts(rule, plan, values, values, true, table, n, sizes)
+}
+
+// Refusals 9 to 11; the drifts are laid out in a lent buffer.
+fn check_drifting(
+    rule: &[u8],
+    plan: &[u8],
+    values: &[u8],
+    drifts: &mut [u8],
+    table: &[u8],
+    n: usize,
+    sizes: Sizes,
+) -> Outcome
+    requires { ⌜ (Prepared (now rule) (now plan) (now table) n sizes) × (Laid (readings (now plan)) (sizes .channels) (allRows sizes) (now values)) × (length (now drifts) ≡ 8192) ⌝ }
+    ensures { λ r. ⌜ r ≡ partsOutcome (now (rule .entry)) (now (plan .entry)) (now (table .entry)) ⌝ }
+{
+    lay_drifts(plan, sizes, drifts);
+    check_parts(rule, plan, values, drifts, false, table, n, sizes)
+}
+
+// Refusals 9 to 11, over lanes of the readings; those of the drifts are laid out only where something drifts in the cycle.
+fn check_over(
+    rule: &[u8],
+    plan: &[u8],
+    values: &[u8],
+    table: &[u8],
+    n: usize,
+    sizes: Sizes,
+) -> Outcome
+    requires { ⌜ (Prepared (now rule) (now plan) (now table) n sizes) × (Laid (readings (now plan)) (sizes .channels) (allRows sizes) (now values)) ⌝ }
+    ensures { λ r. ⌜ r ≡ partsOutcome (now (rule .entry)) (now (plan .entry)) (now (table .entry)) ⌝ }
+{
+    let w = sizes.start + sizes.cycle;
+    if still(plan, sizes, sizes.start, w) {
+        return check_still(rule, plan, values, table, n, sizes);
+    }
+    let mut drifts = [0u8; LANE_BYTES];
+    check_drifting(rule, plan, values, &mut drifts[0..], table, n, sizes)
+}
+
+// Refusals 9 to 11; the readings are laid out in a lent buffer first.
+fn check_laid(
+    rule: &[u8],
+    plan: &[u8],
+    values: &mut [u8],
+    table: &[u8],
+    n: usize,
+    sizes: Sizes,
+) -> Outcome
+    requires { ⌜ (Prepared (now rule) (now plan) (now table) n sizes) × (length (now values) ≡ 8192) ⌝ }
+    ensures { λ r. ⌜ r ≡ partsOutcome (now (rule .entry)) (now (plan .entry)) (now (table .entry)) ⌝ }
+{
+    lay_readings(plan, sizes, values);
+    check_over(rule, plan, values, table, n, sizes)
+}
+
 // The check, of a rule of `n` parts and a plan that clear 1 to 6.
 fn check_marks(rule: &[u8], plan: &[u8], marks: &[u8], n: usize, sizes: Sizes) -> Checked
     requires { ⌜ Ready (now rule) (now plan) n sizes ⌝ }
@@ -67,7 +154,8 @@ fn check_marks(rule: &[u8], plan: &[u8], marks: &[u8], n: usize, sizes: Sizes) -
     if let Outcome::Refused(refusal) = table {
         return Checked::Refused(refusal);
     }
-    let all = check_parts(rule, plan, marks, n, sizes);
+    let mut values = [0u8; LANE_BYTES];
+    let all = check_laid(rule, plan, &mut values[0..], marks, n, sizes);
     if let Outcome::Refused(refusal) = all {
         return Checked::Refused(refusal);
     }

@@ -3,7 +3,7 @@ use Prim.Native.Nat.{ℕ, _+_, _-_, _≤_, _<_}
 use native.Mathlib.Omega.{arith}
 use mathlib.Core.Path.{_≡_, refl, sym, ap, ap₂, _∙_, subst, subst₂}
 use mathlib.Core.List.{List}
-use mathlib.Core.Bool.{Bool, true, false, not, _&&_, Bool·beq, false≢true, and-eq-true-iff}
+use mathlib.Core.Bool.{Bool, true, false, not, Bool·beq, false≢true, and-eq-true-iff}
 use lib.Dec.{T}
 use Rattle.cltlb.specs.Truth.{AtomHolds}
 use Rattle.cltlb.specs.Fits.{atomFits, namesLower, viewFits}
@@ -36,9 +36,10 @@ use Rattle.verdict.proofs.Verdicts.{judged, atom-tells}
 use Rattle.table.specs.Layout.{marked}
 use Rattle.marks.specs.Equations.{operatorMark, expected}
 use Rattle.marks.specs.Parts.{isChanges, witnessInOrder, breaks, equationOutcome, steadyOutcome, closingOutcome, witnessOutcome}
-use Rattle.marks.specs.inner.Tables.{meetsOn, wraps}
+use Rattle.marks.specs.inner.Tables.{meetsOn, wraps, clearOf}
 use Rattle.table.specs.inner.Tables.{allBelow}
-use Rattle.marks.specs.inner.PartsRead.{verdictAgrees, Met, PartClear}
+use Rattle.marks.specs.inner.PartsRead.{Met, PartClear}
+use Rattle.lanes.specs.inner.Agreement.{verdictAgrees}
 use Rattle.table.proofs.AllBelow.{all-each}
 use Rattle.marks.proofs.Tests.{beq-T}
 use Rattle.marks.proofs.Unrolled.{equation-clear, closes-by-marks}
@@ -188,12 +189,12 @@ module _ (plan table : List ℕ) {z : Sizes} (fit : Fitting plan z) (i : ℕ) wh
           (at-sizes fit (λ p c. a ≡ allBelow (meetsOn p c (marked (p + c) table) o i) (p + c) → equationOutcome plan (marked (p + c) table) (view.Operator o) i ≡ Clear)
           (λ d. met-equation plan (marked (startRows plan + cycleRows plan) table) i o (sym d ∙ t)) d)
 
-      pub operator-clear : {a b : Bool} → a ≡ allBelow (meetsOn (z .start) (z .cycle) (marked (allRows z) table) o i) (allRows z)
-          → b ≡ wraps (z .start) (z .cycle) (marked (allRows z) table) o i → (a && b) ≡ true → PartClear plan table z p i
-      operator-clear {a} {b} d f t =
-          let q = and-eq-true-iff a b .0 t in
-          let met = met-rows d (q .0) in
-          record { equation = met; closing = sym (closes-clear met f (q .1)) }
+      pub operator-clear : {r : Bool} → r ≡ clearOf (z .start) (z .cycle) (marked (allRows z) table) o i → r ≡ true → PartClear plan table z p i
+      unfolding clearOf
+      operator-clear d t =
+          let q = and-eq-true-iff (allBelow (meetsOn (z .start) (z .cycle) (marked (allRows z) table) o i) (allRows z)) (wraps (z .start) (z .cycle) (marked (allRows z) table) o i) .0 (sym d ∙ t) in
+          let met = met-rows refl (q .0) in
+          record { equation = met; closing = sym (closes-clear met refl (q .1)) }
 
   -- the witness
   pub witness-told : (p : View) (w : ℕ) {b : Bool} → b ≡ witnessInOrder (z .start) (z .cycle) (marked (allRows z) table) p i w

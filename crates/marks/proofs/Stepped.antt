@@ -2,7 +2,7 @@
 use Prim.Native.Nat.{ℕ, suc, _-_, _<_}
 use native.Mathlib.Omega.{arith}
 use mathlib.Core.Path.{_≡_, sym, ap, ap₂, _∙_, subst}
-use mathlib.Core.Bool.{Bool, true, Bool·beq}
+use mathlib.Core.Bool.{Bool, true}
 use Rattle.cltlb.specs.Fits.{namesLower}
 use Rattle.cltlb.specs.declared.Atom.{Atom}
 use Rattle.cltlb.specs.declared.View.{View}
@@ -16,7 +16,6 @@ use Rattle.plan.specs.Positions.{after}
 use Rattle.marks.specs.declared.operators.Beside.{Beside}
 use Rattle.marks.specs.declared.operators.Beside.the-variants.{After, Before}
 use Rattle.marks.specs.Equations.{besideOf, watched, markOne, markTwo, stepOn, markBeside, operatorMark, expected}
-use Rattle.marks.specs.inner.Tables.{meetsBeside, meetsOn}
 
 -- ---- the parts that an operator names, and the one that it watches, are there
 
@@ -67,15 +66,7 @@ module _ (P C : ℕ) (mark : ℕ → ℕ → Bool) (o : Operator) (i row : ℕ) 
   operator-marked e d f h =
       h ∙ ap (stepOn mark o row) (f ∙ ap₂ (λ (s : Beside) (k : ℕ). markBeside P C s (mark k) row) e d)
 
-  pub row-met : {x y r : Bool} → x ≡ mark i row → y ≡ operatorMark P C mark o i row → r ≡ Bool·beq x y → r ≡ meetsOn P C mark o i row
-  unfolding meetsOn
-  row-met e d h = h ∙ ap₂ Bool·beq e d
-
--- ---- by the operator, and by the view
-
-pub stretch-of : (mark : ℕ → ℕ → Bool) (i row beside count : ℕ) {o q : Operator} {r : Bool} → o ≡ q → r ≡ meetsBeside mark q i row beside count
-    → r ≡ meetsBeside mark o i row beside count
-stretch-of mark i row beside count {o} {q} {r} e h = subst (λ (o : Operator). r ≡ meetsBeside mark o i row beside count) (sym e) h
+-- ---- by the view
 
 module _ (P C : ℕ) (mark : ℕ → ℕ → Bool) (atoms : Atom → ℕ → Bool) (i row : ℕ) {p : View} {r : Bool} where
   pub atom-expected : {x : Atom} → p ≡ view.Atom x → r ≡ atoms x row → r ≡ expected P C mark atoms p i row

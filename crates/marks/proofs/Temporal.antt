@@ -10,7 +10,8 @@ use lib.Dec.{T, T-not}
 use Rattle.cltlb.specs.Operators.{Next, Yesterday, WeakYesterday, Until, Release, Since, Trigger}
 use Rattle.cltlb.proofs.Steps.{until-here, until-more, until-step, release-step, since-first, since-step, trigger-first, trigger-step}
 use Rattle.cltlb.proofs.Duals.{release-dual}
-use Rattle.marks.proofs.Tests.{de-morgan, T-path, T-ext, not-iff, and-iff, or-iff, decided, denied}
+use Rattle.table.proofs.Flips.{de-morgan}
+use Rattle.marks.proofs.Tests.{T-path, T-ext, not-iff, and-iff, or-iff, decided, denied}
 use Rattle.cltlb.specs.Truth.{UnaryHolds}
 use Rattle.cltlb.specs.declared.Unary.{Unary}
 use Rattle.marks.specs.declared.operators.Beside.the-variants.{Before}

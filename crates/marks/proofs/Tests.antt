@@ -61,15 +61,3 @@ decided false f = inr (f .1)
 pub denied : {X : Type 0} (x : Bool) → T (not x) ↔ X → T x ↔ (¬ X)
 denied true f = (λ _. f .1, λ _. tt)
 denied false f = (absurd, λ g. g (f .0 tt))
-
--- R is U of the opposites.
-pub de-morgan : (x y z : Bool) → not (x && (y || z)) ≡ (not x || (not y && not z))
-de-morgan true true z = refl
-de-morgan true false z = refl
-de-morgan false y z = refl
-
-pub beq-not : (x y : Bool) → Bool·beq (not x) (not y) ≡ Bool·beq x y
-beq-not true true = refl
-beq-not true false = refl
-beq-not false true = refl
-beq-not false false = refl

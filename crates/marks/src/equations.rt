@@ -1,4 +1,4 @@
-// The equations of operators, on one row and on all rows, in a table of `n` parts. `i` is the part's number.
+// The equations of operators, on one row at a time, in a table of `n` parts. `i` is the part's number.
 ghost use mathlib.Core.Path.{_≡_};
 ghost use mathlib.Core.Bool.{true};
 ghost use Prim.Native.Nat.{_≤_, _<_};
@@ -8,15 +8,13 @@ ghost use Rattle.plan.specs.inner.Sizes.{allRows, Fitting};
 ghost use Rattle.verdict.specs.Rows.{atomAt};
 ghost use Rattle.table.specs.Layout.{marked};
 ghost use Rattle.marks.specs.Equations.{stepOn, markBeside, operatorMark, expected};
-ghost use Rattle.marks.specs.inner.Tables.{meetsOn, wraps};
-ghost use Rattle.table.specs.inner.Tables.{allBelow, Sized};
+ghost use Rattle.marks.specs.inner.Tables.{wraps};
+ghost use Rattle.table.specs.inner.Tables.{Sized};
 use crate::operators::Beside;
 use crate::operators::beside_of;
 use crate::operators::mark_one;
 use crate::operators::mark_two;
 use crate::operators::watched;
-use crate::stretches::Stretch;
-use crate::stretches::swept;
 use cltlb::Operator;
 use cltlb::View;
 use plan::sizes::Sizes;
@@ -103,47 +101,6 @@ pub fn expected_mark(
     match view {
         View::Atom(atom) => verdict::rows::atom_at(plan, sizes, atom, row),
         View::Operator(operator) => operator_mark(table, n, sizes, i, operator, row),
-    }
-}
-
-// An operator meets its equation on a row.
-fn meets_on(table: &[u8], n: usize, sizes: Sizes, i: usize, operator: Operator, row: usize) -> bool
-    requires { ⌜ (Sized (now table) n (allRows sizes)) × (1 ≤ sizes .cycle) × (i < n) × (namesLower n operator ≡ true) × (row < allRows sizes) ⌝ }
-    ensures { λ r. ⌜ r ≡ meetsOn (sizes .start) (sizes .cycle) (marked (allRows sizes) (now (table .entry))) operator i row ⌝ }
-{
-    let w = sizes.start + sizes.cycle;
-    agree(
-        mark_at(table, n, w, i, row),
-        operator_mark(table, n, sizes, i, operator, row),
-    )
-}
-
-// An operator meets its equation on every row: the first or the last row alone, the others in one sweep.
-pub fn meets_all(table: &[u8], n: usize, sizes: Sizes, i: usize, operator: Operator) -> bool
-    requires { ⌜ (Sized (now table) n (allRows sizes)) × (1 ≤ sizes .cycle) × (i < n) × (namesLower n operator ≡ true) ⌝ }
-    ensures { λ r. ⌜ r ≡ allBelow (meetsOn (sizes .start) (sizes .cycle) (marked (allRows sizes) (now (table .entry))) operator i) (allRows sizes) ⌝ }
-{
-    let w = sizes.start + sizes.cycle;
-    let side = beside_of(operator);
-    match side {
-        Beside::After => {
-            let others = Stretch {
-                part: i,
-                row: 0,
-                beside: 1,
-                count: w - 1,
-            };
-            swept(table, n, w, operator, others) & meets_on(table, n, sizes, i, operator, w - 1)
-        }
-        Beside::Before(_) => {
-            let others = Stretch {
-                part: i,
-                row: 1,
-                beside: 0,
-                count: w - 1,
-            };
-            meets_on(table, n, sizes, i, operator, 0) & swept(table, n, w, operator, others)
-        }
     }
 }
 

@@ -1,76 +1,60 @@
 // Refusals 9 to 11 of part `i` of a table of `n` parts.
 ghost use mathlib.Core.Path.{_≡_};
 ghost use mathlib.Core.Bool.{true};
-ghost use Prim.Native.Nat.{_<_};
+ghost use Prim.Native.Nat.{_*_, _<_};
 ghost use Rattle.cltlb.specs.Fits.{atomFits};
 ghost use Rattle.refusal.specs.First.{_orElse_};
 ghost use Rattle.plan.specs.inner.Sizes.{allRows, Fitting};
-ghost use Rattle.verdict.specs.Rows.{judgeRow};
-ghost use Rattle.verdict.specs.inner.Reach.{TermsFit};
 ghost use Rattle.table.specs.Layout.{marked, witnessOf};
 ghost use Rattle.marks.specs.Parts.{isChanges, breaks, closingOutcome, witnessOutcome, steadyOutcome};
-ghost use Rattle.table.specs.inner.Tables.{allBelow, Sized};
-ghost use Rattle.marks.specs.inner.PartsRead.{verdictAgrees, Readable, Met, PartClear};
+ghost use Rattle.table.specs.inner.Tables.{MarkBytes};
+ghost use Rattle.marks.specs.inner.PartsRead.{Readable, Met, PartClear};
+ghost use Rattle.lanes.specs.inner.Lanes.{Lanes};
 use crate::equations::expected_mark;
-use crate::equations::meets_all;
 use crate::equations::wraps_round;
+use crate::stretches::operator_clear;
 use crate::witness::witness_in_order;
 use cltlb::Atom;
 use cltlb::View;
+use lanes::rows::verdicts_agree;
 use plan::sizes::Sizes;
 use refusal::Outcome;
 use refusal::Refusal;
 use table::bytes::mark_at;
 use table::sweeps::agree;
-use verdict::Comparison;
 use verdict::Verdict;
 use verdict::rows::comparison_of;
-use verdict::rows::judge_comparison;
 use verdict::rows::judge_row;
 
-// A verdict that says on every pass what the mark says.
-fn verdict_agrees(verdict: Verdict, mark: bool) -> bool
-    ensures { λ r. ⌜ r ≡ verdictAgrees verdict mark ⌝ }
-{
-    match verdict {
-        Verdict::AlwaysTrue => mark,
-        Verdict::AlwaysFalse => !mark,
-        Verdict::Changes => false,
-    }
-}
-
-// A comparison's verdict agrees with its mark on every row.
-fn verdicts_agree(
+// All rows at once, of a table whose bytes are marks, over the plan's lanes: where this is true, part `i` meets its equation on every
+// row and closes.
+pub fn surely_clear(
     plan: &[u8],
+    values: &[u8],
+    drifts: &[u8],
+    still: bool,
     table: &[u8],
     n: usize,
     sizes: Sizes,
     i: usize,
-    comparison: Comparison,
+    view: View,
 ) -> bool
-    requires { ⌜ (Fitting (now plan) sizes) × (Sized (now table) n (allRows sizes)) × (i < n) × (TermsFit sizes comparison) ⌝ }
-    ensures { λ r. ⌜ r ≡ allBelow (λ row. verdictAgrees (judgeRow (now (plan .entry)) comparison row) (marked (allRows sizes) (now (table .entry)) i row)) (allRows sizes) ⌝ }
-{
-    let w = sizes.start + sizes.cycle;
-    let mut all = true;
-    let mut row = 0;
-    while row < w {
-        let verdict = judge_comparison(plan, sizes, comparison, row);
-        all = all & verdict_agrees(verdict, mark_at(table, n, w, i, row));
-        row += 1;
-    }
-    all
-}
-
-// All rows at once: where this is true, part `i` meets its equation on every row and closes.
-pub fn surely_clear(plan: &[u8], table: &[u8], n: usize, sizes: Sizes, i: usize, view: View) -> bool
-    requires { ⌜ Readable (now plan) (now table) n sizes i view ⌝ }
+    requires { ⌜ (Readable (now plan) (now table) n sizes i view) × (MarkBytes (now table) 4 (n * allRows sizes)) × (Lanes (now plan) sizes (now values) (now drifts) still) ⌝ }
     ensures { λ r. ⌜ (r ≡ true → PartClear (now (plan .entry)) (now (table .entry)) sizes view i) ⌝ }
 {
     match view {
-        View::Atom(atom) => verdicts_agree(plan, table, n, sizes, i, comparison_of(atom)),
-        View::Operator(operator) => meets_all(table, n, sizes, i, operator)
-            & wraps_round(table, n, sizes, i, operator),
+        View::Atom(atom) => verdicts_agree(
+            plan,
+            values,
+            drifts,
+            still,
+            table,
+            n,
+            sizes,
+            i,
+            comparison_of(atom),
+        ),
+        View::Operator(operator) => operator_clear(table, n, sizes, i, operator),
     }
 }
 

@@ -1,25 +1,26 @@
-// The equations of operators on many rows at once, in a table of `n` parts on `w` rows.
+// The equations of operators on all rows of a table of `n` parts, many rows at once. The operator is opened once; below that
+// only numbers are handed on: `p` start rows, `c` cycle rows, and `m`, `a` and `b`, the places of the marks on row 0 of the part
+// and of the parts that it names. Marks on other rows lie as many places on.
 ghost use mathlib.Core.Path.{_≡_};
-ghost use mathlib.Core.Bool.{true, cond};
+ghost use mathlib.Core.Bool.{true, false, cond};
 ghost use Prim.Native.Nat.{_+_, _*_, _≤_, _<_};
+ghost use lib.ListN.{length};
 ghost use Rattle.cltlb.specs.Fits.{namesLower};
 ghost use Rattle.cltlb.specs.declared.Operator.the-variants.{One, Two};
+ghost use Rattle.plan.specs.inner.Sizes.{allRows};
 ghost use Rattle.table.specs.Layout.{marked};
-ghost use Rattle.marks.specs.inner.Tables.{isNot, flips, watchesItself, meetsBeside, InTable};
-ghost use Rattle.table.specs.inner.Tables.{Sized};
+ghost use Rattle.marks.specs.inner.Tables.{copyTest, stepTest, aheadOf, behindOf, clearOf, MarkTable};
+ghost use Rattle.table.specs.inner.Tables.{copyOf, markIn, mostBytes, MarkBytes};
 use cltlb::Binary;
 use cltlb::Operator;
 use cltlb::Unary;
+use plan::sizes::Sizes;
+use table::sweeps::agree;
+use table::sweeps::copied;
 use table::sweeps::copies;
+use table::sweeps::opposites;
+use table::sweeps::stepped;
 use table::sweeps::steps;
-
-// `count` rows of a part, from `row` on, and the rows beside them, from `beside` on.
-pub struct Stretch {
-    pub part: usize,
-    pub row: usize,
-    pub beside: usize,
-    pub count: usize,
-}
 
 // Where the mark of a part on a row lies.
 pub fn place(w: usize, part: usize, row: usize) -> usize
@@ -36,93 +37,115 @@ pub fn choose(first: bool, x: usize, y: usize) -> usize
     if first { x } else { y }
 }
 
-fn is_not(operator: Unary) -> bool
-    ensures { λ r. ⌜ r ≡ isNot operator ⌝ }
+// Each mark is a's on the row after.
+fn copies_ahead(table: &[u8], p: usize, c: usize, m: usize, a: usize) -> bool
+    requires { ⌜ (1 ≤ c) × (MarkBytes (now table) m (p + c)) × (MarkBytes (now table) a (p + c)) × (length (now table) ≤ mostBytes) ⌝ }
+    ensures { λ r. ⌜ r ≡ aheadOf p c (copyTest (now (table .entry)) m a) ⌝ }
 {
-    match operator {
-        Unary::Not => true,
-        Unary::Next => false,
-        Unary::Yesterday => false,
-        Unary::WeakYesterday => false,
-    }
+    let last = p + c - 1;
+    copies(table, m, a + 1, last) & copied(table, m + last, a + p)
 }
 
-// And, R and T are or, U and S of the opposites.
-fn flips_of(operator: Binary) -> bool
-    ensures { λ r. ⌜ r ≡ flips operator ⌝ }
+// Each mark is a's on the row before, that on row 0 is `first`, and row P is so after row W - 1 too.
+fn copies_behind(table: &[u8], p: usize, c: usize, m: usize, a: usize, first: bool) -> bool
+    requires { ⌜ (1 ≤ c) × (MarkBytes (now table) m (p + c)) × (MarkBytes (now table) a (p + c)) × (length (now table) ≤ mostBytes) ⌝ }
+    ensures { λ r. ⌜ r ≡ behindOf p c (copyOf false (markIn (now (table .entry)) m) first) (copyTest (now (table .entry)) m a) ⌝ }
 {
-    match operator {
-        Binary::And => true,
-        Binary::Or => false,
-        Binary::Until => false,
-        Binary::Release => true,
-        Binary::Since => false,
-        Binary::Trigger => true,
-    }
+    let last = p + c - 1;
+    agree(table[m] == 1, first) & copies(table, m + 1, a, last) & copied(table, m + p, a + last)
 }
 
-// U, R, S and T look at their own mark beside.
-fn watches_itself(operator: Binary) -> bool
-    ensures { λ r. ⌜ r ≡ watchesItself operator ⌝ }
-{
-    match operator {
-        Binary::And => false,
-        Binary::Or => false,
-        Binary::Until => true,
-        Binary::Release => true,
-        Binary::Since => true,
-        Binary::Trigger => true,
-    }
-}
-
-// An operator over part `a` meets its equation on the rows of a stretch: its marks are those of `a`, or their opposites.
-fn one_swept(table: &[u8], n: usize, w: usize, operator: Unary, a: usize, stretch: Stretch) -> bool
-    requires { ⌜ (Sized (now table) n w) × (InTable n w stretch) × (a < n) ⌝ }
-    ensures { λ r. ⌜ r ≡ meetsBeside (marked w (now (table .entry))) (One operator a) (stretch .part) (stretch .row) (stretch .beside) (stretch .count) ⌝ }
-{
-    let opposite = is_not(operator);
-    let own = place(w, stretch.part, stretch.row);
-    let other = place(w, a, choose(opposite, stretch.row, stretch.beside));
-    copies(table, own, other, stretch.count, opposite)
-}
-
-// An operator over parts `a` and `b` meets its equation on the rows of a stretch: each mark is b, or a and the mark beside, or is
-// so of the opposites; or is `a`, which takes the place of the mark beside where none is looked at.
-fn two_swept(
+// Each mark is b, or a and the mark on the row after; or it is so of the opposites.
+fn steps_ahead(
     table: &[u8],
-    n: usize,
-    w: usize,
-    operator: Binary,
+    p: usize,
+    c: usize,
+    m: usize,
     a: usize,
     b: usize,
-    stretch: Stretch,
+    opposite: bool,
 ) -> bool
-    requires { ⌜ (Sized (now table) n w) × (InTable n w stretch) × (a < n) × (b < n) ⌝ }
-    ensures { λ r. ⌜ r ≡ meetsBeside (marked w (now (table .entry))) (Two operator a b) (stretch .part) (stretch .row) (stretch .beside) (stretch .count) ⌝ }
+    requires { ⌜ (1 ≤ c) × (MarkBytes (now table) m (p + c)) × (MarkBytes (now table) a (p + c)) × (MarkBytes (now table) b (p + c)) × (length (now table) ≤ mostBytes) ⌝ }
+    ensures { λ r. ⌜ r ≡ aheadOf p c (stepTest opposite (now (table .entry)) m a b) ⌝ }
 {
-    let own = place(w, stretch.part, stretch.row);
-    let left = place(w, a, stretch.row);
-    let right = place(w, b, stretch.row);
-    let beside = place(w, stretch.part, stretch.beside);
-    let next = choose(watches_itself(operator), beside, left);
-    steps(
-        table,
-        own,
-        left,
-        right,
-        next,
-        stretch.count,
-        flips_of(operator),
-    )
+    let last = p + c - 1;
+    steps(table, m, a, b, m + 1, last, opposite)
+        & stepped(table, m + last, a + last, b + last, m + p, opposite)
 }
 
-// An operator meets its equation on the rows of a stretch.
-pub fn swept(table: &[u8], n: usize, w: usize, operator: Operator, stretch: Stretch) -> bool
-    requires { ⌜ (Sized (now table) n w) × (InTable n w stretch) × (namesLower n operator ≡ true) ⌝ }
-    ensures { λ r. ⌜ r ≡ meetsBeside (marked w (now (table .entry))) operator (stretch .part) (stretch .row) (stretch .beside) (stretch .count) ⌝ }
+// Each mark is b, or a and the mark on the row before, that on row 0 is b, and row P is so after row W - 1 too; or it is so of
+// the opposites.
+fn steps_behind(
+    table: &[u8],
+    p: usize,
+    c: usize,
+    m: usize,
+    a: usize,
+    b: usize,
+    opposite: bool,
+) -> bool
+    requires { ⌜ (1 ≤ c) × (MarkBytes (now table) m (p + c)) × (MarkBytes (now table) a (p + c)) × (MarkBytes (now table) b (p + c)) × (length (now table) ≤ mostBytes) ⌝ }
+    ensures { λ r. ⌜ r ≡ behindOf p c (copyOf false (markIn (now (table .entry)) m) (markIn (now (table .entry)) b)) (stepTest opposite (now (table .entry)) m a b) ⌝ }
+{
+    let last = p + c - 1;
+    copied(table, m, b)
+        & steps(table, m + 1, a + 1, b + 1, m, last, opposite)
+        & stepped(table, m + p, a + p, b + p, m + last, opposite)
+}
+
+// Part `i`, which is an operator over part `a`, meets its equation on every row and closes.
+fn one_clear(table: &[u8], n: usize, sizes: Sizes, operator: Unary, i: usize, a: usize) -> bool
+    requires { ⌜ (MarkTable (now table) n sizes) × (i < n) × (a < n) ⌝ }
+    ensures { λ r. ⌜ r ≡ clearOf (sizes .start) (sizes .cycle) (marked (allRows sizes) (now (table .entry))) (One operator a) i ⌝ }
+{
+    let p = sizes.start;
+    let c = sizes.cycle;
+    let own = place(p + c, i, 0);
+    let other = place(p + c, a, 0);
+    match operator {
+        Unary::Not => opposites(table, own, other, p + c),
+        Unary::Next => copies_ahead(table, p, c, own, other),
+        Unary::Yesterday => copies_behind(table, p, c, own, other, false),
+        Unary::WeakYesterday => copies_behind(table, p, c, own, other, true),
+    }
+}
+
+// Part `i`, which is an operator over parts `a` and `b`, meets its equation on every row and closes. Where it looks at no row
+// beside, `a` takes the place of the mark there.
+fn two_clear(
+    table: &[u8],
+    n: usize,
+    sizes: Sizes,
+    operator: Binary,
+    i: usize,
+    a: usize,
+    b: usize,
+) -> bool
+    requires { ⌜ (MarkTable (now table) n sizes) × (i < n) × (a < n) × (b < n) ⌝ }
+    ensures { λ r. ⌜ r ≡ clearOf (sizes .start) (sizes .cycle) (marked (allRows sizes) (now (table .entry))) (Two operator a b) i ⌝ }
+{
+    let p = sizes.start;
+    let c = sizes.cycle;
+    let own = place(p + c, i, 0);
+    let left = place(p + c, a, 0);
+    let right = place(p + c, b, 0);
+    match operator {
+        Binary::And => steps(table, own, left, right, left, p + c, true),
+        Binary::Or => steps(table, own, left, right, left, p + c, false),
+        Binary::Until => steps_ahead(table, p, c, own, left, right, false),
+        Binary::Release => steps_ahead(table, p, c, own, left, right, true),
+        Binary::Since => steps_behind(table, p, c, own, left, right, false),
+        Binary::Trigger => steps_behind(table, p, c, own, left, right, true),
+    }
+}
+
+// Part `i`, which is an operator, meets its equation on every row and closes.
+pub fn operator_clear(table: &[u8], n: usize, sizes: Sizes, i: usize, operator: Operator) -> bool
+    requires { ⌜ (MarkTable (now table) n sizes) × (i < n) × (namesLower n operator ≡ true) ⌝ }
+    ensures { λ r. ⌜ r ≡ clearOf (sizes .start) (sizes .cycle) (marked (allRows sizes) (now (table .entry))) operator i ⌝ }
 {
     match operator {
-        Operator::One(sort, a) => one_swept(table, n, w, sort, a, stretch),
-        Operator::Two(sort, a, b) => two_swept(table, n, w, sort, a, b, stretch),
+        Operator::One(sort, a) => one_clear(table, n, sizes, sort, i, a),
+        Operator::Two(sort, a, b) => two_clear(table, n, sizes, sort, i, a, b),
     }
 }

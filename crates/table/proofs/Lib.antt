@@ -2,6 +2,7 @@ pub mod AllBelow
 pub mod Places
 pub mod Refused
 pub mod Flips
+pub mod ByteTests
 pub mod TableBytes
 pub mod Stores
 pub mod Carries

@@ -1,18 +1,22 @@
 -- The outcome of a table, case by case. Assumes nothing.
-use Prim.Native.Nat.{ℕ, _+_, _*_, _≤_, _<_}
-use mathlib.Core.Path.{_≡_, sym}
+use Prim.Native.Nat.{ℕ, _+_, _*_, _/_, _%_, _≤_, _<_}
+use native.Mathlib.Nat.{mod-lt, div-lt-iff-lt-mul, div-add-mod'}
+use native.Mathlib.Decide.{decLt}
+use native.Mathlib.Omega.{arith}
+use mathlib.Core.Path.{_≡_, sym, ap, subst}
+use mathlib.Core.Logic.{by-cases}
 use mathlib.Core.Bool.{true, not}
 use mathlib.Core.List.{List}
 use lib.Dec.{ltb}
 use lib.ListN.{length, getD}
-use borrow.Author.Tests.{not-true, le-leb, lt-leb, eq-eqb, ne-eqb}
+use borrow.Author.Tests.{ltb-false, not-true, le-leb, lt-leb, eq-eqb, ne-eqb}
 use Rattle.fields.specs.LittleEndian.{numberAt}
 use Rattle.refusal.specs.First.{_orElse_, unless, inTurn}
 use Rattle.refusal.specs.declared.Outcome.the-variants.{Clear, Refused}
 use Rattle.refusal.specs.declared.Refusal.the-variants.{MarkSizes, MarkByte}
-use Rattle.refusal.proofs.First.{atLowest-clear, inTurn-clear}
+use Rattle.refusal.proofs.First.{orElse-clear, atLowest-clear, inTurn-clear}
 use Rattle.table.specs.Layout.{sizesFit, markByte, aboveOne, bytesOutcome, tableOutcome}
-use Rattle.table.specs.inner.Tables.{allBelow}
+use Rattle.table.specs.inner.Tables.{allBelow, Sized, MarkBytes}
 use Rattle.table.proofs.AllBelow.{all-each}
 use Rattle.table.proofs.Places.{cell}
 
@@ -47,3 +51,21 @@ module _ (n w : ℕ) (table : List ℕ) where
       sym (inTurn-clear (bytesOutcome w table) n .1 (λ part l.
       atLowest-clear (aboveOne w table part) w (MarkByte part) .1 (λ row q.
       not-true _ (all-each (λ k. not (ltb 1 (getD table (4 + k) 0))) (n * w) h (part * w + row) (cell n w part row l q)))))
+
+  -- A table that passes refusal 8 has marks alone.
+  pub cleared-marks : tableOutcome n w table ≡ Clear → Sized table n w → MarkBytes table 4 (n * w)
+  unfolding tableOutcome bytesOutcome aboveOne markByte
+  cleared-marks e sized = record { there = let whole = sized .whole in omega arith; low = λ k l. by-cases (decLt 0 w) (here k l) (λ s. absurd (empty k l s)) }
+    where
+      each : (part row : ℕ) → part < n → row < w → getD table (4 + (part * w + row)) 0 ≤ 1
+      each part row h l =
+          ltb-false 1 _ (atLowest-clear (aboveOne w table part) w (MarkByte part) .0
+          (inTurn-clear (bytesOutcome w table) n .0 (orElse-clear (unless (sizesFit n w table) MarkSizes) (inTurn (bytesOutcome w table) n) .0 e .1) part h) row l)
+
+      here : (k : ℕ) → k < n * w → 0 < w → getD table (4 + k) 0 ≤ 1
+      here k l some =
+          subst (λ (j : ℕ). getD table (4 + j) 0 ≤ 1) (div-add-mod' k w)
+          (each (k / w) (k % w) (div-lt-iff-lt-mul {k = w} {x = k} {y = n} some .1 l) (mod-lt k some))
+
+      empty : (k : ℕ) → k < n * w → (0 < w → ⊥) → ⊥
+      empty k l s = let none : w ≡ 0 = omega arith in let same : n * w ≡ n * 0 = ap (λ (x : ℕ). n * x) none in omega arith

@@ -1,11 +1,12 @@
 // Sweeps over the bytes of a mark table. Each goes through all its places and leaves none early, so that the compiler can
-// take many at once; what it finds is that nothing is amiss. No table is longer than 4 + 64 × 256 + 2 × 64 bytes.
+// take many at once; what it finds is that nothing is amiss. No table is longer than 4 + 64 × 256 + 2 × 64 bytes. Where every
+// byte is known to be a mark, 0 or 1, marks are compared as bytes, without reading each one.
 ghost use mathlib.Core.Path.{_≡_};
-ghost use mathlib.Core.Bool.{Bool·beq, not, _&&_, _||_};
+ghost use mathlib.Core.Bool.{true, false, cond, Bool·beq, not, _&&_, _||_};
 ghost use Prim.Native.Nat.{_+_, _≤_};
 ghost use lib.Dec.{eqb, ltb};
 ghost use lib.ListN.{length, getD};
-ghost use Rattle.table.specs.inner.Tables.{allBelow, flipped, copiesOf, stepsOf, markIn, mostBytes};
+ghost use Rattle.table.specs.inner.Tables.{allBelow, flipped, copyOf, copiesOf, stepOf, stepsOf, markIn, mostBytes, MarkBytes};
 
 // Every one of `count` bytes from `at` on is a mark, 0 or 1.
 pub fn all_marks(table: &[u8], at: usize, count: usize) -> bool
@@ -42,15 +43,107 @@ pub fn step(a: bool, b: bool, next: bool) -> bool
     b | (a & next)
 }
 
-// The `count` marks from `m` on are those from `a` on, or their opposites.
-pub fn copies(table: &[u8], m: usize, a: usize, count: usize, opposite: bool) -> bool
-    requires { ⌜ (m + count ≤ length (now table)) × (a + count ≤ length (now table)) × (length (now table) ≤ mostBytes) ⌝ }
-    ensures { λ r. ⌜ r ≡ copiesOf opposite (λ k. markIn (now (table .entry)) (m + k)) (λ k. markIn (now (table .entry)) (a + k)) count ⌝ }
+// The larger of two bytes: of marks, or.
+fn higher(x: u8, y: u8) -> u8
+    ensures { λ r. ⌜ r ≡ cond (ltb x y) y x ⌝ }
+{
+    if x < y { y } else { x }
+}
+
+// The smaller of two bytes: of marks, and.
+fn lower(x: u8, y: u8) -> u8
+    ensures { λ r. ⌜ r ≡ cond (ltb x y) x y ⌝ }
+{
+    if x < y { x } else { y }
+}
+
+// A mark is b, or a and next.
+fn up(m: u8, a: u8, b: u8, next: u8) -> bool
+    requires { ⌜ (m ≤ 1) × (a ≤ 1) × (b ≤ 1) × (next ≤ 1) ⌝ }
+    ensures { λ r. ⌜ r ≡ stepOf false (eqb m 1) (eqb a 1) (eqb b 1) (eqb next 1) ⌝ }
+{
+    m == higher(b, lower(a, next))
+}
+
+// A mark is b, and (a or next): b, or a and next, of the opposites of all four.
+fn down(m: u8, a: u8, b: u8, next: u8) -> bool
+    requires { ⌜ (m ≤ 1) × (a ≤ 1) × (b ≤ 1) × (next ≤ 1) ⌝ }
+    ensures { λ r. ⌜ r ≡ stepOf true (eqb m 1) (eqb a 1) (eqb b 1) (eqb next 1) ⌝ }
+{
+    m == lower(b, higher(a, next))
+}
+
+// The mark at `m` is the one at `a`.
+pub fn copied(table: &[u8], m: usize, a: usize) -> bool
+    requires { ⌜ (MarkBytes (now table) m 1) × (MarkBytes (now table) a 1) ⌝ }
+    ensures { λ r. ⌜ r ≡ copyOf false (markIn (now (table .entry)) m) (markIn (now (table .entry)) a) ⌝ }
+{
+    table[m] == table[a]
+}
+
+// The `count` marks from `m` on are those from `a` on.
+pub fn copies(table: &[u8], m: usize, a: usize, count: usize) -> bool
+    requires { ⌜ (MarkBytes (now table) m count) × (MarkBytes (now table) a count) × (length (now table) ≤ mostBytes) ⌝ }
+    ensures { λ r. ⌜ r ≡ copiesOf false (λ k. markIn (now (table .entry)) (m + k)) (λ k. markIn (now (table .entry)) (a + k)) count ⌝ }
 {
     let mut all = true;
     let mut k = 0;
     while k < count {
-        all = all & agree(read(table[m + k], false), read(table[a + k], opposite));
+        all = all & (table[m + k] == table[a + k]);
+        k += 1;
+    }
+    all
+}
+
+// The `count` marks from `m` on are the opposites of those from `a` on.
+pub fn opposites(table: &[u8], m: usize, a: usize, count: usize) -> bool
+    requires { ⌜ (MarkBytes (now table) m count) × (MarkBytes (now table) a count) × (length (now table) ≤ mostBytes) ⌝ }
+    ensures { λ r. ⌜ r ≡ copiesOf true (λ k. markIn (now (table .entry)) (m + k)) (λ k. markIn (now (table .entry)) (a + k)) count ⌝ }
+{
+    let mut all = true;
+    let mut k = 0;
+    while k < count {
+        all = all & (table[m + k] != table[a + k]);
+        k += 1;
+    }
+    all
+}
+
+// The mark at `m` is b, or a and next, which are the marks at `b`, `a` and `next`; or it is so of the opposites of all four.
+pub fn stepped(table: &[u8], m: usize, a: usize, b: usize, next: usize, opposite: bool) -> bool
+    requires { ⌜ (MarkBytes (now table) m 1) × (MarkBytes (now table) a 1) × (MarkBytes (now table) b 1) × (MarkBytes (now table) next 1) ⌝ }
+    ensures { λ r. ⌜ r ≡ stepOf opposite (markIn (now (table .entry)) m) (markIn (now (table .entry)) a) (markIn (now (table .entry)) b) (markIn (now (table .entry)) next) ⌝ }
+{
+    if opposite {
+        down(table[m], table[a], table[b], table[next])
+    } else {
+        up(table[m], table[a], table[b], table[next])
+    }
+}
+
+// Each of the `count` marks from `m` on is b, or a and next.
+fn steps_up(table: &[u8], m: usize, a: usize, b: usize, next: usize, count: usize) -> bool
+    requires { ⌜ (MarkBytes (now table) m count) × (MarkBytes (now table) a count) × (MarkBytes (now table) b count) × (MarkBytes (now table) next count) × (length (now table) ≤ mostBytes) ⌝ }
+    ensures { λ r. ⌜ r ≡ stepsOf false (λ k. markIn (now (table .entry)) (m + k)) (λ k. markIn (now (table .entry)) (a + k)) (λ k. markIn (now (table .entry)) (b + k)) (λ k. markIn (now (table .entry)) (next + k)) count ⌝ }
+{
+    let mut all = true;
+    let mut k = 0;
+    while k < count {
+        all = all & up(table[m + k], table[a + k], table[b + k], table[next + k]);
+        k += 1;
+    }
+    all
+}
+
+// Each of the `count` marks from `m` on is b, and (a or next).
+fn steps_down(table: &[u8], m: usize, a: usize, b: usize, next: usize, count: usize) -> bool
+    requires { ⌜ (MarkBytes (now table) m count) × (MarkBytes (now table) a count) × (MarkBytes (now table) b count) × (MarkBytes (now table) next count) × (length (now table) ≤ mostBytes) ⌝ }
+    ensures { λ r. ⌜ r ≡ stepsOf true (λ k. markIn (now (table .entry)) (m + k)) (λ k. markIn (now (table .entry)) (a + k)) (λ k. markIn (now (table .entry)) (b + k)) (λ k. markIn (now (table .entry)) (next + k)) count ⌝ }
+{
+    let mut all = true;
+    let mut k = 0;
+    while k < count {
+        all = all & down(table[m + k], table[a + k], table[b + k], table[next + k]);
         k += 1;
     }
     all
@@ -67,22 +160,12 @@ pub fn steps(
     count: usize,
     opposite: bool,
 ) -> bool
-    requires { ⌜ (m + count ≤ length (now table)) × (a + count ≤ length (now table)) × (b + count ≤ length (now table)) × (next + count ≤ length (now table)) × (length (now table) ≤ mostBytes) ⌝ }
+    requires { ⌜ (MarkBytes (now table) m count) × (MarkBytes (now table) a count) × (MarkBytes (now table) b count) × (MarkBytes (now table) next count) × (length (now table) ≤ mostBytes) ⌝ }
     ensures { λ r. ⌜ r ≡ stepsOf opposite (λ k. markIn (now (table .entry)) (m + k)) (λ k. markIn (now (table .entry)) (a + k)) (λ k. markIn (now (table .entry)) (b + k)) (λ k. markIn (now (table .entry)) (next + k)) count ⌝ }
 {
-    let mut all = true;
-    let mut k = 0;
-    while k < count {
-        all = all
-            & agree(
-                read(table[m + k], opposite),
-                step(
-                    read(table[a + k], opposite),
-                    read(table[b + k], opposite),
-                    read(table[next + k], opposite),
-                ),
-            );
-        k += 1;
+    if opposite {
+        steps_down(table, m, a, b, next, count)
+    } else {
+        steps_up(table, m, a, b, next, count)
     }
-    all
 }

@@ -1,3 +1,4 @@
+use mathlib.Core.Path.{refl}
 use native.Mathlib.Omega.{arith}
 use denote.Ref.{now}
 use Rattle.inputs.proofs.Parts.{few-there, last-there}
@@ -7,7 +8,7 @@ use Rattle.acceptance.proofs.check_marks.Statement.{statement}
 use Rattle.acceptance.proofs.check_marks.Tie as tie
 use Rattle.acceptance.proofs.check_marks.Reads as reads
 use Rattle.acceptance.proofs.check_marks.Lts as lts
-use Rattle.acceptance.proofs.check_parts.Reads as check-parts-reads
+use Rattle.acceptance.proofs.check_laid.Reads as check-laid-reads
 use Rattle.table.proofs.bytes.check_table.Reads as check-table-reads
 use Rattle.table.proofs.bytes.mark_at.Reads as mark-at-reads
 
@@ -34,13 +35,22 @@ returns c =
 enum-told : tie.Need-enum-told
 enum-told c = search needs
 
+sub-check-laid : tie.Need-sub-check-laid
+sub-check-laid c = search needs
+
+part-values-start : tie.Need-part-values-start
+part-values-start c = search needs
+
+part-values-end : tie.Need-part-values-end
+part-values-end c = search needs
+
 -- src/lib.rt:70:9
-check-parts-requires : tie.Need-check-parts-requires
-check-parts-requires c κs =
-    let start = c .before .before .before .before .before .before .before in
-    let check-table = c .before .before .check-table in
-    let enum-told = c .enum-told in
-    law.prepared (now (start .args .rule)) (now (start .args .plan)) (now (start .args .marks)) (start .pre) (check-table .ensures) (enum-told .given .1)
+check-laid-requires : tie.Need-check-laid-requires
+check-laid-requires c κs =
+    let start = c .before .before .before .before .before .before .before .before in
+    let check-table = c .before .before .before .check-table in
+    let enum-told = c .before .enum-told in
+    (law.prepared (now (start .args .rule)) (now (start .args .plan)) (now (start .args .marks)) (start .pre) (check-table .ensures) (enum-told .given .1), refl)
 
 -- src/lib.rt:71:29
 enum-known-all : tie.Need-enum-known-all
@@ -49,12 +59,12 @@ enum-known-all c = search needs
 -- src/lib.rt:72:9
 returns-2 : tie.Need-returns-2
 returns-2 c =
-    let start = c .before .before .before .before .before .before .before .before .before .before .before in
-    let check-table = c .before .before .before .before .before .before .check-table in
-    let enum-told = c .before .before .before .before .enum-told in
-    let check-parts = c .before .before .before .check-parts in
+    let start = c .before .before .before .before .before .before .before .before .before .before .before .before .before in
+    let check-table = c .before .before .before .before .before .before .before .before .check-table in
+    let enum-told = c .before .before .before .before .before .before .enum-told in
+    let check-laid = c .before .before .before .before .check-laid in
     let all = c .before .all in
-    law.parts-refused (now (start .args .rule)) (now (start .args .plan)) (now (start .args .marks)) (start .pre) (check-table .ensures) (enum-told .given .1) (check-parts .ensures) (all .given .1)
+    law.parts-refused (now (start .args .rule)) (now (start .args .plan)) (now (start .args .marks)) (start .pre) (check-table .ensures) (enum-told .given .1) (check-laid .ensures) (all .given .1)
 
 enum-told-2 : tie.Need-enum-told-2
 enum-told-2 c = search needs
@@ -62,15 +72,15 @@ enum-told-2 c = search needs
 -- src/lib.rt:74:44
 sub-mark-at : tie.Need-sub-mark-at
 sub-mark-at c =
-    let start = c .before .before .before .before .before .before .before .before .before .before in
+    let start = c .before .before .before .before .before .before .before .before .before .before .before .before in
     omega (arith, last-there (now (start .args .rule)) (now (start .args .plan)) (start .pre))
 
 -- src/lib.rt:74:23
 mark-at-requires : tie.Need-mark-at-requires
 mark-at-requires c κs =
-    let start = c .before .before .before .before .before .before .before .before .before .before in
-    let check-table = c .before .before .before .before .before .check-table in
-    let enum-told = c .before .before .before .enum-told in
+    let start = c .before .before .before .before .before .before .before .before .before .before .before .before in
+    let check-table = c .before .before .before .before .before .before .before .check-table in
+    let enum-told = c .before .before .before .before .before .enum-told in
     let there = last-there (now (start .args .rule)) (now (start .args .plan)) (start .pre) in
     let prepared = law.prepared (now (start .args .rule)) (now (start .args .plan)) (now (start .args .marks)) (start .pre) (check-table .ensures) (enum-told .given .1) in
     (prepared .sized, omega arith, omega arith)
@@ -78,13 +88,13 @@ mark-at-requires c κs =
 -- src/lib.rt:61:1
 returns-3 : tie.Need-returns-3
 returns-3 c =
-    let start = c .before .before .before .before .before .before .before .before .before .before .before in
-    let check-table = c .before .before .before .before .before .before .check-table in
-    let enum-told = c .before .before .before .before .enum-told in
-    let check-parts = c .before .before .before .check-parts in
+    let start = c .before .before .before .before .before .before .before .before .before .before .before .before .before in
+    let check-table = c .before .before .before .before .before .before .before .before .check-table in
+    let enum-told = c .before .before .before .before .before .before .enum-told in
+    let check-laid = c .before .before .before .before .check-laid in
     let enum-told2 = c .before .enum-told2 in
     let mark-at = c .mark-at in
-    law.all-accepted (now (start .args .rule)) (now (start .args .plan)) (now (start .args .marks)) (start .pre) (check-table .ensures) (enum-told .given .1) (check-parts .ensures) (enum-told2 .given .1) (mark-at .ensures)
+    law.all-accepted (now (start .args .rule)) (now (start .args .plan)) (now (start .args .marks)) (start .pre) (check-table .ensures) (enum-told .given .1) (check-laid .ensures) (enum-told2 .given .1) (mark-at .ensures)
 
 pub check-marks-spec : {M : Type 1} → statement M
 check-marks-spec =
@@ -95,7 +105,10 @@ check-marks-spec =
     enum-known-table
     returns
     enum-told
-    check-parts-requires
+    sub-check-laid
+    part-values-start
+    part-values-end
+    check-laid-requires
     enum-known-all
     returns-2
     enum-told-2

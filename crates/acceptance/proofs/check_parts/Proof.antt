@@ -25,20 +25,20 @@ use Rattle.rule.proofs.refusal_of.Reads as refusal-of-reads
 use Rattle.rule.proofs.take.Reads as take-reads
 
 abbrev Inv-loop : tie.InvT-loop
-Inv-loop rule plan table n sizes w answer₀ i view sure rows row₀ answer row = (row ≤ rows) × (answer ≡ Clear) × (equationOutcome plan (marked (allRows sizes) table) view i ≡ rowsFrom plan table (allRows sizes) view i rows row)
+Inv-loop rule plan values drifts still table n sizes w answer₀ i view sure rows row₀ answer row = (row ≤ rows) × (answer ≡ Clear) × (equationOutcome plan (marked (allRows sizes) table) view i ≡ rowsFrom plan table (allRows sizes) view i rows row)
 
 abbrev μ-loop : tie.MeasureT-loop
-μ-loop rule plan table n sizes w answer₀ i view sure rows row₀ answer row = rows - row
+μ-loop rule plan values drifts still table n sizes w answer₀ i view sure rows row₀ answer row = rows - row
 
 abbrev Inv-parts : tie.InvT-parts
-Inv-parts rule plan table n sizes w answer₀ i₀ answer i = (i ≤ n) × (answer ≡ Clear) × (inTurn (turn rule plan table n (allRows sizes)) n ≡ inTurnFrom (turn rule plan table n (allRows sizes)) i (n - i))
+Inv-parts rule plan values drifts still table n sizes w answer₀ i₀ answer i = (i ≤ n) × (answer ≡ Clear) × (inTurn (turn rule plan table n (allRows sizes)) n ≡ inTurnFrom (turn rule plan table n (allRows sizes)) i (n - i))
 
 abbrev μ-parts : tie.MeasureT-parts
-μ-parts rule plan table n sizes w answer₀ i₀ answer i = n - i
+μ-parts rule plan values drifts still table n sizes w answer₀ i₀ answer i = n - i
 
 -- src/lib.rt:30:13
 add-w : tie.Need-add-w Inv-loop μ-loop Inv-parts μ-parts
-add-w c = omega (arith, c .before .before .before .before .pre .ready .fits .few-rows)
+add-w c = omega (arith, c .before .before .before .before .before .before .pre .0 .ready .fits .few-rows)
 
 -- src/lib.rt:33:5
 parts-holds : tie.Need-parts-holds Inv-loop μ-loop Inv-parts μ-parts
@@ -67,13 +67,13 @@ view-of-requires c κs = search needs
 -- src/lib.rt:40:13
 surely-clear-requires : tie.Need-surely-clear-requires Inv-loop μ-loop Inv-parts μ-parts
 surely-clear-requires c κs =
-    let start = c .before .before .before .before .before .before .before .before .before .before .before in
+    let start = c .before .before .before .before .before .before .before .before .before .before .before .before .before in
     let parts = c .before .before .before .before .before .before .parts in
     let parts-test = c .before .before .before .before .before .parts-test in
     let take = c .before .before .before .before .take in
     let taken = c .before .before .taken in
     let view-of = c .view-of in
-    law.readable (now (start .args .rule)) (now (start .args .plan)) (now (start .args .table)) (start .pre) (parts .i) (parts-test .taken) (take .ensures .isTake) (taken .given .1) (view-of .ensures)
+    (law.readable (now (start .args .rule)) (now (start .args .plan)) (now (start .args .table)) (start .pre .0) (parts .i) (parts-test .taken) (take .ensures .isTake) (taken .given .1) (view-of .ensures), start .pre .0 .marks, start .pre .1)
 
 -- src/lib.rt:41:13
 choose-requires : tie.Need-choose-requires Inv-loop μ-loop Inv-parts μ-parts
@@ -82,7 +82,7 @@ choose-requires c κs = search needs
 -- src/lib.rt:43:9
 loop-holds : tie.Need-loop-holds Inv-loop μ-loop Inv-parts μ-parts
 loop-holds c =
-    let start = c .before .before .before .before .before .before .before .before .before .before .before .before .before in
+    let start = c .before .before .before .before .before .before .before .before .before .before .before .before .before .before .before in
     let parts = c .before .before .before .before .before .before .before .before .parts in
     let parts-test = c .before .before .before .before .before .before .before .parts-test in
     let take = c .before .before .before .before .before .before .take in
@@ -90,12 +90,12 @@ loop-holds c =
     let view-of = c .before .before .view-of in
     let surely-clear = c .before .surely-clear in
     let choose = c .choose in
-    (omega arith, parts .inv .1, law.searched (now (start .args .rule)) (now (start .args .plan)) (now (start .args .table)) (start .pre) (parts .i) (parts-test .taken) (take .ensures .isTake) (taken .given .1) (view-of .ensures) (surely-clear .result) (surely-clear .ensures) (choose .result) (choose .ensures))
+    (omega arith, parts .inv .1, law.searched (now (start .args .rule)) (now (start .args .plan)) (now (start .args .table)) (start .pre .0) (parts .i) (parts-test .taken) (take .ensures .isTake) (taken .given .1) (view-of .ensures) (surely-clear .result) (surely-clear .ensures) (choose .result) (choose .ensures))
 
 -- src/lib.rt:44:16
 breaks-on-requires : tie.Need-breaks-on-requires Inv-loop μ-loop Inv-parts μ-parts
 breaks-on-requires c κs =
-    let start = c .before .before .before .before .before .before .before .before .before .before .before .before .before .before .before in
+    let start = c .before .before .before .before .before .before .before .before .before .before .before .before .before .before .before .before .before in
     let parts = c .before .before .before .before .before .before .before .before .before .before .parts in
     let parts-test = c .before .before .before .before .before .before .before .before .before .parts-test in
     let take = c .before .before .before .before .before .before .before .before .take in
@@ -104,16 +104,16 @@ breaks-on-requires c κs =
     let surely-clear = c .before .before .before .surely-clear in
     let choose = c .before .before .choose in
     let loop-test = c .loop-test in
-    (law.readable (now (start .args .rule)) (now (start .args .plan)) (now (start .args .table)) (start .pre) (parts .i) (parts-test .taken) (take .ensures .isTake) (taken .given .1) (view-of .ensures), omega (arith, loop-test .taken, rows-most (surely-clear .result) (choose .result) (allRows (start .args .sizes)) (choose .ensures)))
+    (law.readable (now (start .args .rule)) (now (start .args .plan)) (now (start .args .table)) (start .pre .0) (parts .i) (parts-test .taken) (take .ensures .isTake) (taken .given .1) (view-of .ensures), omega (arith, loop-test .taken, rows-most (surely-clear .result) (choose .result) (allRows (start .args .sizes)) (choose .ensures)))
 
 -- src/lib.rt:48:13
 add-row : tie.Need-add-row Inv-loop μ-loop Inv-parts μ-parts
 add-row c =
-    let start = c .before .before .before .before .before .before .before .before .before .before .before .before .before .before .before .before .before in
+    let start = c .before .before .before .before .before .before .before .before .before .before .before .before .before .before .before .before .before .before .before in
     let surely-clear = c .before .before .before .before .before .surely-clear in
     let choose = c .before .before .before .before .choose in
     let loop-test = c .before .before .loop-test in
-    omega (arith, loop-test .taken, rows-most (surely-clear .result) (choose .result) (allRows (start .args .sizes)) (choose .ensures), start .pre .ready .fits .few-rows)
+    omega (arith, loop-test .taken, rows-most (surely-clear .result) (choose .result) (allRows (start .args .sizes)) (choose .ensures), start .pre .0 .ready .fits .few-rows)
 
 -- src/lib.rt:43:9
 loop-less : tie.Need-loop-less Inv-loop μ-loop Inv-parts μ-parts
@@ -122,7 +122,7 @@ loop-less c = omega arith
 -- src/lib.rt:43:9
 loop-again : tie.Need-loop-again Inv-loop μ-loop Inv-parts μ-parts
 loop-again c =
-    let start = c .before .before .before .before .before .before .before .before .before .before .before .before .before .before .before .before .before in
+    let start = c .before .before .before .before .before .before .before .before .before .before .before .before .before .before .before .before .before .before .before in
     let parts = c .before .before .before .before .before .before .before .before .before .before .before .before .parts in
     let parts-test = c .before .before .before .before .before .before .before .before .before .before .before .parts-test in
     let take = c .before .before .before .before .before .before .before .before .before .before .take in
@@ -133,12 +133,12 @@ loop-again c =
     let loop-test = c .before .before .loop-test in
     let breaks-on = c .before .breaks-on in
     let if1 = c .if1 in
-    (omega arith, loop .inv .1, law.row-met (now (start .args .rule)) (now (start .args .plan)) (now (start .args .table)) (start .pre) (parts .i) (parts-test .taken) (take .ensures .isTake) (taken .given .1) (view-of .ensures) (choose .result) (loop .row) (loop .inv .2) (loop-test .taken) (breaks-on .ensures) (if1 .left))
+    (omega arith, loop .inv .1, law.row-met (now (start .args .rule)) (now (start .args .plan)) (now (start .args .table)) (start .pre .0) (parts .i) (parts-test .taken) (take .ensures .isTake) (taken .given .1) (view-of .ensures) (choose .result) (loop .row) (loop .inv .2) (loop-test .taken) (breaks-on .ensures) (if1 .left))
 
 -- src/lib.rt:50:13
 check-rest-requires : tie.Need-check-rest-requires Inv-loop μ-loop Inv-parts μ-parts
 check-rest-requires c κs =
-    let start = c .before .before .before .before .before .before .before .before .before .before .before .before .before .before .before in
+    let start = c .before .before .before .before .before .before .before .before .before .before .before .before .before .before .before .before .before in
     let parts = c .before .before .before .before .before .before .before .before .before .before .parts in
     let parts-test = c .before .before .before .before .before .before .before .before .before .parts-test in
     let take = c .before .before .before .before .before .before .before .before .take in
@@ -148,7 +148,7 @@ check-rest-requires c κs =
     let choose = c .before .before .choose in
     let loop = c .before .loop in
     let loop-test = c .loop-test in
-    (law.readable (now (start .args .rule)) (now (start .args .plan)) (now (start .args .table)) (start .pre) (parts .i) (parts-test .taken) (take .ensures .isTake) (taken .given .1) (view-of .ensures), law.rows-met (now (start .args .rule)) (now (start .args .plan)) (now (start .args .table)) (start .pre) (parts .i) (parts-test .taken) (take .ensures .isTake) (taken .given .1) (view-of .ensures) (choose .result) (loop .row) (loop .inv .2) (loop-test .left), surely-clear .ensures)
+    (law.readable (now (start .args .rule)) (now (start .args .plan)) (now (start .args .table)) (start .pre .0) (parts .i) (parts-test .taken) (take .ensures .isTake) (taken .given .1) (view-of .ensures), law.rows-met (now (start .args .rule)) (now (start .args .plan)) (now (start .args .table)) (start .pre .0) (parts .i) (parts-test .taken) (take .ensures .isTake) (taken .given .1) (view-of .ensures) (choose .result) (loop .row) (loop .inv .2) (loop-test .left), surely-clear .ensures)
 
 -- src/lib.rt:51:33
 enum-known-rest : tie.Need-enum-known-rest Inv-loop μ-loop Inv-parts μ-parts
@@ -168,7 +168,7 @@ parts-less c = omega arith
 -- src/lib.rt:33:5
 parts-again : tie.Need-parts-again Inv-loop μ-loop Inv-parts μ-parts
 parts-again c =
-    let start = c .before .before .before .before .before .before .before .before .before .before .before .before .before .before .before .before .before .before in
+    let start = c .before .before .before .before .before .before .before .before .before .before .before .before .before .before .before .before .before .before .before .before in
     let parts = c .before .before .before .before .before .before .before .before .before .before .before .before .before .parts in
     let parts-test = c .before .before .before .before .before .before .before .before .before .before .before .before .parts-test in
     let take = c .before .before .before .before .before .before .before .before .before .before .before .take in
@@ -179,30 +179,30 @@ parts-again c =
     let loop-test = c .before .before .before .loop-test in
     let check-rest = c .before .before .check-rest in
     let enum-told2 = c .enum-told2 in
-    (omega arith, loop .inv .1, law.part-passed (now (start .args .rule)) (now (start .args .plan)) (now (start .args .table)) (start .pre) (parts .i) (parts-test .taken) (take .ensures .isTake) (taken .given .1) (view-of .ensures) (parts .inv .2) (law.rows-met (now (start .args .rule)) (now (start .args .plan)) (now (start .args .table)) (start .pre) (parts .i) (parts-test .taken) (take .ensures .isTake) (taken .given .1) (view-of .ensures) (choose .result) (loop .row) (loop .inv .2) (loop-test .left)) (check-rest .ensures) (enum-told2 .given .1))
+    (omega arith, loop .inv .1, law.part-passed (now (start .args .rule)) (now (start .args .plan)) (now (start .args .table)) (start .pre .0) (parts .i) (parts-test .taken) (take .ensures .isTake) (taken .given .1) (view-of .ensures) (parts .inv .2) (law.rows-met (now (start .args .rule)) (now (start .args .plan)) (now (start .args .table)) (start .pre .0) (parts .i) (parts-test .taken) (take .ensures .isTake) (taken .given .1) (view-of .ensures) (choose .result) (loop .row) (loop .inv .2) (loop-test .left)) (check-rest .ensures) (enum-told2 .given .1))
 
 -- src/lib.rt:26:1
 returns : tie.Need-returns Inv-loop μ-loop Inv-parts μ-parts
 returns c =
-    let start = c .before .before .before .before .before .before in
+    let start = c .before .before .before .before .before .before .before .before in
     let parts = c .before .parts in
     let parts-test = c .parts-test in
-    law.all-passed (now (start .args .rule)) (now (start .args .plan)) (now (start .args .table)) (start .pre) (parts .i) (parts .inv .2) (parts-test .left) (parts .inv .1)
+    law.all-passed (now (start .args .rule)) (now (start .args .plan)) (now (start .args .table)) (start .pre .0) (parts .i) (parts .inv .2) (parts-test .left) (parts .inv .1)
 
 -- src/lib.rt:26:1
 returns-2 : tie.Need-returns-2 Inv-loop μ-loop Inv-parts μ-parts
 returns-2 c =
-    let start = c .before .before .before .before .before .before .before .before .before .before in
+    let start = c .before .before .before .before .before .before .before .before .before .before .before .before in
     let parts = c .before .before .before .before .before .parts in
     let parts-test = c .before .before .before .before .parts-test in
     let take = c .before .before .before .take in
     let enum-told = c .before .enum-told in
-    absurd (always-taken (now (start .args .rule)) (now (start .args .plan)) (start .pre .ready) (parts .i) (parts-test .taken) (take .ensures .isTake) (enum-told .given .1))
+    absurd (always-taken (now (start .args .rule)) (now (start .args .plan)) (start .pre .0 .ready) (parts .i) (parts-test .taken) (take .ensures .isTake) (enum-told .given .1))
 
 -- src/lib.rt:26:1
 returns-3 : tie.Need-returns-3 Inv-loop μ-loop Inv-parts μ-parts
 returns-3 c =
-    let start = c .before .before .before .before .before .before .before .before .before .before .before .before .before .before .before .before .before in
+    let start = c .before .before .before .before .before .before .before .before .before .before .before .before .before .before .before .before .before .before .before in
     let parts = c .before .before .before .before .before .before .before .before .before .before .before .before .parts in
     let parts-test = c .before .before .before .before .before .before .before .before .before .before .before .parts-test in
     let take = c .before .before .before .before .before .before .before .before .before .before .take in
@@ -213,12 +213,12 @@ returns-3 c =
     let loop-test = c .before .before .loop-test in
     let breaks-on = c .before .breaks-on in
     let if1 = c .if1 in
-    law.equation-refused (now (start .args .rule)) (now (start .args .plan)) (now (start .args .table)) (start .pre) (parts .i) (parts-test .taken) (take .ensures .isTake) (taken .given .1) (view-of .ensures) (parts .inv .2) (choose .result) (loop .row) (loop .inv .2) (loop-test .taken) (breaks-on .ensures) (if1 .taken)
+    law.equation-refused (now (start .args .rule)) (now (start .args .plan)) (now (start .args .table)) (start .pre .0) (parts .i) (parts-test .taken) (take .ensures .isTake) (taken .given .1) (view-of .ensures) (parts .inv .2) (choose .result) (loop .row) (loop .inv .2) (loop-test .taken) (breaks-on .ensures) (if1 .taken)
 
 -- src/lib.rt:26:1
 returns-4 : tie.Need-returns-4 Inv-loop μ-loop Inv-parts μ-parts
 returns-4 c =
-    let start = c .before .before .before .before .before .before .before .before .before .before .before .before .before .before .before .before .before .before .before in
+    let start = c .before .before .before .before .before .before .before .before .before .before .before .before .before .before .before .before .before .before .before .before .before in
     let parts = c .before .before .before .before .before .before .before .before .before .before .before .before .before .before .parts in
     let parts-test = c .before .before .before .before .before .before .before .before .before .before .before .before .before .parts-test in
     let take = c .before .before .before .before .before .before .before .before .before .before .before .before .take in
@@ -229,7 +229,7 @@ returns-4 c =
     let loop-test = c .before .before .before .before .loop-test in
     let check-rest = c .before .before .before .check-rest in
     let rest = c .before .rest in
-    law.rest-refused (now (start .args .rule)) (now (start .args .plan)) (now (start .args .table)) (start .pre) (parts .i) (parts-test .taken) (take .ensures .isTake) (taken .given .1) (view-of .ensures) (parts .inv .2) (law.rows-met (now (start .args .rule)) (now (start .args .plan)) (now (start .args .table)) (start .pre) (parts .i) (parts-test .taken) (take .ensures .isTake) (taken .given .1) (view-of .ensures) (choose .result) (loop .row) (loop .inv .2) (loop-test .left)) (check-rest .ensures) (rest .given .1)
+    law.rest-refused (now (start .args .rule)) (now (start .args .plan)) (now (start .args .table)) (start .pre .0) (parts .i) (parts-test .taken) (take .ensures .isTake) (taken .given .1) (view-of .ensures) (parts .inv .2) (law.rows-met (now (start .args .rule)) (now (start .args .plan)) (now (start .args .table)) (start .pre .0) (parts .i) (parts-test .taken) (take .ensures .isTake) (taken .given .1) (view-of .ensures) (choose .result) (loop .row) (loop .inv .2) (loop-test .left)) (check-rest .ensures) (rest .given .1)
 
 pub check-parts-spec : {M : Type 1} → statement M
 check-parts-spec =

@@ -2,23 +2,15 @@
 use Prim.Native.Nat.{ℕ, _<_}
 use mathlib.Core.Path.{_≡_}
 use mathlib.Core.List.{List}
-use mathlib.Core.Bool.{Bool, true, false, not}
+use mathlib.Core.Bool.{true}
 use Rattle.cltlb.specs.Fits.{viewFits}
 use Rattle.cltlb.specs.declared.View.{View}
 use Rattle.refusal.specs.declared.Outcome.the-variants.{Clear}
 use Rattle.plan.specs.declared.sizes.Sizes.{Sizes}
 use Rattle.plan.specs.inner.Sizes.{allRows, Fitting}
-use Rattle.verdict.specs.declared.Verdict.{Verdict}
-use Rattle.verdict.specs.declared.Verdict.the-variants.{AlwaysTrue, AlwaysFalse, Changes}
 use Rattle.table.specs.Layout.{marked}
 use Rattle.marks.specs.Parts.{equationOutcome, closingOutcome}
 use Rattle.table.specs.inner.Tables.{Sized}
-
--- a verdict says on every pass what the mark says
-abbrev pub verdictAgrees : Verdict → Bool → Bool
-verdictAgrees AlwaysTrue mark = mark
-verdictAgrees AlwaysFalse mark = not mark
-verdictAgrees Changes mark = false
 
 -- a plan and a table of n parts whose sizes fit, and part i of them, whose terms fit and which names some of the n parts
 pub record Readable (plan table : List ℕ) (n : ℕ) (z : Sizes) (i : ℕ) (p : View) : Type 0 where

@@ -1,52 +1,17 @@
--- What the code goes by: equations on many rows at once. Assumes nothing.
-use Prim.Native.Nat.{ℕ, zero, suc, _+_, _*_, _≤_, _<_}
-use mathlib.Core.Path.{_≡_}
-use mathlib.Core.Bool.{Bool, true, false, not, _&&_, _||_, Bool·beq}
+-- What the code goes by: equations on all rows at once. Assumes nothing.
+use Prim.Native.Nat.{ℕ, suc, _+_, _*_, _-_, _≤_}
+use mathlib.Core.Bool.{Bool, true, false, _&&_, Bool·beq}
 use mathlib.Core.List.{List}
-use lib.Dec.{eqb}
-use lib.ListN.{length, getD}
-use Rattle.cltlb.specs.declared.Unary.{Unary}
-use Rattle.cltlb.specs.declared.Unary.the-variants.{Not, Next, Yesterday, WeakYesterday}
-use Rattle.cltlb.specs.declared.Binary.{Binary}
-use Rattle.cltlb.specs.declared.Binary.the-variants.{And, Or, Until, Release, Since, Trigger}
 use Rattle.cltlb.specs.declared.Operator.{Operator}
-use Rattle.plan.specs.Positions.{last}
-use Rattle.marks.specs.declared.stretches.Stretch.{Stretch}
+use Rattle.plan.specs.Positions.{last, after}
+use Rattle.plan.specs.declared.sizes.Sizes.{Sizes}
+use Rattle.plan.specs.inner.Sizes.{allRows}
 use Rattle.marks.specs.declared.operators.Beside.{Beside}
 use Rattle.marks.specs.declared.operators.Beside.the-variants.{After, Before}
 use Rattle.marks.specs.Equations.{besideOf, watched, stepOn, operatorMark}
-use Rattle.table.specs.inner.Tables.{allBelow}
+use Rattle.table.specs.inner.Tables.{allBelow, copyOf, stepOf, markIn, Sized, MarkBytes}
 
--- not
-abbrev pub isNot : Unary → Bool
-isNot Not = true
-isNot Next = false
-isNot Yesterday = false
-isNot WeakYesterday = false
-
--- And, R and T are or, U and S of the opposites.
-abbrev pub flips : Binary → Bool
-flips And = true
-flips Or = false
-flips Until = false
-flips Release = true
-flips Since = false
-flips Trigger = true
-
--- U, R, S and T look at their own mark beside.
-abbrev pub watchesItself : Binary → Bool
-watchesItself And = false
-watchesItself Or = false
-watchesItself Until = true
-watchesItself Release = true
-watchesItself Since = true
-watchesItself Trigger = true
-
--- Part i, which is an operator, meets its equation on `count` rows from `row` on, the rows from `beside` on being beside them.
-unfoldable pub meetsBeside : (ℕ → ℕ → Bool) → Operator → ℕ → ℕ → ℕ → ℕ → Bool
-meetsBeside mark o i row beside count = allBelow (λ k. Bool·beq (mark i (row + k)) (stepOn mark o (row + k) (mark (watched o i) (beside + k)))) count
-
--- It meets its equation on a row, with P start rows and C cycle rows.
+-- Part i, which is an operator, meets its equation on a row, with P start rows and C cycle rows.
 unfoldable pub meetsOn : ℕ → ℕ → (ℕ → ℕ → Bool) → Operator → ℕ → ℕ → Bool
 meetsOn P C mark o i row = Bool·beq (mark i row) (operatorMark P C mark o i row)
 
@@ -58,8 +23,30 @@ wrapsBy (Before first) P C mark o i = Bool·beq (mark i P) (stepOn mark o P (mar
 unfoldable pub wraps : ℕ → ℕ → (ℕ → ℕ → Bool) → Operator → ℕ → Bool
 wraps P C mark o i = wrapsBy (besideOf o) P C mark o i
 
--- a stretch whose rows, and the rows beside them, are in such a table
-pub record InTable (n w : ℕ) (s : Stretch) : Type 0 where
-  pub part-there : s .part < n
-  pub rows-there : s .row + s .count ≤ w
-  pub beside-there : s .beside + s .count ≤ w
+-- It meets its equation on every row, and closes.
+unfoldable pub clearOf : ℕ → ℕ → (ℕ → ℕ → Bool) → Operator → ℕ → Bool
+clearOf P C mark o i = allBelow (meetsOn P C mark o i) (P + C) && wraps P C mark o i
+
+-- A test of a row and a row beside it is true of every row and the row after it.
+unfoldable pub aheadOf : ℕ → ℕ → (ℕ → ℕ → Bool) → Bool
+aheadOf P C test = allBelow (λ row. test row (after P C row)) (P + C)
+
+-- It is true of every row above 0 and the row before it, and of row P with row W - 1 as the row before; so is `first`, a test of
+-- row 0.
+unfoldable pub behindOf : ℕ → ℕ → Bool → (ℕ → ℕ → Bool) → Bool
+behindOf P C first test = (first && allBelow (λ k. test (suc k) k) (P + C - 1)) && test P (P + C - 1)
+
+-- The mark on a row is that on the row beside it; marks lie from m and from a on.
+abbrev pub copyTest : List ℕ → ℕ → ℕ → ℕ → ℕ → Bool
+copyTest table m a row beside = copyOf false (markIn table (m + row)) (markIn table (a + beside))
+
+-- The mark on a row is b there, or a there and the mark beside; or it is so of the opposites.
+abbrev pub stepTest : Bool → List ℕ → ℕ → ℕ → ℕ → ℕ → ℕ → Bool
+stepTest opposite table m a b row beside =
+    stepOf opposite (markIn table (m + row)) (markIn table (a + row)) (markIn table (b + row)) (markIn table (m + beside))
+
+-- a table of n parts, of the sizes z, whose bytes are marks
+pub record MarkTable (table : List ℕ) (n : ℕ) (z : Sizes) : Type 0 where
+  pub sized : Sized table n (allRows z)
+  pub a-cycle : 1 ≤ z .cycle
+  pub marks : MarkBytes table 4 (n * allRows z)

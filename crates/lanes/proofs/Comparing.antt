@@ -1,0 +1,151 @@
+-- Marks held against two lines: what the sweeps test is whether the verdict on the lines says on every pass what the mark says.
+-- Assumes nothing.
+use Prim.Native.Nat.{ℕ, _-_, _%_, _≤_, _<_}
+use native.Mathlib.Decide.{decLt, ℕ-discrete}
+use native.Mathlib.Omega.{arith}
+use mathlib.Core.Path.{_≡_, refl, sym, ap, ap₂, _∙_}
+use mathlib.Core.Bool.{Bool, true, false, cond, not, _&&_, Bool·beq}
+use mathlib.Core.Logic.{by-cases}
+use lib.Dec.{ltb, eqb}
+use lib.IntN.{ℤ, pos, subℕ}
+use lib.Signed.{ltZ}
+use borrow.Author.Tests.{lt-ltb, le-ltb, eq-eqb, ne-eqb}
+use Rattle.fields.specs.inner.Biased.{bias, unbiased}
+use Rattle.verdict.specs.Lines.{Line, eqZ, judgeLess, meets, judgeEqual}
+use Rattle.verdict.specs.Comparisons.{testOf, judgeLines}
+use Rattle.verdict.specs.declared.Relation.{Relation}
+use Rattle.verdict.specs.declared.Relation.the-variants.{Below, Same}
+use Rattle.verdict.specs.declared.Verdict.the-variants.{AlwaysTrue, AlwaysFalse, Changes}
+use Rattle.verdict.proofs.Decisions.{lifted, by-bias, by-lifted, bias-ltZ, bias-eqZ, less-until, less-always, less-later, less-never, meets-once, meets-over, meets-apart, equal-below, equal-above, equal-always, equal-once}
+use Rattle.lanes.specs.inner.Agreement.{lineFrom, verdictAgrees, stays}
+
+-- ---- two numbers kept without a sign
+
+pub numbers-below : (a b : ℕ) {x y : ℤ} → unbiased a ≡ x → unbiased b ≡ y → ltb a b ≡ testOf Below x y
+numbers-below a b e f = sym (bias-ltZ a b bias) ∙ ap₂ ltZ e f
+
+pub numbers-same : (a b : ℕ) {x y : ℤ} → unbiased a ≡ x → unbiased b ≡ y → eqb a b ≡ testOf Same x y
+numbers-same a b e f = sym (bias-eqZ a b bias) ∙ ap₂ eqZ e f
+
+-- ---- two lines
+
+pub line-is : (a d : ℕ) {x y : ℤ} → unbiased a ≡ x → unbiased d ≡ y → lineFrom a d ≡ record { at = x; step = y }
+line-is a d e f = ap₂ (λ (m n : ℤ). record { at = m; step = n }) e f
+
+module _ (a d b e : ℕ) where
+  pub less-agrees : (mark : Bool) → (Bool·beq mark (ltb a b) && (not (ltb a b && ltb e d) && not (not (ltb a b) && ltb d e))) ≡ verdictAgrees (judgeLess (lineFrom a d) (lineFrom b e)) mark
+  less-agrees mark =
+      by-cases (decLt a b)
+      (λ h. by-cases (decLt e d)
+      (λ g. rw (lt-ltb a b h, lt-ltb e d g, less-until bias bias a d b e h g) (until mark))
+      (λ g. rw (lt-ltb a b h, le-ltb e d (omega arith), less-always bias bias a d b e h (omega arith)) (always mark)))
+      (λ h. by-cases (decLt d e)
+      (λ g. rw (le-ltb a b (omega arith), lt-ltb d e g, less-later bias bias a d b e (omega arith) g) (later mark))
+      (λ g. rw (le-ltb a b (omega arith), le-ltb d e (omega arith), less-never bias bias a d b e (omega arith) (omega arith)) (never mark)))
+    where
+      until : (m : Bool) → (Bool·beq m true && (false && true)) ≡ false
+      until true = refl
+      until false = refl
+
+      always : (m : Bool) → (Bool·beq m true && (true && true)) ≡ m
+      always true = refl
+      always false = refl
+
+      later : (m : Bool) → (Bool·beq m false && (true && false)) ≡ false
+      later true = refl
+      later false = refl
+
+      never : (m : Bool) → (Bool·beq m false && (true && true)) ≡ not m
+      never true = refl
+      never false = refl
+
+  -- equal: whether the verdict is no change, case by case
+  pub stays-steady : d ≡ e → true ≡ stays (judgeEqual (lineFrom a d) (lineFrom b e))
+  stays-steady g =
+      by-cases (decLt a b)
+      (λ h. rw (equal-below bias bias a d b e h, meets-apart bias bias a d b e (omega arith)) refl)
+      (λ h. by-cases (decLt b a)
+      (λ l. rw (equal-above bias bias a d b e l, meets-apart bias bias b e a d (omega arith)) refl)
+      (λ l. rw (equal-always bias bias a d b e (omega arith) g) refl))
+
+  pub stays-never-met : a < b → d ≤ e → true ≡ stays (judgeEqual (lineFrom a d) (lineFrom b e))
+  stays-never-met h g = rw (equal-below bias bias a d b e h, meets-apart bias bias a d b e g) refl
+
+  pub stays-stepped-over : a < b → e < d → not (eqb ((b - a) % (d - e)) 0) ≡ stays (judgeEqual (lineFrom a d) (lineFrom b e))
+  stays-stepped-over h g =
+      by-cases (ℕ-discrete ((b - a) % (d - e)) 0)
+      (λ z. rw (eq-eqb ((b - a) % (d - e)) 0 z, equal-below bias bias a d b e h, meets-once bias bias a d b e h g z) refl)
+      (λ z. rw (ne-eqb ((b - a) % (d - e)) 0 z, equal-below bias bias a d b e h, meets-over bias bias a d b e h g z) refl)
+
+  pub stays-once : a ≡ b → (d ≡ e → ⊥) → false ≡ stays (judgeEqual (lineFrom a d) (lineFrom b e))
+  stays-once h g = rw (equal-once bias bias a d b e h g) refl
+
+module _ (a d b e : ℕ) (h : b < a) where
+  -- the same from the other side
+  turned : stays (judgeEqual (lineFrom b e) (lineFrom a d)) ≡ stays (judgeEqual (lineFrom a d) (lineFrom b e))
+  turned = rw (equal-below bias bias b e a d h, equal-above bias bias a d b e h) refl
+
+  pub stays-never-met-above : e ≤ d → true ≡ stays (judgeEqual (lineFrom a d) (lineFrom b e))
+  stays-never-met-above g = stays-never-met b e a d h g ∙ turned
+
+  pub stays-stepped-over-above : d < e → not (eqb ((a - b) % (e - d)) 0) ≡ stays (judgeEqual (lineFrom a d) (lineFrom b e))
+  stays-stepped-over-above g = stays-stepped-over b e a d h g ∙ turned
+
+-- The mark says whether the lines are the same at first, and that is no change.
+pub equal-agrees : (x y : Line) (mark : Bool) → (Bool·beq mark (eqZ (x .at) (y .at)) && stays (judgeEqual x y)) ≡ verdictAgrees (judgeEqual x y) mark
+equal-agrees = by-lifted (λ x y. (mark : Bool) → (Bool·beq mark (eqZ (x .at) (y .at)) && stays (judgeEqual x y)) ≡ verdictAgrees (judgeEqual x y) mark) go
+  where
+    other : (m t : Bool) → (Bool·beq m false && stays (cond t Changes AlwaysFalse)) ≡ verdictAgrees (cond t Changes AlwaysFalse) m
+    other true true = refl
+    other true false = refl
+    other false true = refl
+    other false false = refl
+
+    always : (m : Bool) → (Bool·beq m true && true) ≡ m
+    always true = refl
+    always false = refl
+
+    once : (m : Bool) → (Bool·beq m true && false) ≡ false
+    once true = refl
+    once false = refl
+
+    go : (B D a d b e : ℕ) (mark : Bool)
+        → (Bool·beq mark (eqZ (subℕ a B) (subℕ b B)) && stays (judgeEqual (lifted B D a d) (lifted B D b e))) ≡ verdictAgrees (judgeEqual (lifted B D a d) (lifted B D b e)) mark
+    go B D a d b e mark =
+        by-cases (decLt a b)
+        (λ h. rw (bias-eqZ a b B, ne-eqb a b (λ s. omega arith), equal-below B D a d b e h) (other mark (meets (lifted B D a d) (lifted B D b e))))
+        (λ h. by-cases (decLt b a)
+        (λ l. rw (bias-eqZ a b B, ne-eqb a b (λ s. omega arith), equal-above B D a d b e l) (other mark (meets (lifted B D b e) (lifted B D a d))))
+        (λ l. by-cases (ℕ-discrete d e)
+        (λ g. rw (bias-eqZ a b B, eq-eqb a b (omega arith), equal-always B D a d b e (omega arith) g) (always mark))
+        (λ g. rw (bias-eqZ a b B, eq-eqb a b (omega arith), equal-once B D a d b e (omega arith) g) (once mark))))
+
+-- ---- lines that do not drift, and rows that are not repeated
+
+-- a number that stays
+abbrev pub level : ℤ → Line
+level a = record { at = a; step = pos 0 }
+
+pub truth-agrees : (b mark : Bool) → Bool·beq mark b ≡ verdictAgrees (cond b AlwaysTrue AlwaysFalse) mark
+truth-agrees true true = refl
+truth-agrees true false = refl
+truth-agrees false true = refl
+truth-agrees false false = refl
+
+level-same : (x y : ℤ) → judgeEqual (level x) (level y) ≡ cond (eqZ x y) AlwaysTrue AlwaysFalse
+unfolding judgeEqual meets
+level-same = by-bias (λ x y. judgeEqual (level x) (level y) ≡ cond (eqZ x y) AlwaysTrue AlwaysFalse) (λ a b B.
+    by-cases (decLt a b)
+    (λ h. rw (bias-ltZ a b B, lt-ltb a b h, bias-eqZ a b B, ne-eqb a b (λ s. omega arith)) refl)
+    (λ h. by-cases (decLt b a)
+    (λ l. rw (bias-ltZ a b B, le-ltb a b (omega arith), bias-ltZ b a B, lt-ltb b a l, bias-eqZ a b B, ne-eqb a b (λ s. omega arith)) refl)
+    (λ l. rw (bias-ltZ a b B, le-ltb a b (omega arith), bias-ltZ b a B, le-ltb b a (omega arith), bias-eqZ a b B, eq-eqb a b (omega arith)) refl)))
+
+level-verdict : (relation : Relation) (a b : ℤ) → judgeLines relation (level a) (level b) ≡ cond (testOf relation a b) AlwaysTrue AlwaysFalse
+unfolding judgeLess
+level-verdict Below a b = refl
+level-verdict Same a b = level-same a b
+
+-- Where neither line drifts, the mark has to say how they compare at first.
+pub level-agrees : (relation : Relation) (a b : ℤ) (mark : Bool) → Bool·beq mark (testOf relation a b) ≡ verdictAgrees (judgeLines relation (level a) (level b)) mark
+level-agrees relation a b mark = truth-agrees (testOf relation a b) mark ∙ ap (λ v. verdictAgrees v mark) (sym (level-verdict relation a b))

@@ -1,0 +1,9 @@
+pub mod Comparing
+pub mod Reaching
+pub mod Sweeping
+pub mod Laying
+pub mod Standing
+pub mod Stretches
+pub mod Direct
+pub mod Dividing
+pub mod AllRows

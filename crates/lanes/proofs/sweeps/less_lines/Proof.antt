@@ -1,0 +1,124 @@
+-- `lanes::sweeps::less_lines` meets its contract. Assumes nothing.
+use denote.Ref.{now}
+use Prim.Native.Nat.{_+_, _-_, _≤_}
+use mathlib.Core.Path.{_≡_, ap₂, _∙_}
+use native.Mathlib.Omega.{arith}
+use Rattle.table.specs.inner.Tables.{allBelow, markIn}
+use Rattle.table.proofs.AllBelow.{sweep-first, sweep-next, sweep-end}
+use Rattle.verdict.specs.declared.Relation.the-variants.{Below}
+use Rattle.verdict.specs.Lines.{Line, judgeLess}
+use Rattle.lanes.specs.inner.Agreement.{verdictAgrees, linesAgree}
+use Rattle.lanes.proofs.Reaching.{reaches-row}
+use Rattle.lanes.proofs.Comparing.{line-is}
+use Rattle.lanes.proofs.sweeps.less_lines.Statement.{statement}
+use Rattle.lanes.proofs.sweeps.less_lines.Tie as tie
+use Rattle.lanes.proofs.sweeps.less_lines.Reads as reads
+use Rattle.lanes.proofs.sweeps.less_lines.Lts as lts
+use Rattle.lanes.proofs.columns.drift.Reads as drift-reads
+use Rattle.lanes.proofs.columns.number.Reads as number-reads
+use Rattle.lanes.proofs.sweeps.less_agrees.Reads as less-agrees-reads
+
+abbrev Inv-loop : tie.InvT-loop
+Inv-loop values drifts x y table m count all₀ k₀ all k = (k ≤ count) × (all ≡ allBelow (λ j. linesAgree Below values drifts x y (markIn table (m + j)) j) k)
+
+abbrev μ-loop : tie.MeasureT-loop
+μ-loop values drifts x y table m count all₀ k₀ all k = count - k
+
+-- src/sweeps.rt:102:5
+loop-holds : tie.Need-loop-holds Inv-loop μ-loop
+loop-holds c = (omega arith, sweep-first _)
+
+-- src/sweeps.rt:104:19
+add-less-agrees : tie.Need-add-less-agrees Inv-loop μ-loop
+add-less-agrees c =
+    let start = c .before .before .before .before .before in
+    let there = start .pre .2 .there in
+    let few = start .pre .2 .few in
+    omega arith
+
+-- src/sweeps.rt:104:13
+shared-slice-read-less-agrees : tie.Need-shared-slice-read-less-agrees Inv-loop μ-loop
+shared-slice-read-less-agrees c =
+    let start = c .before .before .before .before .before .before in
+    let there = start .pre .2 .there in
+    omega arith
+
+-- src/sweeps.rt:105:13
+number-requires : tie.Need-number-requires Inv-loop μ-loop
+number-requires c κs =
+    let start = c .before .before .before .before .before .before in
+    let loop-test = c .before .loop-test in
+    (reaches-row _ (start .args .x) _ _ (start .pre .0 .left) (loop-test .taken), start .pre .0 .few)
+
+-- src/sweeps.rt:106:13
+drift-requires : tie.Need-drift-requires Inv-loop μ-loop
+drift-requires c κs =
+    let start = c .before .before .before .before .before .before .before in
+    let loop-test = c .before .before .loop-test in
+    (reaches-row _ (start .args .x) _ _ (start .pre .1 .left) (loop-test .taken), start .pre .1 .few)
+
+-- src/sweeps.rt:107:13
+number-requires-2 : tie.Need-number-requires-2 Inv-loop μ-loop
+number-requires-2 c κs =
+    let start = c .before .before .before .before .before .before .before .before in
+    let loop-test = c .before .before .before .loop-test in
+    (reaches-row _ (start .args .y) _ _ (start .pre .0 .right) (loop-test .taken), start .pre .0 .few)
+
+-- src/sweeps.rt:108:13
+drift-requires-2 : tie.Need-drift-requires-2 Inv-loop μ-loop
+drift-requires-2 c κs =
+    let start = c .before .before .before .before .before .before .before .before .before in
+    let loop-test = c .before .before .before .before .loop-test in
+    (reaches-row _ (start .args .y) _ _ (start .pre .1 .right) (loop-test .taken), start .pre .1 .few)
+
+-- src/sweeps.rt:103:21
+less-agrees-requires : tie.Need-less-agrees-requires Inv-loop μ-loop
+less-agrees-requires c κs = tt
+
+-- src/sweeps.rt:110:9
+add-k : tie.Need-add-k Inv-loop μ-loop
+add-k c =
+    let start = c .before .before .before .before .before .before .before .before .before .before .before in
+    let there = start .pre .2 .there in
+    let few = start .pre .2 .few in
+    omega arith
+
+-- src/sweeps.rt:102:5
+loop-less : tie.Need-loop-less Inv-loop μ-loop
+loop-less c = omega arith
+
+-- src/sweeps.rt:102:5
+loop-again : tie.Need-loop-again Inv-loop μ-loop
+loop-again c =
+    let start = c .before .before .before .before .before .before .before .before .before .before .before in
+    let loop = c .before .before .before .before .before .before .before .loop in
+    let number = c .before .before .before .before .number in
+    let drift = c .before .before .before .drift in
+    let number2 = c .before .before .number2 in
+    let drift2 = c .before .drift2 in
+    (omega arith, sweep-next _ _ (loop .inv .1) (c .less-agrees .ensures ∙ ap₂ (λ (p q : Line). verdictAgrees (judgeLess p q) (markIn (now (start .args .table)) (start .args .m + loop .k))) (line-is (number .result) (drift .result) (number .ensures) (drift .ensures)) (line-is (number2 .result) (drift2 .result) (number2 .ensures) (drift2 .ensures))))
+
+-- src/sweeps.rt:88:1
+returns : tie.Need-returns Inv-loop μ-loop
+returns c =
+    let loop = c .before .loop in
+    sweep-end _ _ _ (loop .inv .0) (c .loop-test .left) (loop .inv .1)
+
+pub less-lines-spec : {M : Type 1} → statement M
+less-lines-spec =
+    tie.close
+    (tie.spec
+    Inv-loop
+    μ-loop
+    loop-holds
+    add-less-agrees
+    shared-slice-read-less-agrees
+    number-requires
+    drift-requires
+    number-requires-2
+    drift-requires-2
+    less-agrees-requires
+    add-k
+    loop-less
+    loop-again
+    returns)

@@ -1,0 +1,74 @@
+-- `lanes::sweeps::none_marked` meets its contract. Assumes nothing.
+use Prim.Native.Nat.{_+_, _-_, _≤_}
+use mathlib.Core.Path.{_≡_, refl}
+use mathlib.Core.Bool.{not}
+use native.Mathlib.Omega.{arith}
+use Rattle.table.specs.inner.Tables.{allBelow, markIn}
+use Rattle.table.proofs.AllBelow.{sweep-first, sweep-next, sweep-end}
+use Rattle.lanes.proofs.sweeps.none_marked.Statement.{statement}
+use Rattle.lanes.proofs.sweeps.none_marked.Tie as tie
+use Rattle.lanes.proofs.sweeps.none_marked.Reads as reads
+use Rattle.lanes.proofs.sweeps.none_marked.Lts as lts
+
+abbrev Inv-loop : tie.InvT-loop
+Inv-loop table m count all₀ k₀ all k = (k ≤ count) × (all ≡ allBelow (λ j. not (markIn table (m + j))) k)
+
+abbrev μ-loop : tie.MeasureT-loop
+μ-loop table m count all₀ k₀ all k = count - k
+
+-- src/sweeps.rt:24:5
+loop-holds : tie.Need-loop-holds Inv-loop μ-loop
+loop-holds c = (omega arith, sweep-first _)
+
+-- src/sweeps.rt:25:29
+add-all : tie.Need-add-all Inv-loop μ-loop
+add-all c =
+    let start = c .before .before in
+    let there = start .pre .there in
+    let few = start .pre .few in
+    omega arith
+
+-- src/sweeps.rt:25:23
+shared-slice-read-all : tie.Need-shared-slice-read-all Inv-loop μ-loop
+shared-slice-read-all c =
+    let start = c .before .before .before in
+    let there = start .pre .there in
+    omega arith
+
+-- src/sweeps.rt:26:9
+add-k : tie.Need-add-k Inv-loop μ-loop
+add-k c =
+    let start = c .before .before .before in
+    let there = start .pre .there in
+    let few = start .pre .few in
+    omega arith
+
+-- src/sweeps.rt:24:5
+loop-less : tie.Need-loop-less Inv-loop μ-loop
+loop-less c = omega arith
+
+-- src/sweeps.rt:24:5
+loop-again : tie.Need-loop-again Inv-loop μ-loop
+loop-again c =
+    let loop = c .before .before .loop in
+    (omega arith, sweep-next _ _ (loop .inv .1) refl)
+
+-- src/sweeps.rt:18:1
+returns : tie.Need-returns Inv-loop μ-loop
+returns c =
+    let loop = c .before .loop in
+    sweep-end _ _ _ (loop .inv .0) (c .loop-test .left) (loop .inv .1)
+
+pub none-marked-spec : {M : Type 1} → statement M
+none-marked-spec =
+    tie.close
+    (tie.spec
+    Inv-loop
+    μ-loop
+    loop-holds
+    add-all
+    shared-slice-read-all
+    add-k
+    loop-less
+    loop-again
+    returns)

@@ -1,0 +1,6 @@
+-- What only the contracts of inner functions cite: no promise of an entry point leans on it.
+pub mod Agreement
+pub mod Columns
+pub mod Direct
+pub mod Lanes
+pub mod Ranges

@@ -1,0 +1,36 @@
+-- Marks that say on every pass how two lines compare. Assumes nothing.
+use Prim.Native.Nat.{ℕ}
+use mathlib.Core.Bool.{Bool, true, false, not, Bool·beq}
+use mathlib.Core.List.{List}
+use Rattle.fields.specs.inner.Biased.{unbiased}
+use Rattle.verdict.specs.Lines.{Line}
+use Rattle.verdict.specs.Comparisons.{testOf, judgeLines}
+use Rattle.verdict.specs.declared.Relation.{Relation}
+use Rattle.verdict.specs.declared.Verdict.{Verdict}
+use Rattle.verdict.specs.declared.Verdict.the-variants.{AlwaysTrue, AlwaysFalse, Changes}
+use Rattle.lanes.specs.declared.columns.Column.{Column}
+use Rattle.lanes.specs.inner.Columns.{numberIn, lineIn}
+
+-- the line that begins at a and gains d on each pass, both kept without a sign
+abbrev pub lineFrom : ℕ → ℕ → Line
+lineFrom a d = record { at = unbiased a; step = unbiased d }
+
+-- a verdict says on every pass what the mark says
+abbrev pub verdictAgrees : Verdict → Bool → Bool
+verdictAgrees AlwaysTrue mark = mark
+verdictAgrees AlwaysFalse mark = not mark
+verdictAgrees Changes mark = false
+
+-- a verdict is no change
+abbrev pub stays : Verdict → Bool
+stays AlwaysTrue = true
+stays AlwaysFalse = true
+stays Changes = false
+
+-- the mark says how the numbers of two columns compare
+abbrev pub valuesAgree : Relation → List ℕ → Column → Column → Bool → ℕ → Bool
+valuesAgree relation values x y mark k = Bool·beq mark (testOf relation (numberIn values x k) (numberIn values y k))
+
+-- the mark says on every pass how the lines of two columns compare
+abbrev pub linesAgree : Relation → List ℕ → List ℕ → Column → Column → Bool → ℕ → Bool
+linesAgree relation values drifts x y mark k = verdictAgrees (judgeLines relation (lineIn values drifts x k) (lineIn values drifts y k)) mark

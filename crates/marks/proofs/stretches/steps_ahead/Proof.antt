@@ -1,0 +1,73 @@
+-- `marks::stretches::steps_ahead` meets its contract. Assumes nothing.
+use native.Mathlib.Omega.{arith}
+use denote.Ref.{now}
+use Rattle.marks.proofs.Swept as law
+use Rattle.marks.proofs.stretches.steps_ahead.Statement.{statement}
+use Rattle.marks.proofs.stretches.steps_ahead.Tie as tie
+use Rattle.marks.proofs.stretches.steps_ahead.Reads as reads
+use Rattle.marks.proofs.stretches.steps_ahead.Lts as lts
+use Rattle.table.proofs.sweeps.stepped.Reads as stepped-reads
+use Rattle.table.proofs.sweeps.steps.Reads as steps-reads
+
+-- src/stretches.rt:63:16
+add-last : tie.Need-add-last
+add-last c = let there = c .before .pre .1 .there in omega arith
+
+-- src/stretches.rt:63:16
+sub-last : tie.Need-sub-last
+sub-last c = omega arith
+
+-- src/stretches.rt:64:27
+add-steps : tie.Need-add-steps
+add-steps c = let there = c .before .pre .1 .there in omega arith
+
+-- src/stretches.rt:64:5
+steps-requires : tie.Need-steps-requires
+steps-requires c κs =
+    let start = c .before in
+    (law.but-last (start .args .p) (start .pre .0) (start .pre .1), law.but-last (start .args .p) (start .pre .0) (start .pre .2), law.but-last (start .args .p) (start .pre .0) (start .pre .3), law.but-first (start .args .p) (start .pre .0) (start .pre .1), start .pre .4)
+
+-- src/stretches.rt:65:26
+add-stepped : tie.Need-add-stepped
+add-stepped c = let there = c .before .before .pre .1 .there in omega arith
+
+-- src/stretches.rt:65:36
+add-stepped-2 : tie.Need-add-stepped-2
+add-stepped-2 c = let there = c .before .before .pre .2 .there in omega arith
+
+-- src/stretches.rt:65:46
+add-stepped-3 : tie.Need-add-stepped-3
+add-stepped-3 c = let there = c .before .before .pre .3 .there in omega arith
+
+-- src/stretches.rt:65:56
+add-stepped-4 : tie.Need-add-stepped-4
+add-stepped-4 c = let there = c .before .before .pre .1 .there in omega arith
+
+-- src/stretches.rt:65:11
+stepped-requires : tie.Need-stepped-requires
+stepped-requires c κs =
+    let start = c .before .before in
+    (law.on-last (start .args .p) (start .pre .0) (start .pre .1), law.on-last (start .args .p) (start .pre .0) (start .pre .2), law.on-last (start .args .p) (start .pre .0) (start .pre .3), law.on-start (start .args .p) (start .pre .0) (start .pre .1))
+
+-- src/stretches.rt:59:1
+returns : tie.Need-returns
+returns c =
+    let start = c .before .before .before in
+    let steps = c .before .steps in
+    let stepped = c .stepped in
+    law.steps-ahead (start .args .p) (start .args .c) (start .pre .0) (now (start .args .table)) (start .args .m) (start .args .a) (start .args .b) (start .args .opposite) (steps .ensures) (stepped .ensures)
+
+pub steps-ahead-spec : {M : Type 1} → statement M
+steps-ahead-spec =
+    tie.close
+    (tie.spec
+    add-last
+    sub-last
+    add-steps
+    steps-requires
+    add-stepped
+    add-stepped-2
+    add-stepped-3
+    add-stepped-4
+    stepped-requires
+    returns)

@@ -1,0 +1,17 @@
+-- `table::sweeps::higher` meets its contract. Assumes nothing.
+use borrow.Author.Tests.{lt-ltb, le-ltb}
+use Rattle.table.proofs.sweeps.higher.Statement.{statement}
+use Rattle.table.proofs.sweeps.higher.Tie as tie
+use Rattle.table.proofs.sweeps.higher.Reads as reads
+use Rattle.table.proofs.sweeps.higher.Lts as lts
+
+-- src/sweeps.rt:47:1
+returns : tie.Need-returns
+returns c = simp (lt-ltb _ _ (c .if1 .taken))
+
+-- src/sweeps.rt:47:1
+returns-2 : tie.Need-returns-2
+returns-2 c = simp (le-ltb _ _ (c .if1 .left))
+
+pub higher-spec : {M : Type 1} → statement M
+higher-spec = tie.close (tie.spec returns returns-2)

@@ -1,0 +1,17 @@
+-- `table::sweeps::lower` meets its contract. Assumes nothing.
+use borrow.Author.Tests.{lt-ltb, le-ltb}
+use Rattle.table.proofs.sweeps.lower.Statement.{statement}
+use Rattle.table.proofs.sweeps.lower.Tie as tie
+use Rattle.table.proofs.sweeps.lower.Reads as reads
+use Rattle.table.proofs.sweeps.lower.Lts as lts
+
+-- src/sweeps.rt:54:1
+returns : tie.Need-returns
+returns c = simp (lt-ltb _ _ (c .if1 .taken))
+
+-- src/sweeps.rt:54:1
+returns-2 : tie.Need-returns-2
+returns-2 c = simp (le-ltb _ _ (c .if1 .left))
+
+pub lower-spec : {M : Type 1} → statement M
+lower-spec = tie.close (tie.spec returns returns-2)
