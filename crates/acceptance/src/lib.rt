@@ -2,7 +2,7 @@
 ghost use mathlib.Core.Path.{_≡_};
 ghost use lib.ListN.{length};
 ghost use Rattle.plan.specs.Layout.{readings};
-ghost use Rattle.plan.specs.inner.Sizes.{allRows};
+ghost use Rattle.plan.specs.inner.Sizes.{allRows, mostArray};
 ghost use Rattle.plan.specs.inner.Drifts.{Still};
 ghost use Rattle.lanes.specs.inner.Lanes.{Laid, Lanes};
 ghost use Rattle.inputs.specs.inner.Read.{Ready};
@@ -101,7 +101,7 @@ fn check_drifting(
     n: usize,
     sizes: Sizes,
 ) -> Outcome
-    requires { ⌜ (Prepared (now rule) (now plan) (now table) n sizes) × (Laid (readings (now plan)) (sizes .channels) (allRows sizes) (now values)) × (length (now drifts) ≡ 8192) ⌝ }
+    requires { ⌜ (Prepared (now rule) (now plan) (now table) n sizes) × (Laid (readings (now plan)) (sizes .channels) (allRows sizes) (now values)) × (length (now drifts) ≡ mostArray) ⌝ }
     ensures { λ r. ⌜ r ≡ partsOutcome (now (rule .entry)) (now (plan .entry)) (now (table .entry)) ⌝ }
 {
     lay_drifts(plan, sizes, drifts);
@@ -137,7 +137,7 @@ fn check_laid(
     n: usize,
     sizes: Sizes,
 ) -> Outcome
-    requires { ⌜ (Prepared (now rule) (now plan) (now table) n sizes) × (length (now values) ≡ 8192) ⌝ }
+    requires { ⌜ (Prepared (now rule) (now plan) (now table) n sizes) × (length (now values) ≡ mostArray) ⌝ }
     ensures { λ r. ⌜ r ≡ partsOutcome (now (rule .entry)) (now (plan .entry)) (now (table .entry)) ⌝ }
 {
     lay_readings(plan, sizes, values);

@@ -1,9 +1,11 @@
--- All rows: each stretch of them by its sweep, and the sweeps together. Assumes nothing.
-use Prim.Native.Nat.{ℕ, _+_, _*_, _-_, min, max, _≤_, _<_}
+-- All rows: each stretch of positions by its sweep, and the sweeps together. Assumes nothing.
+use Prim.Native.Nat.{ℕ, _+_, _*_, _-_, max, _≤_, _<_}
+use native.Mathlib.Decide.{decLt}
 use native.Mathlib.Omega.{arith}
-use mathlib.Core.Path.{_≡_, refl, ap, _∙_, subst₂}
+use mathlib.Core.Path.{_≡_, refl, ap, _∙_}
 use mathlib.Core.Bool.{Bool, true, false, not, _&&_}
 use mathlib.Core.List.{List}
+use mathlib.Core.Logic.{by-cases}
 use lib.Dec.{eqb}
 use lib.IntN.{subℕ}
 use lib.ListN.{getD}
@@ -13,94 +15,133 @@ use Rattle.table.specs.Layout.{markByte, marked}
 use Rattle.table.specs.inner.Tables.{allBelow, markIn, Sized}
 use Rattle.table.proofs.AllBelow.{all-ext}
 use Rattle.verdict.specs.inner.Landed.{shiftIn}
-use Rattle.verdict.specs.inner.Reach.{TermsFit}
+use Rattle.verdict.specs.inner.Reach.{reach, TermsFit}
 use Rattle.verdict.specs.declared.Comparison.{Comparison}
+use Rattle.verdict.proofs.Landed.{read-inside}
 use Rattle.lanes.specs.declared.ranges.Ranges.{Ranges}
-use Rattle.lanes.specs.inner.Direct.{agreesOn, numbersSay, cycleSays, DirectRows, LongLanes}
+use Rattle.lanes.specs.inner.Direct.{agreesOn, numbersSay, linesSay, DirectRows, LongLanes}
 use Rattle.lanes.specs.inner.Lanes.{Laid, Lanes}
+use Rattle.lanes.specs.inner.Positions.{positionSays}
 use Rattle.lanes.specs.inner.Ranges.{OnFirstPass, Divides}
 use Rattle.lanes.specs.inner.Columns.{InMarks}
 use Rattle.lanes.proofs.Reaching.{marks-there, swept-on}
-use Rattle.lanes.proofs.Direct.{before-says, start-says, lines-say, numbers-say}
-
--- ranges by the lower and the higher code
-pub by-codes : (z : Sizes) (left right low high : ℕ) (r : Ranges) → low ≡ min left right → high ≡ max left right → Divides z low high r → Divides z (min left right) (max left right) r
-by-codes z left right low high r e g d = subst₂ (λ (a b : ℕ). Divides z a b r) e g d
-
-pub codes-fit : (left right low high : ℕ) → low ≡ min left right → high ≡ max left right → left ≤ 8 → right ≤ 8 → (low ≤ high) × (high ≤ 8)
-codes-fit left right low high e g h l = omega arith
+use Rattle.lanes.proofs.Direct.{before-says, numbers-say, still-numbers-say, lines-say}
+use Rattle.lanes.proofs.Positions.{positions-for-rows}
 
 -- the marks of a part from row 0 on
-pub marks-from-first : (table : List ℕ) (n w : ℕ) → Sized table n w → (i count : ℕ) → i < n → count ≤ w → InMarks table (4 + i * w) count
-marks-from-first table n w s i count l h =
-    let there = marks-there table n w s i 0 count l (omega arith) in
-    record { there = omega (arith, there .there); few = there .few }
+pub marks-from-first : (table : List ℕ) (n w : ℕ) → Sized table n w → (i count m : ℕ) → i < n → count ≤ w → m ≡ 4 + (i * w + 0) → InMarks table m count
+marks-from-first table n w s i count m l h e = marks-there table n w s i 0 count m l (omega arith) e
 
 pub long-lanes : (z : Sizes) {array lanes : List ℕ} → Laid array (z .channels) (allRows z) lanes → LongLanes z lanes
 long-lanes z laid = (laid .there, laid .few)
 
-module _ {plan : List ℕ} {z : Sizes} (f : Fitting plan z) {table : List ℕ} {n i : ℕ} (sized : Sized table n (allRows z)) (present : i < n) (x : Comparison) (fits : TermsFit z x)
-    (left right : ℕ) (small : (left ≤ 8) × (right ≤ 8)) (r : Ranges) (d : Divides z (min left right) (max left right) r) where
-  -- a stretch all of whose rows are on the first pass
-  stretch : (from to : ℕ) → to ≤ allRows z → ((row : ℕ) → from ≤ row → row < to → OnFirstPass z (min left right) (max left right) row) → DirectRows table n z i x left right from to
+-- what is known of the comparison that part i is, once its ranges are found
+pub record Ranged (plan table : List ℕ) (z : Sizes) (n i : ℕ) (x : Comparison) (left right back high : ℕ) (still : Bool) (r : Ranges) : Type 0 where
+  pub fitting : Fitting plan z
+  pub sized : Sized table n (allRows z)
+  pub present : i < n
+  pub terms-fit : TermsFit z x
+  pub small : (left ≤ 8) × (right ≤ 8)
+  pub left-code : subℕ left 4 ≡ shiftIn (x .left)
+  pub right-code : subℕ right 4 ≡ shiftIn (x .right)
+  pub farther : back ≡ max (reach (x .left)) (reach (x .right))
+  pub higher : high ≡ max left right
+  pub divided : Divides z back high still r
+
+module _ {plan table : List ℕ} {z : Sizes} {n i : ℕ} {x : Comparison} {left right back high : ℕ} {still : Bool} {r : Ranges} (known : Ranged plan table z n i x left right back high still r) where
+  f : Fitting plan z
+  f = known .fitting
+
+  d : Divides z back high still r
+  d = known .divided
+
+  -- where both terms are read
+  low : (t : ℕ) → back ≤ t → (4 ≤ t + left) × (4 ≤ t + right)
+  low t h =
+      let farther = known .farther in
+      (read-inside (x .left) 0 t left (omega arith) (known .left-code), read-inside (x .right) 0 t right (omega arith) (known .right-code))
+
+  below : (t : ℕ) → t + high < allRows z + 4 → (t + left < allRows z + 4) × (t + right < allRows z + 4)
+  below t h = let higher = known .higher in (omega arith, omega arith)
+
+  in-cycle : (t : ℕ) → z .start + back ≤ t → (z .start + 4 ≤ t + left) × (z .start + 4 ≤ t + right)
+  in-cycle t h =
+      let farther = known .farther in
+      (read-inside (x .left) (z .start) t left (omega arith) (known .left-code), read-inside (x .right) (z .start) t right (omega arith) (known .right-code))
+
+  -- a stretch all of whose positions are on the first pass
+  stretch : (from to : ℕ) → to ≤ allRows z → ((t : ℕ) → from ≤ t → t < to → OnFirstPass z back high t) → DirectRows table n z i x left right from to
   stretch from to few on = record {
     few-channels = f .few-channels;
-    sized = sized;
-    present = present;
-    terms-fit = fits;
+    sized = known .sized;
+    present = known .present;
+    terms-fit = known .terms-fit;
     few-rows = few;
-    left-in = λ h. let first = on from (omega arith) h .0 in let last = on (to - 1) (omega arith) (omega arith) .1 in (omega arith, omega arith);
-    right-in = λ h. let first = on from (omega arith) h .0 in let last = on (to - 1) (omega arith) (omega arith) .1 in (omega arith, omega arith);
-    small = small;
+    left-in = λ h. (low from (on from (omega arith) h .0) .0, omega (arith, below (to - 1) (on (to - 1) (omega arith) (omega arith) .1) .0));
+    right-in = λ h. (low from (on from (omega arith) h .0) .1, omega (arith, below (to - 1) (on (to - 1) (omega arith) (omega arith) .1) .1));
+    small = known .small;
   }
 
-  pub start-stretch : DirectRows table n z i x left right (r .before) (r .start)
-  start-stretch = stretch (r .before) (r .start) (let order = d .in-order in omega arith) (λ row l k. d .start-direct row l k .1)
+  pub numbers-stretch : DirectRows table n z i x left right (r .before) (r .numbers)
+  numbers-stretch = stretch (r .before) (r .numbers) (let order = d .in-order in omega arith) (λ t l k. d .numbers-direct t l k .0)
 
-  pub cycle-stretch : DirectRows table n z i x left right (r .cycle) (r .end)
-  cycle-stretch = stretch (r .cycle) (r .end) (d .in-order .3) (λ row l k. d .cycle-direct row l k .2)
+  pub lines-stretch : DirectRows table n z i x left right (r .numbers) (r .end)
+  lines-stretch = stretch (r .numbers) (r .end) (d .in-order .2) (λ t l k. d .lines-direct t l k .0)
 
-  module _ (gl : subℕ left 4 ≡ shiftIn (x .left)) (gr : subℕ right 4 ≡ shiftIn (x .right)) {values steps : List ℕ} {still : Bool} (lanes : Lanes plan z values steps still) where
-    abbrev says : ℕ → Bool
-    says = agreesOn plan table (allRows z) i x
+  module _ {values steps : List ℕ} (lanes : Lanes plan z values steps still) where
+    abbrev at : ℕ → Bool
+    at = positionSays plan table z i x (z .start + back)
 
     abbrev mark : ℕ → Bool
     mark = marked (allRows z) table i
 
-    before-swept : {A : Bool} → A ≡ allBelow (λ k. not (markIn table (4 + i * allRows z + k))) (r .before) → A ≡ allBelow says (r .before)
+    -- Where lines are swept something drifts.
+    pub lines-lanes : r .numbers < r .end → LongLanes z steps
+    lines-lanes h = long-lanes z (lanes .drifts-laid (d .lines-direct (r .numbers) (omega arith) h .2))
+
+    before-swept : (m : ℕ) → m ≡ 4 + (i * allRows z + 0) → {A : Bool} → A ≡ allBelow (λ k. not (markIn table (m + k))) (r .before) → A ≡ allBelow at (r .before)
     unfolding marked markByte
-    before-swept e =
-        e ∙ all-ext _ _ (r .before) (λ k l.
-        let place : 4 + i * allRows z + k ≡ 4 + (i * allRows z + k) = omega arith in
-        let row = d .reach-before k l in
-        ap (λ (j : ℕ). not (eqb (getD table j 0) 1)) place ∙ before-says f table i x left right gl gr fits k (row .0) (row .1))
-
-    start-swept : {B : Bool} → B ≡ allBelow (λ k. numbersSay values (allRows z) x left right (mark (r .before + k)) (r .before + k)) (r .start - r .before)
-        → B ≡ allBelow (λ k. says (r .before + k)) (r .start - r .before)
-    start-swept e =
-        e ∙ all-ext _ _ (r .start - r .before) (λ k l.
-        let row = d .start-direct (r .before + k) (omega arith) (omega arith) in
-        start-says f table i x left right gl gr fits (r .before + k) values (lanes .readings-laid) (row .1) (row .0))
-
-    cycle-swept : {D : Bool} → D ≡ allBelow (λ k. cycleSays values (allRows z) x left right still steps (mark (r .cycle + k)) (r .cycle + k)) (r .end - r .cycle)
-        → D ≡ allBelow (λ k. says (r .cycle + k)) (r .end - r .cycle)
-    cycle-swept e = e ∙ all-ext _ _ (r .end - r .cycle) (λ k l. row k (d .cycle-direct (r .cycle + k) (omega arith) (omega arith)) still refl)
-      where
-        row : (k : ℕ) → (z .start ≤ r .cycle + k) × (z .start + 4 ≤ r .cycle + k + min left right) × OnFirstPass z (min left right) (max left right) (r .cycle + k)
-            → (b : Bool) → still ≡ b → cycleSays values (allRows z) x left right b steps (mark (r .cycle + k)) (r .cycle + k) ≡ says (r .cycle + k)
-        row k on true e = numbers-say f table i x left right gl gr fits (r .cycle + k) values (lanes .readings-laid) (on .2) (on .0) (on .1) (lanes .no-drift e)
-        row k on false e = lines-say f table i x left right gl gr fits (r .cycle + k) values (lanes .readings-laid) (on .2) (on .0) (on .1) steps (lanes .drifts-laid e)
-
-    -- the five together
-    pub all-swept : {A B C D E : Bool} → A ≡ allBelow (λ k. not (markIn table (4 + i * allRows z + k))) (r .before)
-        → B ≡ allBelow (λ k. numbersSay values (allRows z) x left right (mark (r .before + k)) (r .before + k)) (r .start - r .before)
-        → C ≡ allBelow (λ k. says (r .start + k)) (r .cycle - r .start)
-        → D ≡ allBelow (λ k. cycleSays values (allRows z) x left right still steps (mark (r .cycle + k)) (r .cycle + k)) (r .end - r .cycle)
-        → E ≡ allBelow (λ k. says (r .end + k)) (allRows z - r .end)
-        → ((((A && B) && C) && D) && E) ≡ allBelow says (allRows z)
-    all-swept a b c e g =
+    before-swept m first e =
+        e ∙ all-ext _ _ (r .before) (λ t l.
         let order = d .in-order in
-        swept-on says (r .end) (allRows z) (order .3)
-        (swept-on says (r .cycle) (r .end) (order .2)
-        (swept-on says (r .start) (r .cycle) (order .1)
-        (swept-on says (r .before) (r .start) (order .0) (before-swept a) (start-swept b)) c) (cycle-swept e)) g
+        let place : m + t ≡ 4 + (i * allRows z + t) = omega arith in
+        let reached = d .reach-before t l in
+        let farther = known .farther in
+        ap (λ (j : ℕ). not (eqb (getD table j 0) 1)) place
+        ∙ before-says f table i x left right (known .left-code) (known .right-code) (known .terms-fit) (z .start + back) t (omega arith) (omega arith) (omega arith))
+
+    numbers-swept : {B : Bool} → B ≡ allBelow (λ k. numbersSay values (allRows z) x left right (mark (r .before + k)) (r .before + k)) (r .numbers - r .before)
+        → B ≡ allBelow (λ k. at (r .before + k)) (r .numbers - r .before)
+    numbers-swept e = e ∙ all-ext _ _ (r .numbers - r .before) (λ k l. position (r .before + k) (d .numbers-direct (r .before + k) (omega arith) (omega arith)) (let order = d .in-order in omega arith))
+      where
+        position : (t : ℕ) → OnFirstPass z back high t × (still ≡ false → t < z .start + back) → t < allRows z → numbersSay values (allRows z) x left right (mark t) t ≡ at t
+        position t on few =
+            by-cases (decLt t (z .start + back))
+            (numbers-say f table i x left right (known .left-code) (known .right-code) (known .terms-fit) (z .start + back) t few values (lanes .readings-laid) (low t (on .0 .0)) (below t (on .0 .1)))
+            (λ h. settled (omega arith) still refl)
+          where
+            settled : z .start + back ≤ t → (b : Bool) → still ≡ b → numbersSay values (allRows z) x left right (mark t) t ≡ at t
+            settled h true e =
+                still-numbers-say f table i x left right (known .left-code) (known .right-code) (known .terms-fit) (z .start + back) t few values (lanes .readings-laid) (low t (on .0 .0)) (below t (on .0 .1)) h (lanes .no-drift e) (in-cycle t h)
+            settled h false e = absurd (let early = on .1 e in omega arith)
+
+    lines-swept : {D : Bool} → D ≡ allBelow (λ k. linesSay values (allRows z) x left right steps (mark (r .numbers + k)) (r .numbers + k)) (r .end - r .numbers)
+        → D ≡ allBelow (λ k. at (r .numbers + k)) (r .end - r .numbers)
+    lines-swept e =
+        e ∙ all-ext _ _ (r .end - r .numbers) (λ k l.
+        let on = d .lines-direct (r .numbers + k) (omega arith) (omega arith) in
+        lines-say f table i x left right (known .left-code) (known .right-code) (known .terms-fit) (z .start + back) (r .numbers + k) (let order = d .in-order in omega arith) values (lanes .readings-laid)
+        (low (r .numbers + k) (on .0 .0)) (below (r .numbers + k) (on .0 .1)) (on .1) steps (lanes .drifts-laid (on .2)))
+
+    -- the four together
+    pub all-swept : (m : ℕ) → m ≡ 4 + (i * allRows z + 0) → {A B D E : Bool} → A ≡ allBelow (λ k. not (markIn table (m + k))) (r .before)
+        → B ≡ allBelow (λ k. numbersSay values (allRows z) x left right (mark (r .before + k)) (r .before + k)) (r .numbers - r .before)
+        → D ≡ allBelow (λ k. linesSay values (allRows z) x left right steps (mark (r .numbers + k)) (r .numbers + k)) (r .end - r .numbers)
+        → E ≡ allBelow (λ k. at (r .end + k)) (allRows z + back - r .end)
+        → (((A && B) && D) && E) ≡ allBelow (agreesOn plan table (allRows z) i x) (allRows z)
+    all-swept m first a b e g =
+        let order = d .in-order in
+        swept-on at (r .end) (allRows z + back) (omega arith)
+        (swept-on at (r .numbers) (r .end) (order .1)
+        (swept-on at (r .before) (r .numbers) (order .0) (before-swept m first a) (numbers-swept b)) (lines-swept e)) g
+        ∙ (let farther = known .farther in positions-for-rows f table i x (known .terms-fit) back (omega arith) (omega arith))

@@ -1,7 +1,5 @@
--- Direct rows: what stands in the lanes is what the run gives there, and the verdict on the row is that on the two lines that
--- begin there. Assumes nothing.
-use Prim.Native.Nat.{ℕ, suc, _+_, _*_, _-_, min, max, _≤_, _<_}
-use native.Mathlib.Nat.{mul-le-mul-right}
+-- Direct positions: what stands in the lanes is what the run gives there, and the marks are held against that. Assumes nothing.
+use Prim.Native.Nat.{ℕ, suc, _+_, _*_, _-_, max, _≤_, _<_}
 use native.Mathlib.Decide.{decLt}
 use native.Mathlib.Omega.{arith}
 use mathlib.Core.Path.{_≡_, refl, sym, ap, ap₂, _∙_}
@@ -9,6 +7,7 @@ use mathlib.Core.Bool.{Bool, true, false, not, Bool·beq}
 use mathlib.Core.List.{List}
 use mathlib.Core.Logic.{by-cases}
 use lib.IntN.{ℤ, pos, negsuc, subℕ, _+ℤ_, _*ℤ_, +ℤ-idr}
+use borrow.Author.Tests.{lt-ltb, le-ltb}
 use Rattle.cltlb.specs.Run.{Seen, number, beforeRun}
 use Rattle.cltlb.specs.Truth.{valueAt}
 use Rattle.cltlb.specs.Fits.{termFits}
@@ -27,27 +26,28 @@ use Rattle.plan.proofs.Rows.{row-start, pass-start}
 use Rattle.plan.proofs.Shifts.{shifted, before-run}
 use Rattle.verdict.specs.Comparisons.{testOf, ofNumber, tested, judgeLines}
 use Rattle.verdict.specs.Lines.{Line}
-use Rattle.verdict.specs.Rows.{channelLine, termLine, joinFirst, testAt, judgeRow}
+use Rattle.verdict.specs.Rows.{channelLine, termLine, testAt}
 use Rattle.verdict.specs.inner.Landed.{shiftIn}
 use Rattle.verdict.specs.inner.Reach.{back, reach, TermsFit}
+use Rattle.verdict.specs.inner.Settled.{judgeFrom}
 use Rattle.verdict.specs.declared.Comparison.{Comparison}
-use Rattle.verdict.proofs.Values.{cycle-is, on-cycle-row, on-start-row}
 use Rattle.lanes.specs.inner.Agreement.{verdictAgrees}
 use Rattle.lanes.specs.inner.Columns.{laneNumber, laneDrift}
-use Rattle.lanes.specs.inner.Direct.{agreesOn, numbersSay, linesSay}
+use Rattle.lanes.specs.inner.Direct.{numbersSay, linesSay}
 use Rattle.lanes.specs.inner.Lanes.{LaidTo, Laid}
-use Rattle.lanes.specs.inner.Ranges.{OnFirstPass}
+use Rattle.lanes.specs.inner.Positions.{saysAt, positionSays}
 use Rattle.table.specs.Layout.{marked}
-use Rattle.lanes.proofs.Comparing.{level, level-agrees, truth-agrees}
+use Rattle.table.proofs.Places.{cell}
+use Rattle.lanes.proofs.Comparing.{level, level-agrees}
 
 -- ---- shifts
 
--- A term that is read in the cycle does not reach before it.
-pub reaches-inside : (x : Term) (p t code : ℕ) → subℕ code 4 ≡ shiftIn x → p + 4 ≤ t + code → p ≤ t → p + reach x ≤ t
+-- A term that reaches farther back than a position is read before the run there.
+pub reads-before : (x : Term) (t code : ℕ) → subℕ code 4 ≡ shiftIn x → t < reach x → t + code < 4
 unfolding reach back
-reaches-inside (Constant z) p t code g h l = omega arith
-reaches-inside (Reading channel (pos n)) p t code g h l = omega arith
-reaches-inside (Reading channel (negsuc n)) p t code g h l = let k = sub-eq code 4 0 (suc n) .0 (g ∙ negsuc-sub n) in omega arith
+reads-before (Constant z) t code g h = absurd (omega arith)
+reads-before (Reading channel (pos n)) t code g h = absurd (omega arith)
+reads-before (Reading channel (negsuc n)) t code g h = let k = sub-eq code 4 0 (suc n) .0 (g ∙ negsuc-sub n) in omega arith
 
 -- A term that is read before the run.
 seen-before : (plan : List ℕ) (x : Term) (t code : ℕ) → subℕ code 4 ≡ shiftIn x → t + code < 4 → valueAt (runOf plan) x t ≡ beforeRun
@@ -73,11 +73,7 @@ no-passes z d = ap (λ (x : ℤ). z +ℤ x) (none d) ∙ +ℤ-idr z
     none : (d : ℤ) → pos 0 *ℤ d ≡ pos 0
     none = by-sub (λ d. pos 0 *ℤ d ≡ pos 0) (λ a b. sub-mul 0 a b ∙ sub-same (0 * a) (0 * b) 0 0 (omega arith) ∙ sym (pos-sub 0))
 
--- a place in the lanes
-inside : (w v channel at : ℕ) → channel < v → at < w → channel * w + at < v * w
-inside w v channel at h l = let g : (channel + 1) * w ≤ v * w = mul-le-mul-right w (omega arith) in omega arith
-
--- ---- terms on direct rows
+-- ---- terms at direct positions
 
 module _ {plan : List ℕ} {z : Sizes} (f : Fitting plan z) (row : ℕ) where
   module _ (channel code : ℕ) (shift : ℤ) (g : subℕ code 4 ≡ shift) (low : 4 ≤ row + code) (high : row + code < allRows z + 4) where
@@ -126,7 +122,7 @@ module _ {plan : List ℕ} {z : Sizes} (f : Fitting plan z) (row : ℕ) where
           go : (x : Term) → subℕ code 4 ≡ shiftIn x → termFits (z .channels) x ≡ true → laneNumber values (allRows z) x code row ≡ termLine plan x row .at
           go (Constant c) e h = refl
           go (Reading channel shift) e h =
-              ap (signedOf 4) (laid .laid channel (row + code - 4) (omega arith) (inside (allRows z) (z .channels) channel (row + code - 4) (reading-fits (z .channels) channel shift h .0) (omega arith)))
+              ap (signedOf 4) (laid .laid channel (row + code - 4) (omega arith) (cell (z .channels) (allRows z) channel (row + code - 4) (reading-fits (z .channels) channel shift h .0) (omega arith)))
               ∙ sym (direct-number channel code shift e low high ∙ rw (f .v-is) refl)
 
       pub lane-drift-is : (steps : List ℕ) → Laid (drifts plan) (z .channels) (allRows z) steps → laneDrift steps (allRows z) x code row ≡ termLine plan x row .step
@@ -136,7 +132,7 @@ module _ {plan : List ℕ} {z : Sizes} (f : Fitting plan z) (row : ℕ) where
           go : (x : Term) → subℕ code 4 ≡ shiftIn x → termFits (z .channels) x ≡ true → laneDrift steps (allRows z) x code row ≡ termLine plan x row .step
           go (Constant c) e h = refl
           go (Reading channel shift) e h =
-              ap (signedOf 4) (laid .laid channel (row + code - 4) (omega arith) (inside (allRows z) (z .channels) channel (row + code - 4) (reading-fits (z .channels) channel shift h .0) (omega arith)))
+              ap (signedOf 4) (laid .laid channel (row + code - 4) (omega arith) (cell (z .channels) (allRows z) channel (row + code - 4) (reading-fits (z .channels) channel shift h .0) (omega arith)))
               ∙ sym (direct-drift channel code shift e low high ∙ rw (f .v-is) refl)
 
       -- in a cycle in which nothing drifts
@@ -150,76 +146,72 @@ module _ {plan : List ℕ} {z : Sizes} (f : Fitting plan z) (row : ℕ) where
               ap (λ (s : ℤ). record { at = termLine plan (Reading channel shift) row .at; step = s })
               (direct-drift channel code shift e low high ∙ still (row + code - 4) channel (omega arith) (omega arith) (rw (f .v-is) (reading-fits (z .channels) channel shift h .0)))
 
--- ---- verdicts on rows
+-- ---- direct positions
 
-module _ {plan : List ℕ} {z : Sizes} (f : Fitting plan z) (table : List ℕ) (i : ℕ) (x : Comparison) (left right : ℕ) (gl : subℕ left 4 ≡ shiftIn (x .left)) (gr : subℕ right 4 ≡ shiftIn (x .right)) (fits : TermsFit z x) (row : ℕ) where
+module _ {plan : List ℕ} {z : Sizes} (f : Fitting plan z) (table : List ℕ) (i : ℕ) (x : Comparison) (left right : ℕ) (gl : subℕ left 4 ≡ shiftIn (x .left)) (gr : subℕ right 4 ≡ shiftIn (x .right)) (fits : TermsFit z x)
+    (lines t : ℕ) (few : t < allRows z) where
+  -- The row of a position of pass 0 is the position.
   abbrev mark : Bool
-  mark = marked (allRows z) table i row
+  mark = marked (allRows z) table i t
 
-  -- A start row has one position, and its verdict is the truth there.
-  start-verdict : row < z .start → verdictAgrees (judgeRow plan x row) mark ≡ Bool·beq mark (testAt plan x row)
-  start-verdict h = ap (λ v. verdictAgrees v mark) (sym (on-start-row f x row h (testAt plan x row) (testAt plan x row) refl refl)) ∙ sym (truth-agrees (testAt plan x row) mark)
+  at-own-row : positionSays plan table z i x lines t ≡ saysAt plan x lines mark t
+  at-own-row = ap (λ (row : ℕ). saysAt plan x lines (marked (allRows z) table i row) t) (row-start (z .start) (z .cycle) t few)
+
+  alone : t < lines → positionSays plan table z i x lines t ≡ Bool·beq mark (testAt plan x t)
+  alone h = at-own-row ∙ simp (lt-ltb t lines h)
+
+  settled : lines ≤ t → positionSays plan table z i x lines t ≡ verdictAgrees (judgeFrom plan x t) mark
+  settled h = at-own-row ∙ simp (le-ltb t lines h)
 
   -- where a term is read before the run
-  pub before-says : row < z .start → row + min left right < 4 → not mark ≡ agreesOn plan table (allRows z) i x row
+  pub before-says : t < max (reach (x .left)) (reach (x .right)) → t < lines → not mark ≡ positionSays plan table z i x lines t
   unfolding testAt
-  before-says h l = sym (start-verdict h ∙ ap (Bool·beq mark) blank ∙ is-not mark)
+  before-says l h = sym (alone h ∙ ap (Bool·beq mark) blank ∙ is-not mark)
     where
       is-not : (b : Bool) → Bool·beq b false ≡ not b
       is-not true = refl
       is-not false = refl
 
-      blank : testAt plan x row ≡ false
+      blank : testAt plan x t ≡ false
       blank =
-          by-cases (decLt left right)
-          (λ s. blank-left (testOf (x .relation)) (valueAt (runOf plan) (x .right) row) (seen-before plan (x .left) row left gl (omega arith)))
-          (λ s. blank-right (testOf (x .relation)) (valueAt (runOf plan) (x .left) row) (seen-before plan (x .right) row right gr (omega arith)))
+          by-cases (decLt t (reach (x .left)))
+          (λ s. blank-left (testOf (x .relation)) (valueAt (runOf plan) (x .right) t) (seen-before plan (x .left) t left gl (reads-before (x .left) t left gl s)))
+          (λ s. blank-right (testOf (x .relation)) (valueAt (runOf plan) (x .left) t) (seen-before plan (x .right) t right gr (reads-before (x .right) t right gr (omega arith))))
 
-  module _ (values : List ℕ) (laid : Laid (readings plan) (z .channels) (allRows z) values) (on : OnFirstPass z (min left right) (max left right) row) where
-    left-number : laneNumber values (allRows z) (x .left) left row ≡ termLine plan (x .left) row .at
-    left-number = lane-number-is f row (x .left) left gl (omega (arith, on .0)) (omega (arith, on .1)) (fits .0) values laid
+  -- where both terms are read on pass 0
+  module _ (values : List ℕ) (laid : Laid (readings plan) (z .channels) (allRows z) values) (low : (4 ≤ t + left) × (4 ≤ t + right)) (high : (t + left < allRows z + 4) × (t + right < allRows z + 4)) where
+    left-number : laneNumber values (allRows z) (x .left) left t ≡ termLine plan (x .left) t .at
+    left-number = lane-number-is f t (x .left) left gl (low .0) (high .0) (fits .0) values laid
 
-    right-number : laneNumber values (allRows z) (x .right) right row ≡ termLine plan (x .right) row .at
-    right-number = lane-number-is f row (x .right) right gr (omega (arith, on .0)) (omega (arith, on .1)) (fits .1) values laid
+    right-number : laneNumber values (allRows z) (x .right) right t ≡ termLine plan (x .right) t .at
+    right-number = lane-number-is f t (x .right) right gr (low .1) (high .1) (fits .1) values laid
 
-    -- a direct start row
-    pub start-says : row < z .start → numbersSay values (allRows z) x left right mark row ≡ agreesOn plan table (allRows z) i x row
+    -- by the numbers, before the lines
+    pub numbers-say : t < lines → numbersSay values (allRows z) x left right mark t ≡ positionSays plan table z i x lines t
     unfolding testAt tested ofNumber
-    start-says h = sym (start-verdict h ∙ ap (Bool·beq mark) seen)
+    numbers-say h = sym (alone h ∙ ap (Bool·beq mark) seen)
       where
-        seen : testAt plan x row ≡ testOf (x .relation) (laneNumber values (allRows z) (x .left) left row) (laneNumber values (allRows z) (x .right) right row)
+        seen : testAt plan x t ≡ testOf (x .relation) (laneNumber values (allRows z) (x .left) left t) (laneNumber values (allRows z) (x .right) right t)
         seen =
             ap₂ (tested (testOf (x .relation)))
-            (seen-direct f row (x .left) left gl (omega (arith, on .0)) (omega (arith, on .1)) ∙ ap number (sym left-number))
-            (seen-direct f row (x .right) right gr (omega (arith, on .0)) (omega (arith, on .1)) ∙ ap number (sym right-number))
+            (seen-direct f t (x .left) left gl (low .0) (high .0) ∙ ap number (sym left-number))
+            (seen-direct f t (x .right) right gr (low .1) (high .1) ∙ ap number (sym right-number))
 
-    -- a direct cycle row
-    module _ (h : z .start ≤ row) (inside : z .start + 4 ≤ row + min left right) where
-      -- both terms from the row on are straight lines
-      cycle-verdict : judgeLines (x .relation) (termLine plan (x .left) row) (termLine plan (x .right) row) ≡ judgeRow plan x row
-      unfolding joinFirst
-      cycle-verdict =
-          ap (λ (t : ℕ). judgeLines (x .relation) (termLine plan (x .left) t) (termLine plan (x .right) t)) here
-          ∙ cycle-is f x fits row 0 h
-          (omega (arith, reaches-inside (x .left) (z .start) row left gl (omega arith) h), omega (arith, reaches-inside (x .right) (z .start) row right gr (omega arith) h))
-          _ _ refl refl _ refl refl
-          ∙ on-cycle-row f x row h
-        where
-          here : row ≡ row + 0 * z .cycle
-          here = omega arith
+    -- from there on by the lines,
+    pub lines-say : lines ≤ t → (steps : List ℕ) → Laid (drifts plan) (z .channels) (allRows z) steps → linesSay values (allRows z) x left right steps mark t ≡ positionSays plan table z i x lines t
+    lines-say h steps down =
+        ap₂ (λ (p q : Line). verdictAgrees (judgeLines (x .relation) p q) mark)
+        (ap₂ (λ (m n : ℤ). record { at = m; step = n }) left-number (lane-drift-is f t (x .left) left gl (low .0) (high .0) (fits .0) steps down))
+        (ap₂ (λ (m n : ℤ). record { at = m; step = n }) right-number (lane-drift-is f t (x .right) right gr (low .1) (high .1) (fits .1) steps down))
+        ∙ sym (settled h)
 
-      pub lines-say : (steps : List ℕ) → Laid (drifts plan) (z .channels) (allRows z) steps → linesSay values (allRows z) x left right steps mark row ≡ agreesOn plan table (allRows z) i x row
-      lines-say steps down =
-          ap₂ (λ (p q : Line). verdictAgrees (judgeLines (x .relation) p q) mark)
-          (ap₂ (λ (m n : ℤ). record { at = m; step = n }) left-number (lane-drift-is f row (x .left) left gl (omega (arith, on .0)) (omega (arith, on .1)) (fits .0) steps down))
-          (ap₂ (λ (m n : ℤ). record { at = m; step = n }) right-number (lane-drift-is f row (x .right) right gr (omega (arith, on .0)) (omega (arith, on .1)) (fits .1) steps down))
-          ∙ ap (λ v. verdictAgrees v mark) cycle-verdict
-
-      pub numbers-say : Still plan (z .start) (allRows z) → numbersSay values (allRows z) x left right mark row ≡ agreesOn plan table (allRows z) i x row
-      numbers-say still =
-          ap (Bool·beq mark) (ap₂ (testOf (x .relation)) left-number right-number)
-          ∙ level-agrees (x .relation) (termLine plan (x .left) row .at) (termLine plan (x .right) row .at) mark
-          ∙ ap₂ (λ (p q : Line). verdictAgrees (judgeLines (x .relation) p q) mark)
-          (sym (level-there f row (x .left) left gl (omega (arith, on .0)) (omega (arith, on .1)) (fits .0) still (omega arith)))
-          (sym (level-there f row (x .right) right gr (omega (arith, on .0)) (omega (arith, on .1)) (fits .1) still (omega arith)))
-          ∙ ap (λ v. verdictAgrees v mark) cycle-verdict
+    -- or by the numbers too, where nothing drifts in the cycle
+    pub still-numbers-say : lines ≤ t → Still plan (z .start) (allRows z) → (z .start + 4 ≤ t + left) × (z .start + 4 ≤ t + right)
+        → numbersSay values (allRows z) x left right mark t ≡ positionSays plan table z i x lines t
+    still-numbers-say h still inside =
+        ap (Bool·beq mark) (ap₂ (testOf (x .relation)) left-number right-number)
+        ∙ level-agrees (x .relation) (termLine plan (x .left) t .at) (termLine plan (x .right) t .at) mark
+        ∙ ap₂ (λ (p q : Line). verdictAgrees (judgeLines (x .relation) p q) mark)
+        (sym (level-there f t (x .left) left gl (low .0) (high .0) (fits .0) still (inside .0)))
+        (sym (level-there f t (x .right) right gr (low .1) (high .1) (fits .1) still (inside .1)))
+        ∙ sym (settled h)

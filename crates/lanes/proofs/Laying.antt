@@ -10,7 +10,7 @@ use lib.ListN.{length, getD, take, drop, length-take, length-drop}
 use Rattle.fields.specs.LittleEndian.{numberAt, bytesOf}
 use Rattle.fields.proofs.Widths.{number4, number-of-bytes}
 use Rattle.plan.specs.Layout.{headLength, arrayLength, cell}
-use Rattle.plan.specs.inner.Sizes.{allRows, Fitting}
+use Rattle.plan.specs.inner.Sizes.{allRows, mostArray, Fitting}
 use Rattle.plan.specs.declared.sizes.Sizes.{Sizes}
 use Rattle.plan.proofs.Arrays.{array-le, cell-lt}
 use Rattle.table.specs.inner.Stored.{Stored}
@@ -64,7 +64,7 @@ module _ (array : List ℕ) (v w : ℕ) where
     pub number-there : (channel row : ℕ) → channel < v → row < w → 4 * cell v row channel + 4 ≤ length array
     number-there channel row l h = let whole = room .whole in omega (arith, cell-lt v w row channel h l)
 
-    pub place-there : (channel row : ℕ) → channel < v → row < w → (4 * (channel * w + row) + 4 ≤ length lanes) × (length lanes ≤ 8192)
+    pub place-there : (channel row : ℕ) → channel < v → row < w → (4 * (channel * w + row) + 4 ≤ length lanes) × (length lanes ≤ mostArray)
     unfolding arrayLength
     place-there channel row l h = let there = room .there in let places = few-places channel l in (omega (arith, places .0), room .few)
 
@@ -86,7 +86,7 @@ module _ (array : List ℕ) (v w : ℕ) where
 
 -- ---- the arrays of a plan
 
-module _ {plan : List ℕ} {z : Sizes} (f : Fitting plan z) {lanes : List ℕ} (long : length lanes ≡ 8192) where
+module _ {plan : List ℕ} {z : Sizes} (f : Fitting plan z) {lanes : List ℕ} (long : length lanes ≡ mostArray) where
   -- a part of the plan that is as long as an array
   part-room : (a e : ℕ) → e ≡ a + arrayLength (z .channels) (allRows z) → e ≤ length plan → Room (take (e - a) (drop a plan)) (z .channels) (allRows z) lanes
   unfolding arrayLength

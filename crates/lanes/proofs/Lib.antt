@@ -2,6 +2,7 @@ pub mod Comparing
 pub mod Reaching
 pub mod Sweeping
 pub mod Laying
+pub mod Positions
 pub mod Standing
 pub mod Stretches
 pub mod Direct

@@ -22,8 +22,8 @@ module _ (lanes : List ℕ) (x : Column) where
   in-reach k h e = let g = h e in omega arith
 
 -- the marks of part i from a row on
-pub marks-there : (table : List ℕ) (n w : ℕ) → Sized table n w → (i row count : ℕ) → i < n → row + count ≤ w → InMarks table (4 + (i * w + row)) count
-marks-there table n w s i row count l h = record {
+pub marks-there : (table : List ℕ) (n w : ℕ) → Sized table n w → (i row count m : ℕ) → i < n → row + count ≤ w → m ≡ 4 + (i * w + row) → InMarks table m count
+marks-there table n w s i row count m l h e = record {
   there = let whole = s .whole in omega (arith, part-cells n w i l);
   few = let whole = s .whole in let parts = s .few-parts in omega (arith, area n w (s .few-parts) (s .few-rows));
 }

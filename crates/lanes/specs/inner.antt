@@ -3,4 +3,5 @@ pub mod Agreement
 pub mod Columns
 pub mod Direct
 pub mod Lanes
+pub mod Positions
 pub mod Ranges

@@ -3,6 +3,7 @@ ghost use mathlib.Core.Path.{_≡_};
 ghost use Prim.Native.Nat.{_+_, _≤_, _<_};
 ghost use lib.ListN.{length};
 ghost use Rattle.fields.specs.inner.Biased.{unbiased};
+ghost use Rattle.plan.specs.inner.Sizes.{mostArray};
 ghost use Rattle.lanes.specs.inner.Columns.{numberIn, driftIn, Reaches, FewChannels, Stands};
 use cltlb::Term;
 use fields::BIAS;
@@ -19,7 +20,7 @@ pub struct Column {
 
 // The number of a column on its k-th row, kept without a sign.
 pub fn number(values: &[u8], column: Column, k: usize) -> u64
-    requires { ⌜ (Reaches (now values) column (k + 1)) × (length (now values) ≤ 8192) ⌝ }
+    requires { ⌜ (Reaches (now values) column (k + 1)) × (length (now values) ≤ mostArray) ⌝ }
     ensures { λ r. ⌜ unbiased r ≡ numberIn (now (values .entry)) column k ⌝ }
 {
     if column.reads {
@@ -30,7 +31,7 @@ pub fn number(values: &[u8], column: Column, k: usize) -> u64
 
 // Its drift there; a constant has none.
 pub fn drift(drifts: &[u8], column: Column, k: usize) -> u64
-    requires { ⌜ (Reaches (now drifts) column (k + 1)) × (length (now drifts) ≤ 8192) ⌝ }
+    requires { ⌜ (Reaches (now drifts) column (k + 1)) × (length (now drifts) ≤ mostArray) ⌝ }
     ensures { λ r. ⌜ unbiased r ≡ driftIn (now (drifts .entry)) column k ⌝ }
 {
     if column.reads {

@@ -3,7 +3,7 @@ ghost use mathlib.Core.Path.{_≡_};
 ghost use Prim.Native.Nat.{_+_, _*_, _<_};
 ghost use lib.ListN.{length};
 ghost use Rattle.plan.specs.Layout.{readings, drifts};
-ghost use Rattle.plan.specs.inner.Sizes.{allRows, Fitting};
+ghost use Rattle.plan.specs.inner.Sizes.{allRows, mostArray, Fitting};
 ghost use Rattle.lanes.specs.inner.Lanes.{LaidTo, Laid, Room};
 use fields::put_u32;
 use fields::u32_at;
@@ -44,7 +44,7 @@ fn lay_out(array: &[u8], v: usize, w: usize, lanes: &mut [u8])
 
 // The readings of a plan.
 pub fn lay_readings(plan: &[u8], sizes: Sizes, lanes: &mut [u8])
-    requires { ⌜ (Fitting (now plan) sizes) × (length (now lanes) ≡ 8192) ⌝ }
+    requires { ⌜ (Fitting (now plan) sizes) × (length (now lanes) ≡ mostArray) ⌝ }
     ensures { λ _. ⌜ Laid (readings (now (plan .entry))) (sizes .channels) (allRows sizes) (now (lanes .exit)) ⌝ }
 {
     let v = sizes.channels;
@@ -56,7 +56,7 @@ pub fn lay_readings(plan: &[u8], sizes: Sizes, lanes: &mut [u8])
 
 // The drifts of a plan.
 pub fn lay_drifts(plan: &[u8], sizes: Sizes, lanes: &mut [u8])
-    requires { ⌜ (Fitting (now plan) sizes) × (length (now lanes) ≡ 8192) ⌝ }
+    requires { ⌜ (Fitting (now plan) sizes) × (length (now lanes) ≡ mostArray) ⌝ }
     ensures { λ _. ⌜ Laid (drifts (now (plan .entry))) (sizes .channels) (allRows sizes) (now (lanes .exit)) ⌝ }
 {
     let v = sizes.channels;

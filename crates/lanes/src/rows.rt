@@ -1,28 +1,35 @@
-// A comparison's verdicts held against its marks, on all rows: direct rows by sweeps over lanes, the others one by one. `i` is the
-// part's number in a table of `n` parts; `left` and `right` are the codes of the comparison's shifts, which are the shifts + 4.
+// A comparison's verdicts held against its marks on all rows, position by position. `lines` is the first position of the cycle from
+// which on neither of its terms is read before the cycle: below it a mark has to say what the comparison is at the position, and on
+// the cycle from there on, what it is on every pass from the position on. Where both terms are read on pass 0 a position is direct,
+// and is swept over lanes; the others, at most eight, are looked at one by one. `i` is the part's number in a table of `n` parts;
+// `left` and `right` are the codes of the comparison's shifts, which are the shifts + 4.
 ghost use mathlib.Core.Path.{_≡_};
-ghost use mathlib.Core.Bool.{false};
 ghost use Prim.Native.Nat.{_+_, _-_, _≤_, _<_};
 ghost use Rattle.plan.specs.inner.Sizes.{allRows, Fitting};
-ghost use Rattle.verdict.specs.inner.Reach.{TermsFit};
+ghost use Rattle.verdict.specs.inner.Reach.{reach, TermsFit, latestFrom};
 ghost use Rattle.table.specs.Layout.{marked};
 ghost use Rattle.table.specs.inner.Tables.{allBelow, Sized};
 ghost use Rattle.lanes.specs.inner.Agreement.{verdictAgrees};
 ghost use Rattle.lanes.specs.inner.Lanes.{Lanes};
-ghost use Rattle.lanes.specs.inner.Direct.{agreesOn, numbersSay, linesSay, cycleSays, DirectRows, LongLanes};
+ghost use Rattle.lanes.specs.inner.Direct.{agreesOn, numbersSay, linesSay, DirectRows, LongLanes};
+ghost use Rattle.lanes.specs.inner.Positions.{saysAt, positionSays};
 use crate::columns::column_of;
 use crate::ranges::ranges_of;
-use crate::ranges::smaller;
 use crate::sweeps::lines_agree;
-use crate::sweeps::none_marked;
 use crate::sweeps::values_agree;
+use plan::positions::row_of;
 use plan::sizes::Sizes;
 use table::bytes::mark_at;
+use table::bytes::place;
+use table::sweeps::agree;
+use table::sweeps::none_marked;
 use verdict::Comparison;
 use verdict::Verdict;
-use verdict::early::larger;
-use verdict::rows::judge_comparison;
+use verdict::bounds::larger;
+use verdict::rows::judge_from;
+use verdict::rows::test_at;
 use verdict::terms::code_in;
+use verdict::terms::reach_of;
 
 // A verdict that says on every pass what the mark says.
 fn verdict_agrees(verdict: Verdict, mark: bool) -> bool
@@ -35,7 +42,25 @@ fn verdict_agrees(verdict: Verdict, mark: bool) -> bool
     }
 }
 
-// The rows from one up to another, one by one.
+// A mark says what the comparison is at position t; from `lines` on, on every pass from there on.
+fn position_agrees(
+    plan: &[u8],
+    sizes: Sizes,
+    comparison: Comparison,
+    lines: usize,
+    t: usize,
+    mark: bool,
+) -> bool
+    requires { ⌜ (Fitting (now plan) sizes) × (TermsFit sizes comparison) × (sizes .start + reach (comparison .left) ≤ lines) × (sizes .start + reach (comparison .right) ≤ lines) × (t ≤ latestFrom sizes) ⌝ }
+    ensures { λ r. ⌜ r ≡ saysAt (now (plan .entry)) comparison lines mark t ⌝ }
+{
+    if t < lines {
+        return agree(mark, test_at(plan, sizes, comparison, t));
+    }
+    verdict_agrees(judge_from(plan, sizes, comparison, t), mark)
+}
+
+// The positions from one up to another, one by one.
 fn one_by_one(
     plan: &[u8],
     table: &[u8],
@@ -43,26 +68,27 @@ fn one_by_one(
     sizes: Sizes,
     i: usize,
     comparison: Comparison,
+    lines: usize,
     from: usize,
     to: usize,
 ) -> bool
-    requires { ⌜ (Fitting (now plan) sizes) × (Sized (now table) n (allRows sizes)) × (i < n) × (TermsFit sizes comparison) × (from ≤ to) × (to ≤ allRows sizes) ⌝ }
-    ensures { λ r. ⌜ r ≡ allBelow (λ k. agreesOn (now (plan .entry)) (now (table .entry)) (allRows sizes) i comparison (from + k)) (to - from) ⌝ }
+    requires { ⌜ (Fitting (now plan) sizes) × (Sized (now table) n (allRows sizes)) × (i < n) × (TermsFit sizes comparison) × (sizes .start + reach (comparison .left) ≤ lines) × (sizes .start + reach (comparison .right) ≤ lines) × (from ≤ to) × (to ≤ allRows sizes + 4) ⌝ }
+    ensures { λ r. ⌜ r ≡ allBelow (λ k. positionSays (now (plan .entry)) (now (table .entry)) sizes i comparison lines (from + k)) (to - from) ⌝ }
 {
     let w = sizes.start + sizes.cycle;
     let count = to - from;
     let mut all = true;
     let mut k = 0;
     while k < count {
-        let row = from + k;
-        let verdict = judge_comparison(plan, sizes, comparison, row);
-        all = all & verdict_agrees(verdict, mark_at(table, n, w, i, row));
+        let t = from + k;
+        let mark = mark_at(table, n, w, i, row_of(sizes, t));
+        all = all & position_agrees(plan, sizes, comparison, lines, t, mark);
         k += 1;
     }
     all
 }
 
-// Direct rows from one up to another, by the numbers of pass 0 alone.
+// Direct positions from one up to another, by the numbers of pass 0 alone.
 fn direct_numbers(
     values: &[u8],
     table: &[u8],
@@ -91,12 +117,12 @@ fn direct_numbers(
         column_of(x, left, w, from),
         column_of(y, right, w, from),
         table,
-        4 + (i * w + from),
+        place(w, i, from),
         to - from,
     )
 }
 
-// Direct rows from one up to another, by the lines that begin there.
+// Direct positions from one up to another, by the lines that begin there.
 fn direct_lines(
     values: &[u8],
     drifts: &[u8],
@@ -110,7 +136,7 @@ fn direct_lines(
     from: usize,
     to: usize,
 ) -> bool
-    requires { ⌜ (DirectRows (now table) n sizes i comparison left right from to) × (LongLanes sizes (now values)) × (LongLanes sizes (now drifts)) ⌝ }
+    requires { ⌜ (DirectRows (now table) n sizes i comparison left right from to) × (LongLanes sizes (now values)) × (from < to → LongLanes sizes (now drifts)) ⌝ }
     ensures { λ r. ⌜ r ≡ allBelow (λ k. linesSay (now (values .entry)) (allRows sizes) comparison left right (now (drifts .entry)) (marked (allRows sizes) (now (table .entry)) i (from + k)) (from + k)) (to - from) ⌝ }
 {
     if to <= from {
@@ -127,55 +153,8 @@ fn direct_lines(
         column_of(x, left, w, from),
         column_of(y, right, w, from),
         table,
-        4 + (i * w + from),
+        place(w, i, from),
         to - from,
-    )
-}
-
-// Direct cycle rows from one up to another; where nothing drifts in the cycle, the numbers of pass 0 tell all.
-fn cycle_rows(
-    values: &[u8],
-    drifts: &[u8],
-    still: bool,
-    table: &[u8],
-    n: usize,
-    sizes: Sizes,
-    i: usize,
-    comparison: Comparison,
-    left: usize,
-    right: usize,
-    from: usize,
-    to: usize,
-) -> bool
-    requires { ⌜ (DirectRows (now table) n sizes i comparison left right from to) × (LongLanes sizes (now values)) × (still ≡ false → LongLanes sizes (now drifts)) ⌝ }
-    ensures { λ r. ⌜ r ≡ allBelow (λ k. cycleSays (now (values .entry)) (allRows sizes) comparison left right still (now (drifts .entry)) (marked (allRows sizes) (now (table .entry)) i (from + k)) (from + k)) (to - from) ⌝ }
-{
-    if still {
-        return direct_numbers(
-            values,
-            table,
-            n,
-            sizes,
-            i,
-            comparison,
-            left,
-            right,
-            from,
-            to,
-        );
-    }
-    direct_lines(
-        values,
-        drifts,
-        table,
-        n,
-        sizes,
-        i,
-        comparison,
-        left,
-        right,
-        from,
-        to,
     )
 }
 
@@ -200,9 +179,10 @@ pub fn verdicts_agree(
     let y = comparison.right;
     let left = code_in(x);
     let right = code_in(y);
-    let ranges = ranges_of(sizes, smaller(left, right), larger(left, right));
-    let before = none_marked(table, 4 + i * w, ranges.before);
-    let start = direct_numbers(
+    let back = larger(reach_of(x), reach_of(y));
+    let ranges = ranges_of(sizes, back, larger(left, right), still);
+    let before = none_marked(table, place(w, i, 0), ranges.before);
+    let numbers = direct_numbers(
         values,
         table,
         n,
@@ -212,22 +192,11 @@ pub fn verdicts_agree(
         left,
         right,
         ranges.before,
-        ranges.start,
+        ranges.numbers,
     );
-    let between = one_by_one(
-        plan,
-        table,
-        n,
-        sizes,
-        i,
-        comparison,
-        ranges.start,
-        ranges.cycle,
-    );
-    let cycle = cycle_rows(
+    let lines = direct_lines(
         values,
         drifts,
-        still,
         table,
         n,
         sizes,
@@ -235,9 +204,19 @@ pub fn verdicts_agree(
         comparison,
         left,
         right,
-        ranges.cycle,
+        ranges.numbers,
         ranges.end,
     );
-    let behind = one_by_one(plan, table, n, sizes, i, comparison, ranges.end, w);
-    before & start & between & cycle & behind
+    let others = one_by_one(
+        plan,
+        table,
+        n,
+        sizes,
+        i,
+        comparison,
+        sizes.start + back,
+        ranges.end,
+        w + back,
+    );
+    before & numbers & lines & others
 }

@@ -1,7 +1,6 @@
 // Sweeps over two columns and the marks of a part. Each goes through all its rows and leaves none early, so that the compiler can
 // take many at once; but for equalities of lines that drift, where each row may need a remainder.
 ghost use mathlib.Core.Path.{_≡_};
-ghost use mathlib.Core.Bool.{not};
 ghost use Prim.Native.Nat.{_+_};
 ghost use Rattle.table.specs.inner.Tables.{allBelow, markIn};
 ghost use Rattle.verdict.specs.declared.Relation.the-variants.{Below, Same};
@@ -13,20 +12,6 @@ use crate::columns::drift;
 use crate::columns::number;
 use table::sweeps::agree;
 use verdict::Relation;
-
-// None of `count` marks from `m` on is 1.
-pub fn none_marked(table: &[u8], m: usize, count: usize) -> bool
-    requires { ⌜ InMarks (now table) m count ⌝ }
-    ensures { λ r. ⌜ r ≡ allBelow (λ k. not (markIn (now (table .entry)) (m + k))) count ⌝ }
-{
-    let mut all = true;
-    let mut k = 0;
-    while k < count {
-        all = all & !(table[m + k] == 1);
-        k += 1;
-    }
-    all
-}
 
 // The marks say whether the left number is below the right one.
 fn less_values(values: &[u8], x: Column, y: Column, table: &[u8], m: usize, count: usize) -> bool

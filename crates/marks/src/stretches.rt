@@ -3,7 +3,7 @@
 // and of the parts that it names. Marks on other rows lie as many places on.
 ghost use mathlib.Core.Path.{_≡_};
 ghost use mathlib.Core.Bool.{true, false, cond};
-ghost use Prim.Native.Nat.{_+_, _*_, _≤_, _<_};
+ghost use Prim.Native.Nat.{_+_, _≤_, _<_};
 ghost use lib.ListN.{length};
 ghost use Rattle.cltlb.specs.Fits.{namesLower};
 ghost use Rattle.cltlb.specs.declared.Operator.the-variants.{One, Two};
@@ -15,20 +15,13 @@ use cltlb::Binary;
 use cltlb::Operator;
 use cltlb::Unary;
 use plan::sizes::Sizes;
+use table::bytes::place;
 use table::sweeps::agree;
 use table::sweeps::copied;
 use table::sweeps::copies;
 use table::sweeps::opposites;
 use table::sweeps::stepped;
 use table::sweeps::steps;
-
-// Where the mark of a part on a row lies.
-pub fn place(w: usize, part: usize, row: usize) -> usize
-    requires { ⌜ (w ≤ 256) × (part < 64) × (row ≤ 256) ⌝ }
-    ensures { λ r. ⌜ r ≡ 4 + (part * w + row) ⌝ }
-{
-    4 + (part * w + row)
-}
 
 // One number or the other.
 pub fn choose(first: bool, x: usize, y: usize) -> usize

@@ -17,8 +17,8 @@ use Rattle.fields.specs.TwosComplement.{signedOf, signedAt}
 use Rattle.fields.proofs.Differences.{sub-pos, sub-neg}
 use Rattle.fields.proofs.Patterns.{signed-low}
 use Rattle.plan.specs.Layout.{channels, headLength, arrayLength, cell, entry, driftOf}
-use Rattle.plan.specs.inner.Sizes.{allRows, Fitting}
-use Rattle.plan.specs.inner.Drifts.{other, allZero, Still}
+use Rattle.plan.specs.inner.Sizes.{allRows, mostArray, Fitting}
+use Rattle.plan.specs.inner.Drifts.{nonZero, allZero, Still}
 use Rattle.plan.proofs.Arrays.{array-le, drifts-part}
 use Rattle.plan.specs.declared.sizes.Sizes.{Sizes}
 use Rattle.fields.specs.inner.Biased.{bias, unbiased}
@@ -94,19 +94,19 @@ module _ (array : List ℕ) (from : ℕ) where
   zero-first = refl
 
   pub zero-next : (k n : ℕ) {all : Bool} → all ≡ allZero array from k → n ≡ numberAt 4 array (4 * (from + k)) → (all && eqb n 0) ≡ allZero array from (k + 1)
-  unfolding allZero anyBelow other
-  zero-next k n e g = rw (add-one, ← g) (ap (λ b. b && eqb n 0) e ∙ sweeps-on (anyBelow (other array from) k) (eqb n 0))
+  unfolding allZero anyBelow nonZero
+  zero-next k n e g = rw (add-one, ← g) (ap (λ b. b && eqb n 0) e ∙ sweeps-on (anyBelow (nonZero array from) k) (eqb n 0))
 
   pub zero-end : (k n : ℕ) {all : Bool} → k ≤ n → n ≤ k → all ≡ allZero array from k → all ≡ allZero array from n
   zero-end k n h l e = e ∙ ap (allZero array from) (omega arith)
 
   zero-each : (n : ℕ) → allZero array from n ≡ true → (j : ℕ) → j < n → numberAt 4 array (4 * (from + j)) ≡ 0
-  unfolding allZero other
+  unfolding allZero nonZero
   zero-each n e j l = go (eqb (numberAt 4 array (4 * (from + j))) 0) refl
     where
       go : (b : Bool) → eqb (numberAt 4 array (4 * (from + j))) 0 ≡ b → numberAt 4 array (4 * (from + j)) ≡ 0
       go true g = eqb-true _ _ g
-      go false g = absurd (false≢true (sym (ap not (one-here (other array from) j n l (ap not g))) ∙ e))
+      go false g = absurd (false≢true (sym (ap not (one-here (nonZero array from) j n l (ap not g))) ∙ e))
 
 module _ {plan : List ℕ} {z : Sizes} (fits : Fitting plan z) where
   -- The numbers of the drifts on the rows from one up to another lie in their array,
@@ -121,7 +121,7 @@ module _ {plan : List ℕ} {z : Sizes} (fits : Fitting plan z) where
         omega (arith, together, most)
 
     pub numbers-there : (b e : ℕ) → b ≡ headLength + arrayLength (z .channels) (allRows z) → e ≡ b + arrayLength (z .channels) (allRows z)
-        → (4 * (from * z .channels + (to - from) * z .channels) ≤ length (take (e - b) (drop b plan))) × (length (take (e - b) (drop b plan)) ≤ 8192)
+        → (4 * (from * z .channels + (to - from) * z .channels) ≤ length (take (e - b) (drop b plan))) × (length (take (e - b) (drop b plan)) ≤ mostArray)
     unfolding arrayLength
     numbers-there b e hb he =
         let whole = fits .whole in

@@ -106,3 +106,22 @@ reading-on-landing-at-every-pass plan hC channel row code k h g =
 
     passes : pos (passOf P C (row + k * C + code - 4)) ≡ pos k +ℤ subℕ off 4
     passes = sym (shifted k off (subℕ off 4) refl ∙ sub-pos (k + off) 4 (omega (arith, later)) ∙ ap pos (omega (arith, later)))
+
+-- The same, with the pass as one number, which is not below 0.
+pub reading-on-landing : (plan : List ℕ) → 0 < cycleRows plan → (channel row code k : ℕ) → startRows plan ≤ row → startRows plan + 4 ≤ row + k * cycleRows plan + code
+    → readingAt plan channel (row + k * cycleRows plan + code - 4)
+    ≡ readingOn plan channel (landingRow (startRows plan) (cycleRows plan) row code) (k + landingOff (startRows plan) (cycleRows plan) row code - 4)
+unfolding readingOn
+reading-on-landing plan hC channel row code k h g =
+    reading-on-landing-at-every-pass plan hC channel row code k h g
+    ∙ ap (λ (n : ℤ). readingOf plan (landingRow P C row code) channel +ℤ n *ℤ driftOf plan (landingRow P C row code) channel)
+    (shifted k off (subℕ off 4) refl ∙ sub-pos (k + off) 4 (omega (arith, lands-off P C hC row code h k g)))
+  where
+    P : ℕ
+    P = startRows plan
+
+    C : ℕ
+    C = cycleRows plan
+
+    off : ℕ
+    off = landingOff (startRows plan) (cycleRows plan) row code

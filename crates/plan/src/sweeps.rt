@@ -4,7 +4,7 @@ ghost use mathlib.Core.Path.{_≡_};
 ghost use mathlib.Core.Bool.{true};
 ghost use Prim.Native.Nat.{_+_, _*_, _≤_};
 ghost use lib.ListN.{length};
-ghost use Rattle.plan.specs.inner.Sizes.{allRows, Fitting};
+ghost use Rattle.plan.specs.inner.Sizes.{allRows, mostArray, Fitting};
 ghost use Rattle.plan.specs.inner.Drifts.{allZero, Still};
 use crate::layout::array_length;
 use crate::layout::drifts_start;
@@ -13,7 +13,7 @@ use fields::u32_at;
 
 // Every one of `count` numbers of an array, from an index on, is 0.
 fn all_zero(array: &[u8], from: usize, count: usize) -> bool
-    requires { ⌜ (4 * (from + count) ≤ length (now array)) × (length (now array) ≤ 8192) ⌝ }
+    requires { ⌜ (4 * (from + count) ≤ length (now array)) × (length (now array) ≤ mostArray) ⌝ }
     ensures { λ r. ⌜ r ≡ allZero (now (array .entry)) from count ⌝ }
 {
     let mut all = true;

@@ -1,6 +1,6 @@
 // The bytes of a mark table of `n` parts on `w` rows, and refusals 7 and 8.
 ghost use mathlib.Core.Path.{_≡_};
-ghost use Prim.Native.Nat.{_≤_, _<_};
+ghost use Prim.Native.Nat.{_+_, _*_, _≤_, _<_};
 ghost use Rattle.refusal.specs.First.{inTurn};
 ghost use Rattle.table.specs.Layout.{markByte, marked, witnessOf, bytesOutcome, tableOutcome};
 ghost use Rattle.table.specs.inner.Tables.{Sized};
@@ -8,6 +8,14 @@ use crate::sweeps::all_marks;
 use fields::u16_at;
 use refusal::Outcome;
 use refusal::Refusal;
+
+// Where the mark of a part on a row lies.
+pub fn place(w: usize, part: usize, row: usize) -> usize
+    requires { ⌜ (w ≤ 256) × (part < 64) × (row ≤ 256) ⌝ }
+    ensures { λ r. ⌜ r ≡ 4 + (part * w + row) ⌝ }
+{
+    4 + (part * w + row)
+}
 
 // The byte of a part on a row.
 pub fn mark_byte(table: &[u8], n: usize, w: usize, part: usize, row: usize) -> u8

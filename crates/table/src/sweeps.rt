@@ -22,6 +22,20 @@ pub fn all_marks(table: &[u8], at: usize, count: usize) -> bool
     all
 }
 
+// None of `count` marks from `m` on is 1.
+pub fn none_marked(table: &[u8], m: usize, count: usize) -> bool
+    requires { ⌜ (m + count ≤ length (now table)) × (length (now table) ≤ mostBytes) ⌝ }
+    ensures { λ r. ⌜ r ≡ allBelow (λ k. not (markIn (now (table .entry)) (m + k))) count ⌝ }
+{
+    let mut all = true;
+    let mut k = 0;
+    while k < count {
+        all = all & !(table[m + k] == 1);
+        k += 1;
+    }
+    all
+}
+
 // A byte read as a mark, or as its opposite.
 pub fn read(x: u8, opposite: bool) -> bool
     ensures { λ r. ⌜ r ≡ flipped opposite (eqb x 1) ⌝ }

@@ -11,16 +11,16 @@ use Rattle.cltlb.specs.declared.Term.{Term}
 use Rattle.cltlb.specs.declared.Term.the-variants.{Constant, Reading}
 use Rattle.cltlb.proofs.Fits as fits
 use Rattle.fields.proofs.Differences.{sub-pos, sub-eq, pos-sub, negsuc-sub}
-use Rattle.plan.specs.Positions.{passOf}
+use Rattle.plan.specs.Layout.{driftOf}
 use Rattle.plan.specs.Run.{readingOn, readingAt, runOf}
 use Rattle.plan.specs.inner.Lifted.{passes, lowered, seenOf}
 use Rattle.plan.specs.inner.Sizes.{allRows, farthest, Fitting}
 use Rattle.plan.specs.declared.landing.Landing.{Landing}
 use Rattle.plan.specs.declared.lookup.Seen.the-variants.{Number}
 use Rattle.plan.specs.declared.sizes.Sizes.{Sizes}
-use Rattle.plan.proofs.Arrays.{value-at}
 use Rattle.plan.proofs.Fits.{reached}
-use Rattle.plan.proofs.Landings.{lands-on-row, lands-off}
+use Rattle.plan.specs.inner.Landing.{landingRow, landingOff}
+use Rattle.plan.proofs.Landings.{lands-on-row, lands-off, reading-on-landing}
 use Rattle.plan.proofs.Shifts.{shifted, in-run}
 use Rattle.verdict.specs.Lines.{Line}
 use Rattle.verdict.specs.Rows.{channelLine, termLine}
@@ -49,15 +49,23 @@ one-code m n e f = let k = sub-eq m 4 n 4 .0 (e ∙ sym f) in omega arith
 
 module _ {plan : List ℕ} {z : Sizes} (f : Fitting plan z) where
   -- the landing on pass k, of a position that is not before the cycle
-  pub lands-at : (row : ℕ) → z .start ≤ row → (x : Term) (l : Landing) → (there : Lands z row x l) → (k : ℕ) → LandsAt z l (row + k * z .cycle + there .code) k
+  pub lands-at : (row : ℕ) → z .start ≤ row → (x : Term) (l : Landing) → (there : Lands z row x l) → (k : ℕ) → LandsAt plan z l (row + k * z .cycle + there .code) k
   unfolding LandsAt
   lands-at row h x l there k g = (
     there .on-row ∙ sym (lands-on-row (z .start) (z .cycle) (f .a-cycle) row (there .code) h k g),
     ap (λ (n : ℕ). k + n) (there .off-by) ∙ sym (lands-off (z .start) (z .cycle) (f .a-cycle) row (there .code) h k g),
+    λ channel. rw (there .on-row, there .off-by) (by-sizes channel),
   )
+    where
+      -- the law is said of the sizes in the plan's bytes
+      by-sizes : (channel : ℕ) → readingAt plan channel (row + k * z .cycle + there .code - 4)
+          ≡ readingOn plan channel (landingRow (z .start) (z .cycle) row (there .code)) (k + landingOff (z .start) (z .cycle) row (there .code) - 4)
+      by-sizes channel =
+          rw (← f .p-is, ← f .c-is)
+          (reading-on-landing plan (rw (f .c-is) (f .a-cycle)) channel row (there .code) k (rw (f .p-is) h) (rw (f .p-is, f .c-is) g))
 
   -- in reach of the lookups
-  pub landing-reached : (l : Landing) (ahead k : ℕ) → LandsAt z l ahead k → z .start + 4 ≤ ahead → ahead ≤ farthest z
+  pub landing-reached : (l : Landing) (ahead k : ℕ) → LandsAt plan z l ahead k → z .start + 4 ≤ ahead → ahead ≤ farthest z
       → (l .row < allRows z) × (4 ≤ k + l .off) × (k + l .off < passes + 4)
   unfolding LandsAt
   landing-reached l ahead k lands g h =
@@ -72,21 +80,30 @@ module _ {plan : List ℕ} {z : Sizes} (f : Fitting plan z) where
       landing-reached l (row + k * z .cycle + there .code) k (lands-at row h x l there k)
       (read-inside x (z .start) (row + k * z .cycle) (there .code) g (there .is-code)) (omega (arith, there .small, f .a-cycle))
 
-  pub seen-landed : (channel : ℕ) (l : Landing) (ahead k a : ℕ) → LandsAt z l ahead k → z .start + 4 ≤ ahead
+  pub seen-landed : (channel : ℕ) (l : Landing) (ahead k a : ℕ) → LandsAt plan z l ahead k → z .start + 4 ≤ ahead
       → lowered a ≡ readingOn plan channel (l .row) (k + l .off - 4) → seenOf (Number a) ≡ runOf plan channel (subℕ ahead 4)
   unfolding LandsAt seenOf
   seen-landed channel l ahead k a lands g e =
-      let there = lands g in
-      ap cltlb.number (e ∙ value-at f channel (ahead - 4) (there .0) (omega (arith, there .1))) ∙ in-run plan channel ahead (omega arith)
+      ap cltlb.number (e ∙ sym (lands g .2 channel)) ∙ in-run plan channel ahead (omega arith)
 
   -- the line of a term, by its landing
   pub landed-line-is : (row : ℕ) → z .start ≤ row → (x : Term) (l : Landing) → Lands z row x l → (k : ℕ) → z .start + reach x ≤ row + k * z .cycle
       → (line : Line) → line ≡ landedLine plan x l k → line ≡ termLine plan x (row + k * z .cycle)
-  unfolding termLine channelLine readingAt LandsAt
+  unfolding termLine channelLine LandsAt
   landed-line-is row h (Constant c) l there k g line e = e
   landed-line-is row h (Reading channel shift) l there k g line e =
       let low = read-inside (Reading channel shift) (z .start) (row + k * z .cycle) (there .code) g (there .is-code) in
       let lands = lands-at row h (Reading channel shift) l there k low in
-      let passed : k + l .off - 4 ≡ passOf (z .start) (z .cycle) (row + k * z .cycle + there .code - 4) = omega (arith, lands .1) in
       rw (shifted (row + k * z .cycle) (there .code) shift (there .is-code) ∙ sub-pos (row + k * z .cycle + there .code) 4 (omega arith), f .p-is, f .c-is)
-      (e ∙ ap₂ (lineOn plan channel) (lands .0) passed)
+      (e ∙ ap₂ (λ (m n : ℤ). record { at = m; step = n }) (sym (lands .2 channel)) (ap (λ (r : ℕ). driftOf plan r channel) (lands .0)))
+
+  -- from a position on at which the term is not read before the cycle
+  module _ (t : ℕ) (x : Term) (l : Landing) (there : Lands z t x l) (g : z .start + reach x ≤ t) where
+    here : t ≡ t + 0 * z .cycle
+    here = omega arith
+
+    pub from-reached : t ≤ latest z → (l .row < allRows z) × (4 ≤ 0 + l .off) × (0 + l .off < passes + 4)
+    from-reached far = line-reached t (omega arith) x l there 0 (omega arith) (omega arith)
+
+    pub line-from : (line : Line) → line ≡ landedLine plan x l 0 → line ≡ termLine plan x t
+    line-from line e = landed-line-is t (omega arith) x l there 0 (omega arith) line e ∙ ap (termLine plan x) (sym here)

@@ -1,6 +1,6 @@
 // Passes that are looked at one by one, put in front of a verdict.
 ghost use mathlib.Core.Path.{_≡_};
-ghost use Prim.Native.Nat.{_+_, _*_, max, _≤_};
+ghost use Prim.Native.Nat.{_+_, _*_, _≤_};
 ghost use Rattle.plan.specs.inner.Sizes.{allRows};
 ghost use Rattle.verdict.specs.Rows as rows;
 ghost use Rattle.verdict.specs.inner.Reach.{latestFrom};
@@ -44,10 +44,4 @@ pub fn early_passes(sizes: Sizes, row: usize, back: usize) -> usize
         n += 1;
     }
     n
-}
-
-pub fn larger(a: usize, b: usize) -> usize
-    ensures { λ r. ⌜ r ≡ max a b ⌝ }
-{
-    if a < b { b } else { a }
 }

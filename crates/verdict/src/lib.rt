@@ -1,6 +1,7 @@
 // The verdict on an atom, that is, one comparison, on one row of a plan, over all passes.
 use cltlb::Term;
 
+pub mod bounds;
 pub mod early;
 pub mod lines;
 pub mod rows;

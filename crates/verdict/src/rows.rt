@@ -8,15 +8,16 @@ ghost use Rattle.plan.specs.inner.Sizes.{allRows, Fitting};
 ghost use Rattle.plan.specs.inner.Lifted.{seenOf};
 ghost use Rattle.verdict.specs.Comparisons.{comparisonOf, testOf, tested};
 ghost use Rattle.verdict.specs.Rows.{joinFirst, testAt, judgeCycle, judgeRow, atomAt};
-ghost use Rattle.verdict.specs.inner.Reach.{TermsFit, latest, latestFrom};
+ghost use Rattle.verdict.specs.inner.Reach.{reach, TermsFit, latest, latestFrom};
 ghost use Rattle.verdict.specs.inner.Landed.{BothLand};
+ghost use Rattle.verdict.specs.inner.Settled.{judgeFrom};
 ghost use Rattle.verdict.specs.inner.Judgement.{Judgement};
 use crate::Comparison;
 use crate::Relation;
 use crate::Verdict;
+use crate::bounds::larger;
 use crate::early::early_passes;
 use crate::early::join;
-use crate::early::larger;
 use crate::lines::decide;
 use crate::terms::code_in;
 use crate::terms::landed_line;
@@ -46,7 +47,7 @@ fn compare(relation: Relation, a: Seen, b: Seen) -> bool
 }
 
 // A comparison at position t.
-fn test_at(plan: &[u8], sizes: Sizes, comparison: Comparison, t: usize) -> bool
+pub fn test_at(plan: &[u8], sizes: Sizes, comparison: Comparison, t: usize) -> bool
     requires { ⌜ (Fitting (now plan) sizes) × (TermsFit sizes comparison) × (t ≤ latest sizes) ⌝ }
     ensures { λ r. ⌜ r ≡ testAt (now (plan .entry)) comparison t ⌝ }
 {
@@ -126,6 +127,24 @@ fn judge_cycle(plan: &[u8], sizes: Sizes, comparison: Comparison, row: usize) ->
         landed_line(plan, sizes, y, right, n),
     );
     join_first(plan, sizes, comparison, left, right, row, n, later)
+}
+
+// The verdict on the passes from position t on, neither term being read before the cycle there: that on the two lines that begin
+// there.
+pub fn judge_from(plan: &[u8], sizes: Sizes, comparison: Comparison, t: usize) -> Verdict
+    requires { ⌜ (Fitting (now plan) sizes) × (TermsFit sizes comparison) × (sizes .start + reach (comparison .left) ≤ t) × (sizes .start + reach (comparison .right) ≤ t) × (t ≤ latestFrom sizes) ⌝ }
+    ensures { λ r. ⌜ r ≡ judgeFrom (now (plan .entry)) comparison t ⌝ }
+{
+    let relation = comparison.relation;
+    let x = comparison.left;
+    let y = comparison.right;
+    let left = landing_of(sizes, t, code_in(x));
+    let right = landing_of(sizes, t, code_in(y));
+    decide(
+        relation,
+        landed_line(plan, sizes, x, left, 0),
+        landed_line(plan, sizes, y, right, 0),
+    )
 }
 
 // The verdict on a comparison, on a row. A caller with many rows makes the comparison once.

@@ -103,7 +103,7 @@ fn seen_on_landing(
     ahead: usize,
     k: usize,
 ) -> Seen
-    requires { ⌜ (Fitting (now plan) sizes) × (channel < sizes .channels) × (ahead ≤ farthest sizes) × (LandsAt sizes landing ahead k) ⌝ }
+    requires { ⌜ (Fitting (now plan) sizes) × (channel < sizes .channels) × (ahead ≤ farthest sizes) × (LandsAt (now plan) sizes landing ahead k) ⌝ }
     ensures { λ r. ⌜ seenOf r ≡ runOf (now (plan .entry)) channel (subℕ ahead 4) ⌝ }
 {
     if ahead < sizes.start + 4 {

@@ -9,6 +9,7 @@ use Rattle.cltlb.specs.declared.Term.{Term}
 use Rattle.cltlb.specs.declared.Term.the-variants.{Constant, Reading}
 use Rattle.fields.specs.TwosComplement.{signedOf}
 use Rattle.plan.specs.Layout.{entry}
+use Rattle.plan.specs.inner.Sizes.{mostArray}
 use Rattle.table.specs.inner.Tables.{mostBytes}
 use Rattle.verdict.specs.Lines.{Line}
 use Rattle.lanes.specs.declared.columns.Column.{Column}
@@ -31,7 +32,7 @@ Reaches lanes x count = x .reads ≡ true → 4 * (x .from + count) ≤ length l
 pub record InLanes (lanes : List ℕ) (x y : Column) (count : ℕ) : Type 0 where
   pub left : Reaches lanes x count
   pub right : Reaches lanes y count
-  pub few : length lanes ≤ 8192
+  pub few : length lanes ≤ mostArray
 
 -- `count` marks lie in the table
 pub record InMarks (table : List ℕ) (m count : ℕ) : Type 0 where

@@ -1,10 +1,10 @@
 -- A comparison on rows on which it is direct, and on all rows. Assumes nothing.
 use Prim.Native.Nat.{ℕ, _+_, _≤_, _<_}
-use mathlib.Core.Bool.{Bool, cond, Bool·beq}
+use mathlib.Core.Bool.{Bool, Bool·beq}
 use mathlib.Core.List.{List}
 use lib.ListN.{length}
 use Rattle.plan.specs.Layout.{arrayLength}
-use Rattle.plan.specs.inner.Sizes.{allRows}
+use Rattle.plan.specs.inner.Sizes.{allRows, mostArray}
 use Rattle.plan.specs.declared.sizes.Sizes.{Sizes}
 use Rattle.verdict.specs.Comparisons.{testOf, judgeLines}
 use Rattle.verdict.specs.Rows.{judgeRow}
@@ -29,10 +29,6 @@ module _ (values : List ℕ) (w : ℕ) (x : Comparison) (left right : ℕ) where
   abbrev pub linesSay : List ℕ → Bool → ℕ → Bool
   linesSay drifts mark row = verdictAgrees (judgeLines (x .relation) (laneLine values drifts w (x .left) left row) (laneLine values drifts w (x .right) right row)) mark
 
-  -- by the numbers alone where nothing drifts
-  abbrev pub cycleSays : Bool → List ℕ → Bool → ℕ → Bool
-  cycleSays still drifts mark row = cond still (numbersSay mark row) (linesSay drifts mark row)
-
 -- rows of part i of a table of n parts, on all of which shifts with these codes land in the run, on its first pass
 pub record DirectRows (table : List ℕ) (n : ℕ) (z : Sizes) (i : ℕ) (x : Comparison) (left right from to : ℕ) : Type 0 where
   pub few-channels : z .channels ≤ 8
@@ -46,4 +42,4 @@ pub record DirectRows (table : List ℕ) (n : ℕ) (z : Sizes) (i : ℕ) (x : Co
 
 -- lanes that are long enough
 abbrev pub LongLanes : Sizes → List ℕ → Type 0
-LongLanes z lanes = (arrayLength (z .channels) (allRows z) ≤ length lanes) × (length lanes ≤ 8192)
+LongLanes z lanes = (arrayLength (z .channels) (allRows z) ≤ length lanes) × (length lanes ≤ mostArray)

@@ -7,7 +7,7 @@ use lib.ListN.{length}
 use Rattle.fields.specs.LittleEndian.{numberAt}
 use Rattle.plan.specs.Layout.{arrayLength, cell, readings, drifts}
 use Rattle.plan.specs.inner.Drifts.{Still}
-use Rattle.plan.specs.inner.Sizes.{allRows}
+use Rattle.plan.specs.inner.Sizes.{allRows, mostArray}
 use Rattle.plan.specs.declared.sizes.Sizes.{Sizes}
 
 -- an array of w rows of v numbers, and lanes with room for them
@@ -16,7 +16,7 @@ pub record Room (array : List ℕ) (v w : ℕ) (lanes : List ℕ) : Type 0 where
   pub few-rows : w ≤ 256
   pub whole : length array ≡ arrayLength v w
   pub there : arrayLength v w ≤ length lanes
-  pub few : length lanes ≤ 8192
+  pub few : length lanes ≤ mostArray
 
 -- the numbers of the lanes are those of the array, before an index
 unfoldable pub LaidTo : List ℕ → ℕ → ℕ → List ℕ → ℕ → Type 0
@@ -25,7 +25,7 @@ LaidTo array v w lanes end = (channel row : ℕ) → row < w → channel * w + r
 -- all of them
 pub record Laid (array : List ℕ) (v w : ℕ) (lanes : List ℕ) : Type 0 where
   pub there : arrayLength v w ≤ length lanes
-  pub few : length lanes ≤ 8192
+  pub few : length lanes ≤ mostArray
   pub laid : LaidTo array v w lanes (v * w)
 
 -- the lanes of a plan: its readings, and its drifts, unless nothing drifts in the cycle

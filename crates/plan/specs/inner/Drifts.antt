@@ -10,12 +10,12 @@ use Rattle.plan.specs.Layout.{channels, driftOf}
 use Rattle.plan.specs.Refusals.{anyBelow}
 
 -- the number at an index of an array is not 0
-unfoldable pub other : List ℕ → ℕ → ℕ → Bool
-other array from k = not (eqb (numberAt 4 array (4 * (from + k))) 0)
+unfoldable pub nonZero : List ℕ → ℕ → ℕ → Bool
+nonZero array from k = not (eqb (numberAt 4 array (4 * (from + k))) 0)
 
 -- `count` numbers of an array, from an index on, are 0
 unfoldable pub allZero : List ℕ → ℕ → ℕ → Bool
-allZero array from count = not (anyBelow (other array from) count)
+allZero array from count = not (anyBelow (nonZero array from) count)
 
 -- no channel drifts on the rows from one up to another
 unfoldable pub Still : List ℕ → ℕ → ℕ → Type 0

@@ -21,6 +21,10 @@ sizesRead plan = cond (sizesFit plan) (Counts (sizesIn plan)) Wrong
 abbrev pub allRows : Sizes → ℕ
 allRows z = z .start + z .cycle
 
+-- the bytes of the largest array, of 8 channels on 256 rows
+abbrev pub mostArray : ℕ
+mostArray = 8192
+
 -- the end of the passes that the lookups reach
 abbrev pub farthest : Sizes → ℕ
 farthest z = z .start + passes * z .cycle

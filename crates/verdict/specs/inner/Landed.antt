@@ -7,7 +7,7 @@ use Rattle.cltlb.specs.declared.Term.{Term}
 use Rattle.cltlb.specs.declared.Term.the-variants.{Constant, Reading}
 use Rattle.plan.specs.Layout.{driftOf}
 use Rattle.plan.specs.Positions.{rowOf, passOf}
-use Rattle.plan.specs.Run.{readingOn}
+use Rattle.plan.specs.Run.{readingOn, readingAt}
 use Rattle.plan.specs.inner.Landing.{landingRow, landingOff}
 use Rattle.plan.specs.declared.sizes.Sizes.{Sizes}
 use Rattle.plan.specs.declared.landing.Landing.{Landing}
@@ -30,9 +30,12 @@ pub record Lands (z : Sizes) (row : ℕ) (x : Term) (l : Landing) : Type 0 where
 abbrev pub BothLand : Sizes → ℕ → Comparison → Landing → Landing → Type 0
 BothLand z row x left right = Lands z row (x .left) left × Lands z row (x .right) right
 
--- on pass k, l is the row and the pass of the position `ahead` - 4, unless that is before the cycle
-unfoldable pub LandsAt : Sizes → Landing → ℕ → ℕ → Type 0
-LandsAt z l ahead k = z .start + 4 ≤ ahead → (l .row ≡ rowOf (z .start) (z .cycle) (ahead - 4)) × (k + l .off ≡ passOf (z .start) (z .cycle) (ahead - 4) + 4)
+-- on pass k, l is the row and the pass of the position `ahead` - 4, and a channel reads there what that row and pass give, unless
+-- the position is before the cycle
+unfoldable pub LandsAt : List ℕ → Sizes → Landing → ℕ → ℕ → Type 0
+LandsAt plan z l ahead k =
+    z .start + 4 ≤ ahead → (l .row ≡ rowOf (z .start) (z .cycle) (ahead - 4)) × (k + l .off ≡ passOf (z .start) (z .cycle) (ahead - 4) + 4)
+    × ((channel : ℕ) → readingAt plan channel (ahead - 4) ≡ readingOn plan channel (l .row) (k + l .off - 4))
 
 -- the line of a channel from a row and a pass on
 abbrev pub lineOn : List ℕ → ℕ → ℕ → ℕ → Line

@@ -11,7 +11,7 @@ use Rattle.labelling.proofs.comparisons.label_atom.Reads as reads
 use Rattle.labelling.proofs.comparisons.label_atom.Lts as lts
 use Rattle.labelling.proofs.comparisons.is_true.Reads as is-true-reads
 use Rattle.marks.proofs.refusals.is_changes.Reads as is-changes-reads
-use Rattle.marks.proofs.stretches.place.Reads as place-reads
+use Rattle.table.proofs.bytes.place.Reads as place-reads
 use Rattle.table.proofs.fills.put_mark.Reads as put-mark-reads
 use Rattle.verdict.proofs.rows.comparison_of.Reads as comparison-of-reads
 use Rattle.verdict.proofs.rows.judge_comparison.Reads as judge-comparison-reads

@@ -6,7 +6,7 @@ use Rattle.labelling.proofs.operators.label_one.Tie as tie
 use Rattle.labelling.proofs.operators.label_one.Reads as reads
 use Rattle.labelling.proofs.operators.label_one.Lts as lts
 use Rattle.labelling.proofs.operators.fill_beside.Reads as fill-beside-reads
-use Rattle.marks.proofs.stretches.place.Reads as place-reads
+use Rattle.table.proofs.bytes.place.Reads as place-reads
 use Rattle.table.proofs.fills.fill_copied.Reads as fill-copied-reads
 
 -- src/operators.rt:64:13

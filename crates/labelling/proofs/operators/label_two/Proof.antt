@@ -10,7 +10,7 @@ use Rattle.labelling.proofs.operators.label_two.Tie as tie
 use Rattle.labelling.proofs.operators.label_two.Reads as reads
 use Rattle.labelling.proofs.operators.label_two.Lts as lts
 use Rattle.labelling.proofs.operators.fill_ahead.Reads as fill-ahead-reads
-use Rattle.marks.proofs.stretches.place.Reads as place-reads
+use Rattle.table.proofs.bytes.place.Reads as place-reads
 use Rattle.table.proofs.fills.fill_joined.Reads as fill-joined-reads
 use Rattle.table.proofs.fills.fill_on.Reads as fill-on-reads
 

@@ -1,125 +1,156 @@
 -- `lanes::rows::verdicts_agree` meets its contract. Assumes nothing.
-use Prim.Native.Nat.{min, max, _≤_}
+use Prim.Native.Nat.{_+_, max, _≤_}
 use native.Mathlib.Omega.{arith}
-use Rattle.table.proofs.Places.{part-cells, area}
-use Rattle.plan.specs.inner.Sizes.{allRows}
+use mathlib.Core.Path.{_≡_, ap₂, _∙_}
+use Rattle.verdict.specs.inner.Reach.{reach}
 use Rattle.verdict.proofs.Landed.{shift-fits}
-use Rattle.lanes.specs.inner.Ranges.{Divides}
+use Rattle.verdict.proofs.Values.{farther-le, farther-in}
 use Rattle.lanes.proofs.AllRows as law
+use Rattle.lanes.proofs.AllRows.{Ranged}
+use denote.Ref.{now}
 use borrow.Author.Needs.{needs}
 use Rattle.lanes.proofs.rows.verdicts_agree.Statement.{statement}
 use Rattle.lanes.proofs.rows.verdicts_agree.Tie as tie
 use Rattle.lanes.proofs.rows.verdicts_agree.Reads as reads
 use Rattle.lanes.proofs.rows.verdicts_agree.Lts as lts
 use Rattle.lanes.proofs.ranges.ranges_of.Reads as ranges-of-reads
-use Rattle.lanes.proofs.ranges.smaller.Reads as smaller-reads
-use Rattle.lanes.proofs.rows.cycle_rows.Reads as cycle-rows-reads
+use Rattle.lanes.proofs.rows.direct_lines.Reads as direct-lines-reads
 use Rattle.lanes.proofs.rows.direct_numbers.Reads as direct-numbers-reads
 use Rattle.lanes.proofs.rows.one_by_one.Reads as one-by-one-reads
-use Rattle.lanes.proofs.sweeps.none_marked.Reads as none-marked-reads
-use Rattle.verdict.proofs.early.larger.Reads as larger-reads
+use Rattle.table.proofs.bytes.place.Reads as place-reads
+use Rattle.table.proofs.sweeps.none_marked.Reads as none-marked-reads
+use Rattle.verdict.proofs.bounds.larger.Reads as larger-reads
 use Rattle.verdict.proofs.terms.code_in.Reads as code-in-reads
+use Rattle.verdict.proofs.terms.reach_of.Reads as reach-of-reads
 
--- src/rows.rt:198:13
+-- src/rows.rt:177:13
 add-w : tie.Need-add-w
 add-w c = search needs
 
--- src/rows.rt:201:9
+-- src/rows.rt:180:9
 code-in-requires : tie.Need-code-in-requires
-code-in-requires c κs =
-    let start = c .before .before .before .before .before in
-    shift-fits _ _ (start .pre .4 .0)
+code-in-requires c κs = shift-fits _ _ (c .before .before .before .before .before .pre .4 .0)
 
--- src/rows.rt:202:9
+-- src/rows.rt:181:9
 code-in-requires-2 : tie.Need-code-in-requires-2
-code-in-requires-2 c κs =
-    let start = c .before .before .before .before .before .before in
-    shift-fits _ _ (start .pre .4 .1)
+code-in-requires-2 c κs = shift-fits _ _ (c .before .before .before .before .before .before .pre .4 .1)
 
--- src/rows.rt:203:35
-smaller-requires : tie.Need-smaller-requires
-smaller-requires c κs = search needs
+-- src/rows.rt:182:23
+reach-of-requires : tie.Need-reach-of-requires
+reach-of-requires c κs = search needs
 
--- src/rows.rt:203:57
+-- src/rows.rt:182:36
+reach-of-requires-2 : tie.Need-reach-of-requires-2
+reach-of-requires-2 c κs = search needs
+
+-- src/rows.rt:182:9
 larger-requires : tie.Need-larger-requires
 larger-requires c κs = search needs
 
--- src/rows.rt:203:9
+-- src/rows.rt:183:41
+larger-requires-2 : tie.Need-larger-requires-2
+larger-requires-2 c κs = search needs
+
+-- how far back the two terms are read at most
+farther : (c : tie.After-larger) →
+    let x = c .before .before .before .before .before .before .before .before .before .before .args .comparison in
+    c .larger .result ≡ max (reach (x .left)) (reach (x .right))
+farther c = c .larger .ensures ∙ ap₂ max (c .before .before .reach-of .ensures) (c .before .reach-of2 .ensures)
+
+few-back : (c : tie.After-larger) → c .larger .result ≤ 4
+few-back c =
+    let start = c .before .before .before .before .before .before .before .before .before .before in
+    farther-le (start .args .sizes) (start .args .comparison) _ (farther c) (start .pre .4)
+
+-- src/rows.rt:183:9
 ranges-of-requires : tie.Need-ranges-of-requires
 ranges-of-requires c κs =
-    let start = c .before .before .before .before .before .before .before .before .before in
-    let code-in = c .before .before .before .code-in in
-    let code-in2 = c .before .before .code-in2 in
-    let smaller = c .before .smaller in
-    let codes = law.codes-fit (code-in .result) (code-in2 .result) _ _ (smaller .ensures) (c .larger .ensures) (code-in .ensures .1) (code-in2 .ensures .1) in
-    (start .pre .0 .few-rows, codes .0, codes .1)
+    let codes = c .before .before .before .before in
+    let start = codes .before .before .before .before .before .before .before in
+    (start .pre .0 .few-rows, few-back (c .before), omega (arith, c .larger2 .ensures, codes .before .code-in .ensures .1, codes .code-in2 .ensures .1))
 
--- src/rows.rt:204:41
-mul-none-marked : tie.Need-mul-none-marked
-mul-none-marked c =
-    let start = c .before .before .before .before .before .before .before .before .before .before in
-    omega (arith, part-cells _ (allRows (start .args .sizes)) (start .args .i) (start .pre .3), area _ (allRows (start .args .sizes)) (start .pre .2 .few-parts) (start .pre .2 .few-rows))
+-- what is known once the ranges are found
+ranged : (c : tie.After-ranges-of) →
+    let codes = c .before .before .before .before .before in
+    let args = codes .before .before .before .before .before .before .before .args in
+    Ranged (now (args .plan)) (now (args .table)) (args .sizes) (args .n) (args .i) (args .comparison) (codes .before .code-in .result) (codes .code-in2 .result)
+    (c .before .before .larger .result) (c .before .larger2 .result) (args .still) (c .ranges-of .result)
+ranged c =
+    let codes = c .before .before .before .before .before in
+    let code-in = codes .before .code-in in
+    let code-in2 = codes .code-in2 in
+    let start = codes .before .before .before .before .before .before .before in
+    record {
+      fitting = start .pre .0;
+      sized = start .pre .2;
+      present = start .pre .3;
+      terms-fit = start .pre .4;
+      small = (code-in .ensures .1, code-in2 .ensures .1);
+      left-code = code-in .ensures .0;
+      right-code = code-in2 .ensures .0;
+      farther = farther (c .before .before);
+      higher = c .before .larger2 .ensures;
+      divided = c .ranges-of .ensures;
+    }
 
--- src/rows.rt:204:37
-add-none-marked : tie.Need-add-none-marked
-add-none-marked c =
-    let start = c .before .before .before .before .before .before .before .before .before .before in
-    omega (arith, part-cells _ (allRows (start .args .sizes)) (start .args .i) (start .pre .3), area _ (allRows (start .args .sizes)) (start .pre .2 .few-parts) (start .pre .2 .few-rows))
+-- src/rows.rt:184:37
+place-requires : tie.Need-place-requires
+place-requires c κs = search needs
 
--- the ranges, by the two codes
-divides : (c : tie.After-ranges-of) →
-    let start = c .before .before .before .before .before .before .before .before .before .before in
-    let left = c .before .before .before .before .code-in .result in
-    let right = c .before .before .before .code-in2 .result in
-    Divides (start .args .sizes) (min left right) (max left right) (c .ranges-of .result)
-divides c =
-    let start = c .before .before .before .before .before .before .before .before .before .before in
-    law.by-codes (start .args .sizes) _ _ _ _ _ (c .before .before .smaller .ensures) (c .before .larger .ensures) (c .ranges-of .ensures)
-
-small : (c : tie.After-code-in2) → (c .before .code-in .result ≤ 8) × (c .code-in2 .result ≤ 8)
-small c = (c .before .code-in .ensures .1, c .code-in2 .ensures .1)
-
+-- src/rows.rt:184:9
 none-marked-requires : tie.Need-none-marked-requires
 none-marked-requires c κs =
-    let start = c .before .before .before .before .before .before .before .before .before .before in
-    let order = divides c .in-order in
-    law.marks-from-first _ _ _ (start .pre .2) (start .args .i) (c .ranges-of .result .before) (start .pre .3) (omega arith)
+    let ranges = c .before in
+    let start = ranges .before .before .before .before .before .before .before .before .before .before .before .before in
+    let order = ranges .ranges-of .ensures .in-order in
+    let marks = law.marks-from-first _ _ _ (start .pre .2) (start .args .i) (ranges .ranges-of .result .before) _ (start .pre .3) (omega arith) (c .place .ensures) in
+    (marks .there, marks .few)
 
+-- src/rows.rt:185:9
 direct-numbers-requires : tie.Need-direct-numbers-requires
 direct-numbers-requires c κs =
-    let start = c .before .before .before .before .before .before .before .before .before .before .before in
-    let ranges = c .before in
-    (law.start-stretch (start .pre .0) (start .pre .2) (start .pre .3) (start .args .comparison) (start .pre .4) _ _ (small (ranges .before .before .before)) _ (divides ranges), law.long-lanes (start .args .sizes) (start .pre .1 .readings-laid))
+    let ranges = c .before .before in
+    let start = ranges .before .before .before .before .before .before .before .before .before .before .before .before in
+    (law.numbers-stretch (ranged ranges), law.long-lanes (start .args .sizes) (start .pre .1 .readings-laid))
 
+-- src/rows.rt:197:9
+direct-lines-requires : tie.Need-direct-lines-requires
+direct-lines-requires c κs =
+    let ranges = c .before .before .before in
+    let start = ranges .before .before .before .before .before .before .before .before .before .before .before .before in
+    (law.lines-stretch (ranged ranges), law.long-lanes (start .args .sizes) (start .pre .1 .readings-laid), law.lines-lanes (ranged ranges) (start .pre .1))
+
+-- src/rows.rt:217:9
+add-one-by-one : tie.Need-add-one-by-one
+add-one-by-one c =
+    let ranges = c .before .before .before .before .before in
+    let start = ranges .before .before .before .before .before .before .before .before .before .before .before .before in
+    omega (arith, start .pre .0 .few-rows, few-back (ranges .before .before))
+
+-- src/rows.rt:219:9
+add-one-by-one-2 : tie.Need-add-one-by-one-2
+add-one-by-one-2 c =
+    let ranges = c .before .before .before .before .before in
+    let start = ranges .before .before .before .before .before .before .before .before .before .before .before .before in
+    omega (arith, start .pre .0 .few-rows, few-back (ranges .before .before))
+
+-- src/rows.rt:210:9
 one-by-one-requires : tie.Need-one-by-one-requires
 one-by-one-requires c κs =
-    let start = c .before .before .before .before .before .before .before .before .before .before .before .before in
-    let order = divides (c .before .before) .in-order in
-    (start .pre .0, start .pre .2, start .pre .3, start .pre .4, order .1, omega arith)
+    let ranges = c .before .before .before .before .before in
+    let start = ranges .before .before .before .before .before .before .before .before .before .before .before .before in
+    let larger = ranges .before .before in
+    let inside = farther-in (start .args .sizes) (start .args .comparison) _ (farther larger) (start .args .sizes .start + larger .larger .result) (omega arith) in
+    let order = ranges .ranges-of .ensures .in-order in
+    (start .pre .0, start .pre .2, start .pre .3, start .pre .4, inside .0, inside .1, omega arith, omega (arith, few-back larger))
 
-cycle-rows-requires : tie.Need-cycle-rows-requires
-cycle-rows-requires c κs =
-    let start = c .before .before .before .before .before .before .before .before .before .before .before .before .before in
-    let ranges = c .before .before .before in (
-      law.cycle-stretch (start .pre .0) (start .pre .2) (start .pre .3) (start .args .comparison) (start .pre .4) _ _ (small (ranges .before .before .before)) _ (divides ranges),
-      law.long-lanes (start .args .sizes) (start .pre .1 .readings-laid),
-      λ e. law.long-lanes (start .args .sizes) (start .pre .1 .drifts-laid e),
-    )
-
-one-by-one-requires-2 : tie.Need-one-by-one-requires-2
-one-by-one-requires-2 c κs =
-    let start = c .before .before .before .before .before .before .before .before .before .before .before .before .before .before in
-    let order = divides (c .before .before .before .before) .in-order in
-    (start .pre .0, start .pre .2, start .pre .3, start .pre .4, order .3, omega arith)
-
+-- src/rows.rt:163:1
 returns : tie.Need-returns
 returns c =
-    let start = c .before .before .before .before .before .before .before .before .before .before .before .before .before .before .before in
-    let ranges = c .before .before .before .before .before in
-    let codes = ranges .before .before .before in
-    law.all-swept (start .pre .0) (start .pre .2) (start .pre .3) (start .args .comparison) (start .pre .4) _ _ (small codes) _ (divides ranges)
-    (codes .before .code-in .ensures .0) (codes .code-in2 .ensures .0) (start .pre .1) (c .before .before .before .before .none-marked .ensures) (c .before .before .before .direct-numbers .ensures)
-    (c .before .before .one-by-one .ensures) (c .before .cycle-rows .ensures) (c .one-by-one2 .ensures)
+    let ranges = c .before .before .before .before .before .before in
+    let start = ranges .before .before .before .before .before .before .before .before .before .before .before .before in
+    law.all-swept (ranged ranges) (start .pre .1) _ (c .before .before .before .before .before .place .ensures) (c .before .before .before .before .none-marked .ensures)
+    (c .before .before .before .direct-numbers .ensures) (c .before .before .direct-lines .ensures) (c .one-by-one .ensures)
 
 pub verdicts-agree-spec : {M : Type 1} → statement M
 verdicts-agree-spec =
@@ -128,14 +159,16 @@ verdicts-agree-spec =
     add-w
     code-in-requires
     code-in-requires-2
-    smaller-requires
+    reach-of-requires
+    reach-of-requires-2
     larger-requires
+    larger-requires-2
     ranges-of-requires
-    mul-none-marked
-    add-none-marked
+    place-requires
     none-marked-requires
     direct-numbers-requires
+    direct-lines-requires
+    add-one-by-one
+    add-one-by-one-2
     one-by-one-requires
-    cycle-rows-requires
-    one-by-one-requires-2
     returns)

@@ -8,7 +8,7 @@ use Rattle.marks.proofs.stretches.one_clear.Reads as reads
 use Rattle.marks.proofs.stretches.one_clear.Lts as lts
 use Rattle.marks.proofs.stretches.copies_ahead.Reads as copies-ahead-reads
 use Rattle.marks.proofs.stretches.copies_behind.Reads as copies-behind-reads
-use Rattle.marks.proofs.stretches.place.Reads as place-reads
+use Rattle.table.proofs.bytes.place.Reads as place-reads
 use Rattle.table.proofs.sweeps.opposites.Reads as opposites-reads
 
 -- src/stretches.rt:87:21

@@ -6,7 +6,7 @@ use Rattle.marks.proofs.stretches.two_clear.Statement.{statement}
 use Rattle.marks.proofs.stretches.two_clear.Tie as tie
 use Rattle.marks.proofs.stretches.two_clear.Reads as reads
 use Rattle.marks.proofs.stretches.two_clear.Lts as lts
-use Rattle.marks.proofs.stretches.place.Reads as place-reads
+use Rattle.table.proofs.bytes.place.Reads as place-reads
 use Rattle.marks.proofs.stretches.steps_ahead.Reads as steps-ahead-reads
 use Rattle.marks.proofs.stretches.steps_behind.Reads as steps-behind-reads
 use Rattle.table.proofs.sweeps.steps.Reads as steps-reads

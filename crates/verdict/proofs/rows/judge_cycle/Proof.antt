@@ -14,7 +14,7 @@ use Rattle.verdict.proofs.rows.judge_cycle.Reads as reads
 use Rattle.verdict.proofs.rows.judge_cycle.Lts as lts
 use Rattle.plan.proofs.landing.landing_of.Reads as landing-of-reads
 use Rattle.verdict.proofs.early.early_passes.Reads as early-passes-reads
-use Rattle.verdict.proofs.early.larger.Reads as larger-reads
+use Rattle.verdict.proofs.bounds.larger.Reads as larger-reads
 use Rattle.verdict.proofs.lines.decide.Reads as decide-reads
 use Rattle.verdict.proofs.rows.join_first.Reads as join-first-reads
 use Rattle.verdict.proofs.terms.code_in.Reads as code-in-reads

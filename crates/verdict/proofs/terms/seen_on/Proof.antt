@@ -1,6 +1,7 @@
 -- `verdict::terms::seen_on` meets its contract. Assumes nothing.
 use mathlib.Core.Path.{_∙_, ap, subst}
 use native.Mathlib.Omega.{arith}
+use denote.Ref.{now}
 use Prim.Native.Nat.{ℕ, _+_, _*_}
 use mir.Syntax.{w32}
 use mir.ValLaws.{toZ-ofZ}
@@ -57,7 +58,7 @@ seen-on-landing-requires c κs =
     let known-told2 = c .before .before .known-told2 in
     let code = c .code-of .ensures .0 ∙ toZ-ofZ w32 _ (record { sfits = known-told2 .given .1 .0 .1 }) in
     let same = one-code (start .pre .3 .code) (c .code-of .result) (start .pre .3 .is-code ∙ ap shiftIn (term2 .given .1)) code in
-    (start .pre .0, reading-fits _ _ _ (term2 .given .1) _ (start .pre .1) .0, omega (arith, start .pre .0 .a-cycle, c .code-of .ensures .1), subst (λ (n : ℕ). LandsAt (start .args .sizes) (start .args .landing) (start .args .row + start .args .k * start .args .sizes .cycle + n) (start .args .k)) same (lands-at (start .pre .0) (start .args .row) (start .pre .2) (start .args .term) (start .args .landing) (start .pre .3) (start .args .k)))
+    (start .pre .0, reading-fits _ _ _ (term2 .given .1) _ (start .pre .1) .0, omega (arith, start .pre .0 .a-cycle, c .code-of .ensures .1), subst (λ (n : ℕ). LandsAt (now (start .args .plan)) (start .args .sizes) (start .args .landing) (start .args .row + start .args .k * start .args .sizes .cycle + n) (start .args .k)) same (lands-at (start .pre .0) (start .args .row) (start .pre .2) (start .args .term) (start .args .landing) (start .pre .3) (start .args .k)))
 
 -- src/terms.rt:122:1
 returns : tie.Need-returns

@@ -1,25 +1,25 @@
--- `marks::stretches::place` meets its contract. Assumes nothing.
+-- `table::bytes::place` meets its contract. Assumes nothing.
 use native.Mathlib.Omega.{arith}
 use Rattle.table.proofs.Places.{area}
 use borrow.Author.Needs.{needs}
-use Rattle.marks.proofs.stretches.place.Statement.{statement}
-use Rattle.marks.proofs.stretches.place.Tie as tie
-use Rattle.marks.proofs.stretches.place.Reads as reads
-use Rattle.marks.proofs.stretches.place.Lts as lts
+use Rattle.table.proofs.bytes.place.Statement.{statement}
+use Rattle.table.proofs.bytes.place.Tie as tie
+use Rattle.table.proofs.bytes.place.Reads as reads
+use Rattle.table.proofs.bytes.place.Lts as lts
 
--- src/equations.rt:20:10
+-- src/bytes.rt:20:10
 mul-result : tie.Need-mul-result
 mul-result c = omega (arith, area (c .args .part) (c .args .w) (omega (arith, c .pre .1)) (c .pre .0))
 
--- src/equations.rt:20:10
+-- src/bytes.rt:20:10
 add-result : tie.Need-add-result
 add-result c = omega (arith, area (c .args .part) (c .args .w) (omega (arith, c .pre .1)) (c .pre .0), c .pre .2)
 
--- src/equations.rt:20:5
+-- src/bytes.rt:20:5
 add-result-2 : tie.Need-add-result-2
 add-result-2 c = omega (arith, area (c .args .part) (c .args .w) (omega (arith, c .pre .1)) (c .pre .0), c .pre .2)
 
--- src/equations.rt:16:1
+-- src/bytes.rt:16:1
 returns : tie.Need-returns
 returns c = search needs
 

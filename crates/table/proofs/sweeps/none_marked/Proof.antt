@@ -1,14 +1,14 @@
--- `lanes::sweeps::none_marked` meets its contract. Assumes nothing.
+-- `table::sweeps::none_marked` meets its contract. Assumes nothing.
 use Prim.Native.Nat.{_+_, _-_, _≤_}
 use mathlib.Core.Path.{_≡_, refl}
 use mathlib.Core.Bool.{not}
 use native.Mathlib.Omega.{arith}
 use Rattle.table.specs.inner.Tables.{allBelow, markIn}
 use Rattle.table.proofs.AllBelow.{sweep-first, sweep-next, sweep-end}
-use Rattle.lanes.proofs.sweeps.none_marked.Statement.{statement}
-use Rattle.lanes.proofs.sweeps.none_marked.Tie as tie
-use Rattle.lanes.proofs.sweeps.none_marked.Reads as reads
-use Rattle.lanes.proofs.sweeps.none_marked.Lts as lts
+use Rattle.table.proofs.sweeps.none_marked.Statement.{statement}
+use Rattle.table.proofs.sweeps.none_marked.Tie as tie
+use Rattle.table.proofs.sweeps.none_marked.Reads as reads
+use Rattle.table.proofs.sweeps.none_marked.Lts as lts
 
 abbrev Inv-loop : tie.InvT-loop
 Inv-loop table m count all₀ k₀ all k = (k ≤ count) × (all ≡ allBelow (λ j. not (markIn table (m + j))) k)
@@ -24,24 +24,19 @@ loop-holds c = (omega arith, sweep-first _)
 add-all : tie.Need-add-all Inv-loop μ-loop
 add-all c =
     let start = c .before .before in
-    let there = start .pre .there in
-    let few = start .pre .few in
-    omega arith
+    omega (arith, start .pre .0, start .pre .1)
 
 -- src/sweeps.rt:25:23
 shared-slice-read-all : tie.Need-shared-slice-read-all Inv-loop μ-loop
 shared-slice-read-all c =
     let start = c .before .before .before in
-    let there = start .pre .there in
-    omega arith
+    omega (arith, start .pre .0)
 
 -- src/sweeps.rt:26:9
 add-k : tie.Need-add-k Inv-loop μ-loop
 add-k c =
     let start = c .before .before .before in
-    let there = start .pre .there in
-    let few = start .pre .few in
-    omega arith
+    omega (arith, start .pre .0, start .pre .1)
 
 -- src/sweeps.rt:24:5
 loop-less : tie.Need-loop-less Inv-loop μ-loop
