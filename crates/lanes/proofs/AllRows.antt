@@ -2,8 +2,8 @@
 use Prim.Native.Nat.{ℕ, _+_, _*_, _-_, max, _≤_, _<_}
 use native.Mathlib.Decide.{decLt}
 use native.Mathlib.Omega.{arith}
-use mathlib.Core.Path.{_≡_, refl, ap, _∙_}
-use mathlib.Core.Bool.{Bool, true, false, not, _&&_}
+use mathlib.Core.Path.{_≡_, refl, sym, ap, _∙_}
+use mathlib.Core.Bool.{Bool, true, false, not, _&&_, and-true, true≢false}
 use mathlib.Core.List.{List}
 use mathlib.Core.Logic.{by-cases}
 use lib.Dec.{eqb}
@@ -18,15 +18,19 @@ use Rattle.verdict.specs.inner.Landed.{shiftIn}
 use Rattle.verdict.specs.inner.Reach.{reach, TermsFit}
 use Rattle.verdict.specs.declared.Comparison.{Comparison}
 use Rattle.verdict.proofs.Landed.{read-inside}
+use Rattle.verdict.proofs.Values.{farther-le}
 use Rattle.lanes.specs.declared.ranges.Ranges.{Ranges}
 use Rattle.lanes.specs.inner.Direct.{agreesOn, numbersSay, linesSay, DirectRows, LongLanes}
 use Rattle.lanes.specs.inner.Lanes.{Laid, Lanes}
 use Rattle.lanes.specs.inner.Positions.{positionSays}
 use Rattle.lanes.specs.inner.Ranges.{OnFirstPass, Divides}
+use Rattle.lanes.specs.inner.Still.{stillSays, StillPositions}
 use Rattle.lanes.specs.inner.Columns.{InMarks}
 use Rattle.lanes.proofs.Reaching.{marks-there, swept-on}
-use Rattle.lanes.proofs.Direct.{before-says, numbers-say, still-numbers-say, lines-say}
+use Rattle.lanes.proofs.Direct.{before-says, numbers-say, lines-say}
 use Rattle.lanes.proofs.Positions.{positions-for-rows}
+use Rattle.lanes.proofs.Still.{still-says, direct-still}
+use Rattle.lanes.proofs.Stretches.{none-swept}
 
 -- the marks of a part from row 0 on
 pub marks-from-first : (table : List ℕ) (n w : ℕ) → Sized table n w → (i count m : ℕ) → i < n → count ≤ w → m ≡ 4 + (i * w + 0) → InMarks table m count
@@ -88,6 +92,20 @@ module _ {plan table : List ℕ} {z : Sizes} {n i : ℕ} {x : Comparison} {left 
   pub lines-stretch : DirectRows table n z i x left right (r .numbers) (r .end)
   lines-stretch = stretch (r .numbers) (r .end) (d .in-order .2) (λ t l k. d .lines-direct t l k .0)
 
+  -- the positions that are not direct, unless one of them is before the run
+  pub later-positions : back ≤ r .end → StillPositions table n z i x left right (r .end) (allRows z + back)
+  later-positions h = record {
+    few-channels = f .few-channels;
+    a-cycle = f .a-cycle;
+    sized = known .sized;
+    present = known .present;
+    terms-fit = known .terms-fit;
+    few = omega (arith, farther-le z x back (known .farther) (known .terms-fit));
+    in-order = omega (arith, d .in-order .2);
+    in-run = low (r .end) h;
+    small = known .small;
+  }
+
   module _ {values steps : List ℕ} (lanes : Lanes plan z values steps still) where
     abbrev at : ℕ → Bool
     at = positionSays plan table z i x (z .start + back)
@@ -110,6 +128,10 @@ module _ {plan table : List ℕ} {z : Sizes} {n i : ℕ} {x : Comparison} {left 
         ap (λ (j : ℕ). not (eqb (getD table j 0) 1)) place
         ∙ before-says f table i x left right (known .left-code) (known .right-code) (known .terms-fit) (z .start + back) t (omega arith) (omega arith) (omega arith))
 
+    -- where nothing drifts, the numbers tell all at every position at which no term is read before the run
+    still-at : still ≡ true → (t : ℕ) → back ≤ t → stillSays values table z i x left right t ≡ at t
+    still-at e t h = still-says f (lanes .no-drift e) values (lanes .readings-laid) table i x left right (known .left-code) (known .right-code) (known .terms-fit) (z .start + back) t (low t h) (in-cycle t)
+
     numbers-swept : {B : Bool} → B ≡ allBelow (λ k. numbersSay values (allRows z) x left right (mark (r .before + k)) (r .before + k)) (r .numbers - r .before)
         → B ≡ allBelow (λ k. at (r .before + k)) (r .numbers - r .before)
     numbers-swept e = e ∙ all-ext _ _ (r .numbers - r .before) (λ k l. position (r .before + k) (d .numbers-direct (r .before + k) (omega arith) (omega arith)) (let order = d .in-order in omega arith))
@@ -121,8 +143,7 @@ module _ {plan table : List ℕ} {z : Sizes} {n i : ℕ} {x : Comparison} {left 
             (λ h. settled (omega arith) still refl)
           where
             settled : z .start + back ≤ t → (b : Bool) → still ≡ b → numbersSay values (allRows z) x left right (mark t) t ≡ at t
-            settled h true e =
-                still-numbers-say f table i x left right (known .left-code) (known .right-code) (known .terms-fit) (z .start + back) t few values (lanes .readings-laid) (low t (on .0 .0)) (below t (on .0 .1)) h (lanes .no-drift e) (in-cycle t h)
+            settled h true e = direct-still values table z i x left right t few (low t (on .0 .0)) (below t (on .0 .1)) ∙ still-at e t (on .0 .0)
             settled h false e = absurd (let early = on .1 e in omega arith)
 
     lines-swept : {D : Bool} → D ≡ allBelow (λ k. linesSay values (allRows z) x left right steps (mark (r .numbers + k)) (r .numbers + k)) (r .end - r .numbers)
@@ -134,14 +155,26 @@ module _ {plan table : List ℕ} {z : Sizes} {n i : ℕ} {x : Comparison} {left 
         (low (r .numbers + k) (on .0 .0)) (below (r .numbers + k) (on .0 .1)) (on .1) steps (lanes .drifts-laid (on .2)))
 
     -- the four together
-    pub all-swept : (m : ℕ) → m ≡ 4 + (i * allRows z + 0) → {A B D E : Bool} → A ≡ allBelow (λ k. not (markIn table (m + k))) (r .before)
-        → B ≡ allBelow (λ k. numbersSay values (allRows z) x left right (mark (r .before + k)) (r .before + k)) (r .numbers - r .before)
-        → D ≡ allBelow (λ k. linesSay values (allRows z) x left right steps (mark (r .numbers + k)) (r .numbers + k)) (r .end - r .numbers)
-        → E ≡ allBelow (λ k. at (r .end + k)) (allRows z + back - r .end)
-        → (((A && B) && D) && E) ≡ allBelow (agreesOn plan table (allRows z) i x) (allRows z)
-    all-swept m first a b e g =
+    together : {A B D E : Bool} → A ≡ allBelow at (r .before) → B ≡ allBelow (λ k. at (r .before + k)) (r .numbers - r .before) → D ≡ allBelow (λ k. at (r .numbers + k)) (r .end - r .numbers)
+        → E ≡ allBelow (λ k. at (r .end + k)) (allRows z + back - r .end) → (((A && B) && D) && E) ≡ allBelow (agreesOn plan table (allRows z) i x) (allRows z)
+    together a b e g =
         let order = d .in-order in
-        swept-on at (r .end) (allRows z + back) (omega arith)
-        (swept-on at (r .numbers) (r .end) (order .1)
-        (swept-on at (r .before) (r .numbers) (order .0) (before-swept m first a) (numbers-swept b)) (lines-swept e)) g
-        ∙ (let farther = known .farther in positions-for-rows f table i x (known .terms-fit) back (omega arith) (omega arith))
+        let farther = known .farther in
+        swept-on at (r .end) (allRows z + back) (omega arith) (swept-on at (r .numbers) (r .end) (order .1) (swept-on at (r .before) (r .numbers) (order .0) a b) e) g
+        ∙ positions-for-rows f table i x (known .terms-fit) back (omega arith) (omega arith)
+
+    module _ (m : ℕ) (first : m ≡ 4 + (i * allRows z + 0)) {A B : Bool} (a : A ≡ allBelow (λ k. not (markIn table (m + k))) (r .before))
+        (b : B ≡ allBelow (λ k. numbersSay values (allRows z) x left right (mark (r .before + k)) (r .before + k)) (r .numbers - r .before)) where
+      pub all-swept : {D E : Bool} → D ≡ allBelow (λ k. linesSay values (allRows z) x left right steps (mark (r .numbers + k)) (r .numbers + k)) (r .end - r .numbers)
+          → E ≡ allBelow (λ k. at (r .end + k)) (allRows z + back - r .end) → (((A && B) && D) && E) ≡ allBelow (agreesOn plan table (allRows z) i x) (allRows z)
+      all-swept e g = together (before-swept m first a) (numbers-swept b) (lines-swept e) g
+
+      -- where nothing drifts there are no lines
+      pub still-swept : still ≡ true → back ≤ r .end → {E : Bool} → E ≡ allBelow (λ k. stillSays values table z i x left right (r .end + k)) (allRows z + back - r .end)
+          → ((A && B) && E) ≡ allBelow (agreesOn plan table (allRows z) i x) (allRows z)
+      still-swept e h {E} g =
+          ap (λ (c : Bool). c && E) (sym (and-true (A && B)))
+          ∙ together (before-swept m first a) (numbers-swept b) (none-swept _ _ _ no-lines) (g ∙ all-ext _ _ _ (λ k l. still-at e (r .end + k) (omega arith)))
+        where
+          no-lines : r .end ≤ r .numbers
+          no-lines = by-cases (decLt (r .numbers) (r .end)) (λ l. absurd (true≢false (sym e ∙ d .lines-direct (r .numbers) (omega arith) l .2))) (λ l. omega arith)

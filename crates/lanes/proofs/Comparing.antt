@@ -27,6 +27,12 @@ numbers-below a b e f = sym (bias-ltZ a b bias) ∙ ap₂ ltZ e f
 pub numbers-same : (a b : ℕ) {x y : ℤ} → unbiased a ≡ x → unbiased b ≡ y → eqb a b ≡ testOf Same x y
 numbers-same a b e f = sym (bias-eqZ a b bias) ∙ ap₂ eqZ e f
 
+pub compare-below : (a b : ℕ) {relation : Relation} → relation ≡ Below → ltb a b ≡ testOf relation (unbiased a) (unbiased b)
+compare-below a b e = rw e (numbers-below a b refl refl)
+
+pub compare-same : (a b : ℕ) {relation : Relation} → relation ≡ Same → eqb a b ≡ testOf relation (unbiased a) (unbiased b)
+compare-same a b e = rw e (numbers-same a b refl refl)
+
 -- ---- two lines
 
 pub line-is : (a d : ℕ) {x y : ℤ} → unbiased a ≡ x → unbiased d ≡ y → lineFrom a d ≡ record { at = x; step = y }

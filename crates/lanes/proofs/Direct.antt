@@ -19,7 +19,6 @@ use Rattle.fields.proofs.Differences.{by-sub, sub-pos, sub-same, sub-mul, sub-e
 use Rattle.plan.specs.Layout.{channels, startRows, cycleRows, readings, drifts, entry, readingOf, driftOf}
 use Rattle.plan.specs.Positions.{rowOf}
 use Rattle.plan.specs.Run.{readingOn, readingAt, runOf}
-use Rattle.plan.specs.inner.Drifts.{Still}
 use Rattle.plan.specs.inner.Sizes.{allRows, Fitting}
 use Rattle.plan.specs.declared.sizes.Sizes.{Sizes}
 use Rattle.plan.proofs.Rows.{row-start, pass-start}
@@ -38,7 +37,6 @@ use Rattle.lanes.specs.inner.Lanes.{LaidTo, Laid}
 use Rattle.lanes.specs.inner.Positions.{saysAt, positionSays}
 use Rattle.table.specs.Layout.{marked}
 use Rattle.table.proofs.Places.{cell}
-use Rattle.lanes.proofs.Comparing.{level, level-agrees}
 
 -- ---- shifts
 
@@ -67,7 +65,7 @@ blank-right test x e = rw e (go x)
     go (number a) = refl
     go beforeRun = refl
 
-no-passes : (z d : ℤ) → z +ℤ pos 0 *ℤ d ≡ z
+pub no-passes : (z d : ℤ) → z +ℤ pos 0 *ℤ d ≡ z
 no-passes z d = ap (λ (x : ℤ). z +ℤ x) (none d) ∙ +ℤ-idr z
   where
     none : (d : ℤ) → pos 0 *ℤ d ≡ pos 0
@@ -135,17 +133,6 @@ module _ {plan : List ℕ} {z : Sizes} (f : Fitting plan z) (row : ℕ) where
               ap (signedOf 4) (laid .laid channel (row + code - 4) (omega arith) (cell (z .channels) (allRows z) channel (row + code - 4) (reading-fits (z .channels) channel shift h .0) (omega arith)))
               ∙ sym (direct-drift channel code shift e low high ∙ rw (f .v-is) refl)
 
-      -- in a cycle in which nothing drifts
-      pub level-there : Still plan (z .start) (allRows z) → z .start + 4 ≤ row + code → termLine plan x row ≡ level (termLine plan x row .at)
-      unfolding termLine Still
-      level-there still inside = go x g fits
-        where
-          go : (x : Term) → subℕ code 4 ≡ shiftIn x → termFits (z .channels) x ≡ true → termLine plan x row ≡ level (termLine plan x row .at)
-          go (Constant c) e h = refl
-          go (Reading channel shift) e h =
-              ap (λ (s : ℤ). record { at = termLine plan (Reading channel shift) row .at; step = s })
-              (direct-drift channel code shift e low high ∙ still (row + code - 4) channel (omega arith) (omega arith) (rw (f .v-is) (reading-fits (z .channels) channel shift h .0)))
-
 -- ---- direct positions
 
 module _ {plan : List ℕ} {z : Sizes} (f : Fitting plan z) (table : List ℕ) (i : ℕ) (x : Comparison) (left right : ℕ) (gl : subℕ left 4 ≡ shiftIn (x .left)) (gr : subℕ right 4 ≡ shiftIn (x .right)) (fits : TermsFit z x)
@@ -197,21 +184,10 @@ module _ {plan : List ℕ} {z : Sizes} (f : Fitting plan z) (table : List ℕ) (
             (seen-direct f t (x .left) left gl (low .0) (high .0) ∙ ap number (sym left-number))
             (seen-direct f t (x .right) right gr (low .1) (high .1) ∙ ap number (sym right-number))
 
-    -- from there on by the lines,
+    -- from there on by the lines
     pub lines-say : lines ≤ t → (steps : List ℕ) → Laid (drifts plan) (z .channels) (allRows z) steps → linesSay values (allRows z) x left right steps mark t ≡ positionSays plan table z i x lines t
     lines-say h steps down =
         ap₂ (λ (p q : Line). verdictAgrees (judgeLines (x .relation) p q) mark)
         (ap₂ (λ (m n : ℤ). record { at = m; step = n }) left-number (lane-drift-is f t (x .left) left gl (low .0) (high .0) (fits .0) steps down))
         (ap₂ (λ (m n : ℤ). record { at = m; step = n }) right-number (lane-drift-is f t (x .right) right gr (low .1) (high .1) (fits .1) steps down))
-        ∙ sym (settled h)
-
-    -- or by the numbers too, where nothing drifts in the cycle
-    pub still-numbers-say : lines ≤ t → Still plan (z .start) (allRows z) → (z .start + 4 ≤ t + left) × (z .start + 4 ≤ t + right)
-        → numbersSay values (allRows z) x left right mark t ≡ positionSays plan table z i x lines t
-    still-numbers-say h still inside =
-        ap (Bool·beq mark) (ap₂ (testOf (x .relation)) left-number right-number)
-        ∙ level-agrees (x .relation) (termLine plan (x .left) t .at) (termLine plan (x .right) t .at) mark
-        ∙ ap₂ (λ (p q : Line). verdictAgrees (judgeLines (x .relation) p q) mark)
-        (sym (level-there f t (x .left) left gl (low .0) (high .0) (fits .0) still (inside .0)))
-        (sym (level-there f t (x .right) right gr (low .1) (high .1) (fits .1) still (inside .1)))
         ∙ sym (settled h)

@@ -1,5 +1,5 @@
 -- The positions that are direct for a comparison. Assumes nothing.
-use Prim.Native.Nat.{ℕ, _+_, _-_, min, max, _≤_, _<_}
+use Prim.Native.Nat.{ℕ, _+_, _-_, min, max}
 use native.Mathlib.Omega.{arith}
 use mathlib.Core.Path.{_≡_, refl}
 use mathlib.Core.Bool.{Bool, true, false, cond, true≢false}

@@ -6,5 +6,6 @@ pub mod Positions
 pub mod Standing
 pub mod Stretches
 pub mod Direct
+pub mod Still
 pub mod Dividing
 pub mod AllRows

@@ -1,10 +1,10 @@
 -- The rows of a plan, each on all its passes, are the positions before the lines, each alone, and one cycle of them from there on,
 -- each on every pass from there on: where marks are right on the ones they are right on the others. Assumes nothing.
-use Prim.Native.Nat.{ℕ, zero, suc, _+_, _*_, _-_, _/_, _%_, _≤_, _<_}
+use Prim.Native.Nat.{ℕ, zero, suc, _+_, _*_, _-_, _/_, _≤_, _<_}
 use native.Mathlib.Nat.{mod-lt, div-add-mod', mul-le-mul-right, le-mul-of-pos-right}
 use native.Mathlib.Decide.{decLt}
 use native.Mathlib.Omega.{arith}
-use mathlib.Core.Path.{_≡_, refl, sym, ap, ap₂, _∙_}
+use mathlib.Core.Path.{_≡_, refl, sym, ap, _∙_}
 use mathlib.Core.Bool.{Bool, true, false, _&&_, Bool·beq, and-false, and-assoc, and-eq-true-iff, false≢true}
 use mathlib.Core.List.{List}
 use mathlib.Core.Logic.{by-cases}
@@ -16,7 +16,7 @@ use Rattle.plan.proofs.Rows.{row-start, row-ge, row-lt, row-split, row-again}
 use Rattle.table.specs.Layout.{marked}
 use Rattle.table.specs.inner.Tables.{allBelow}
 use Rattle.table.proofs.AllBelow.{all-each, each-all}
-use Rattle.verdict.specs.Rows.{join, joinFirst, testAt, judgeRow}
+use Rattle.verdict.specs.Rows.{join, joinFirst, testAt}
 use Rattle.verdict.specs.inner.Reach.{reach, TermsFit}
 use Rattle.verdict.specs.inner.Settled.{judgeFrom}
 use Rattle.verdict.specs.declared.Comparison.{Comparison}

@@ -5,3 +5,4 @@ pub mod Direct
 pub mod Lanes
 pub mod Positions
 pub mod Ranges
+pub mod Still

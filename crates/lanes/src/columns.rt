@@ -40,6 +40,14 @@ pub fn drift(drifts: &[u8], column: Column, k: usize) -> u64
     BIAS
 }
 
+// A term's whole lane, in lanes of `w` rows, its shift left aside.
+pub fn lane_of(term: Term, w: usize) -> Column
+    requires { ⌜ (1 ≤ w) × (w ≤ 256) × (FewChannels term) ⌝ }
+    ensures { λ r. ⌜ Stands w 0 4 term r ⌝ }
+{
+    column_of(term, 4, w, 0)
+}
+
 // The column of a term whose shift has this code, on the rows from `row` on, in lanes of `w` rows.
 pub fn column_of(term: Term, code: usize, w: usize, row: usize) -> Column
     requires { ⌜ (w ≤ 256) × (row < w) × (code ≤ 8) × (4 ≤ row + code) × (FewChannels term) ⌝ }

@@ -13,9 +13,13 @@ ghost use Rattle.lanes.specs.inner.Agreement.{verdictAgrees};
 ghost use Rattle.lanes.specs.inner.Lanes.{Lanes};
 ghost use Rattle.lanes.specs.inner.Direct.{agreesOn, numbersSay, linesSay, DirectRows, LongLanes};
 ghost use Rattle.lanes.specs.inner.Positions.{saysAt, positionSays};
+ghost use Rattle.lanes.specs.inner.Still.{stillSays, StillPositions};
 use crate::columns::column_of;
+use crate::columns::lane_of;
+use crate::columns::number;
 use crate::ranges::ranges_of;
 use crate::sweeps::lines_agree;
+use crate::sweeps::numbers_compare;
 use crate::sweeps::values_agree;
 use plan::positions::row_of;
 use plan::sizes::Sizes;
@@ -158,6 +162,43 @@ fn direct_lines(
     )
 }
 
+// The positions from one up to another, where nothing drifts in the cycle and no term is read before the run: each by the numbers of
+// the rows on which its shifts land, whatever the pass.
+fn still_one_by_one(
+    values: &[u8],
+    table: &[u8],
+    n: usize,
+    sizes: Sizes,
+    i: usize,
+    comparison: Comparison,
+    left: usize,
+    right: usize,
+    from: usize,
+    to: usize,
+) -> bool
+    requires { ⌜ (StillPositions (now table) n sizes i comparison left right from to) × (LongLanes sizes (now values)) ⌝ }
+    ensures { λ r. ⌜ r ≡ allBelow (λ k. stillSays (now (values .entry)) (now (table .entry)) sizes i comparison left right (from + k)) (to - from) ⌝ }
+{
+    let w = sizes.start + sizes.cycle;
+    let relation = comparison.relation;
+    let left_term = comparison.left;
+    let right_term = comparison.right;
+    let x = lane_of(left_term, w);
+    let y = lane_of(right_term, w);
+    let count = to - from;
+    let mut all = true;
+    let mut k = 0;
+    while k < count {
+        let t = from + k;
+        let a = number(values, x, row_of(sizes, t + left - 4));
+        let b = number(values, y, row_of(sizes, t + right - 4));
+        let mark = mark_at(table, n, w, i, row_of(sizes, t));
+        all = all & agree(mark, numbers_compare(relation, a, b));
+        k += 1;
+    }
+    all
+}
+
 // A comparison's verdict says on every row what its mark says, on every pass. `values` and `drifts` are the plan's lanes; where
 // nothing drifts in the cycle the latter are not looked at.
 pub fn verdicts_agree(
@@ -194,6 +235,23 @@ pub fn verdicts_agree(
         ranges.before,
         ranges.numbers,
     );
+    if still {
+        if back <= ranges.end {
+            let later = still_one_by_one(
+                values,
+                table,
+                n,
+                sizes,
+                i,
+                comparison,
+                left,
+                right,
+                ranges.end,
+                w + back,
+            );
+            return before & numbers & later;
+        }
+    }
     let lines = direct_lines(
         values,
         drifts,

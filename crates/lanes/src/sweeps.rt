@@ -3,6 +3,8 @@
 ghost use mathlib.Core.Path.{_≡_};
 ghost use Prim.Native.Nat.{_+_};
 ghost use Rattle.table.specs.inner.Tables.{allBelow, markIn};
+ghost use Rattle.fields.specs.inner.Biased.{unbiased};
+ghost use Rattle.verdict.specs.Comparisons.{testOf};
 ghost use Rattle.verdict.specs.declared.Relation.the-variants.{Below, Same};
 ghost use Rattle.verdict.specs.Lines.{judgeLess, judgeEqual};
 ghost use Rattle.lanes.specs.inner.Agreement.{lineFrom, verdictAgrees, stays, valuesAgree, linesAgree};
@@ -12,6 +14,16 @@ use crate::columns::drift;
 use crate::columns::number;
 use table::sweeps::agree;
 use verdict::Relation;
+
+// How two numbers kept without a sign compare.
+pub fn numbers_compare(relation: Relation, a: u64, b: u64) -> bool
+    ensures { λ r. ⌜ r ≡ testOf relation (unbiased a) (unbiased b) ⌝ }
+{
+    match relation {
+        Relation::Below => a < b,
+        Relation::Same => a == b,
+    }
+}
 
 // The marks say whether the left number is below the right one.
 fn less_values(values: &[u8], x: Column, y: Column, table: &[u8], m: usize, count: usize) -> bool

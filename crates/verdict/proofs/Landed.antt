@@ -25,7 +25,7 @@ use Rattle.plan.proofs.Shifts.{shifted, in-run}
 use Rattle.verdict.specs.Lines.{Line}
 use Rattle.verdict.specs.Rows.{channelLine, termLine}
 use Rattle.verdict.specs.inner.Reach.{back, reach, latest}
-use Rattle.verdict.specs.inner.Landed.{shiftIn, Lands, LandsAt, lineOn, landedLine}
+use Rattle.verdict.specs.inner.Landed.{shiftIn, Lands, LandsAt, landedLine}
 
 -- ---- shifts of terms
 

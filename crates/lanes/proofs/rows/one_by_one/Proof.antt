@@ -2,7 +2,6 @@
 use Prim.Native.Nat.{_+_, _-_, _≤_}
 use native.Mathlib.Omega.{arith}
 use mathlib.Core.Path.{_≡_}
-use Rattle.plan.specs.inner.Sizes.{allRows}
 use Rattle.plan.proofs.Rows.{row-lt}
 use Rattle.table.specs.inner.Tables.{allBelow}
 use Rattle.table.proofs.AllBelow.{sweep-first, sweep-next, sweep-end}
@@ -25,7 +24,9 @@ abbrev μ-loop : tie.MeasureT-loop
 
 -- src/rows.rt:77:13
 add-w : tie.Need-add-w Inv-loop μ-loop
-add-w c = omega (arith, c .before .before .before .pre .0 .few-rows)
+add-w c =
+    let start = c .before .before .before in
+    omega (arith, start .pre .0 .few-rows)
 
 -- src/rows.rt:78:17
 sub-count : tie.Need-sub-count Inv-loop μ-loop
@@ -37,23 +38,33 @@ loop-holds c = (omega arith, sweep-first _)
 
 -- src/rows.rt:82:17
 add-t : tie.Need-add-t Inv-loop μ-loop
-add-t c = omega (arith, c .before .before .before .before .before .pre .0 .few-rows)
+add-t c =
+    let start = c .before .before .before .before .before in
+    omega (arith, start .pre .0 .few-rows)
 
 -- src/rows.rt:83:44
 row-of-requires : tie.Need-row-of-requires Inv-loop μ-loop
-row-of-requires c κs = (c .before .before .before .before .before .pre .0 .a-cycle, c .before .before .before .before .before .pre .0 .few-rows)
+row-of-requires c κs =
+    let start = c .before .before .before .before .before in
+    (start .pre .0 .a-cycle, start .pre .0 .few-rows)
 
 -- src/rows.rt:83:13
 mark-at-requires : tie.Need-mark-at-requires Inv-loop μ-loop
-mark-at-requires c κs = (c .before .before .before .before .before .before .pre .1, c .before .before .before .before .before .before .pre .2, rw (c .row-of .ensures) (row-lt (c .before .before .before .before .before .before .args .sizes .start) (c .before .before .before .before .before .before .args .sizes .cycle) (c .before .before .before .before .before .before .pre .0 .a-cycle) _))
+mark-at-requires c κs =
+    let start = c .before .before .before .before .before .before in
+    (start .pre .1, start .pre .2, rw (c .row-of .ensures) (row-lt (start .args .sizes .start) (start .args .sizes .cycle) (start .pre .0 .a-cycle) _))
 
 -- src/rows.rt:84:21
 position-agrees-requires : tie.Need-position-agrees-requires Inv-loop μ-loop
-position-agrees-requires c κs = (c .before .before .before .before .before .before .before .pre .0, c .before .before .before .before .before .before .before .pre .3, c .before .before .before .before .before .before .before .pre .4, c .before .before .before .before .before .before .before .pre .5, omega (arith, c .before .before .before .before .before .before .before .pre .0 .a-cycle))
+position-agrees-requires c κs =
+    let start = c .before .before .before .before .before .before .before in
+    (start .pre .0, start .pre .3, start .pre .4, start .pre .5, omega (arith, start .pre .0 .a-cycle))
 
 -- src/rows.rt:85:9
 add-k : tie.Need-add-k Inv-loop μ-loop
-add-k c = omega (arith, c .before .before .before .before .before .before .before .before .pre .0 .few-rows)
+add-k c =
+    let start = c .before .before .before .before .before .before .before .before in
+    omega (arith, start .pre .0 .few-rows)
 
 -- src/rows.rt:81:5
 loop-less : tie.Need-loop-less Inv-loop μ-loop
@@ -61,11 +72,18 @@ loop-less c = omega arith
 
 -- src/rows.rt:81:5
 loop-again : tie.Need-loop-again Inv-loop μ-loop
-loop-again c = (omega arith, sweep-next _ _ (c .before .before .before .before .loop .inv .1) (by-its-mark (now (c .before .before .before .before .before .before .before .before .args .plan)) (now (c .before .before .before .before .before .before .before .before .args .table)) (c .before .before .before .before .before .before .before .before .args .sizes) (c .before .before .before .before .before .before .before .before .args .i) (c .before .before .before .before .before .before .before .before .args .comparison) (c .before .before .before .before .before .before .before .before .args .lines) _ (c .before .before .row-of .ensures) (c .before .mark-at .ensures) (c .position-agrees .ensures)))
+loop-again c =
+    let start = c .before .before .before .before .before .before .before .before in
+    let loop = c .before .before .before .before .loop in
+    let row-of = c .before .before .row-of in
+    let mark-at = c .before .mark-at in
+    (omega arith, sweep-next _ _ (loop .inv .1) (by-its-mark (now (start .args .plan)) (now (start .args .table)) (start .args .sizes) (start .args .i) (start .args .comparison) (start .args .lines) _ (row-of .ensures) (mark-at .ensures) (c .position-agrees .ensures)))
 
 -- src/rows.rt:63:1
 returns : tie.Need-returns Inv-loop μ-loop
-returns c = sweep-end _ _ _ (c .before .loop .inv .0) (c .loop-test .left) (c .before .loop .inv .1)
+returns c =
+    let loop = c .before .loop in
+    sweep-end _ _ _ (loop .inv .0) (c .loop-test .left) (loop .inv .1)
 
 pub one-by-one-spec : {M : Type 1} → statement M
 one-by-one-spec =

@@ -17,6 +17,7 @@ use Rattle.lanes.proofs.ranges.ranges_of.Reads as ranges-of-reads
 use Rattle.lanes.proofs.rows.direct_lines.Reads as direct-lines-reads
 use Rattle.lanes.proofs.rows.direct_numbers.Reads as direct-numbers-reads
 use Rattle.lanes.proofs.rows.one_by_one.Reads as one-by-one-reads
+use Rattle.lanes.proofs.rows.still_one_by_one.Reads as still-one-by-one-reads
 use Rattle.table.proofs.bytes.place.Reads as place-reads
 use Rattle.table.proofs.sweeps.none_marked.Reads as none-marked-reads
 use Rattle.verdict.proofs.bounds.larger.Reads as larger-reads
@@ -113,44 +114,58 @@ direct-numbers-requires c κs =
     let start = ranges .before .before .before .before .before .before .before .before .before .before .before .before in
     (law.numbers-stretch (ranged ranges), law.long-lanes (start .args .sizes) (start .pre .1 .readings-laid))
 
--- src/rows.rt:197:9
+add-still-one-by-one : tie.Need-add-still-one-by-one
+add-still-one-by-one c =
+    let ranges = c .before .before .before .before .before .before in
+    let start = ranges .before .before .before .before .before .before .before .before .before .before .before .before in
+    omega (arith, start .pre .0 .few-rows, few-back (ranges .before .before))
+
+still-one-by-one-requires : tie.Need-still-one-by-one-requires
+still-one-by-one-requires c κs =
+    let ranges = c .before .before .before .before .before .before in
+    let start = ranges .before .before .before .before .before .before .before .before .before .before .before .before in
+    (law.later-positions (ranged ranges) (c .if2 .taken), law.long-lanes (start .args .sizes) (start .pre .1 .readings-laid))
+
+returns : tie.Need-returns
+returns c =
+    let ranges = c .before .before .before .before .before .before .before in
+    let start = ranges .before .before .before .before .before .before .before .before .before .before .before .before in
+    law.still-swept (ranged ranges) (start .pre .1) _ (c .before .before .before .before .before .before .place .ensures) (c .before .before .before .before .before .none-marked .ensures) (c .before .before .before .before .direct-numbers .ensures)
+    (c .before .before .before .if1 .taken) (c .before .if2 .taken) (c .still-one-by-one .ensures)
+
 direct-lines-requires : tie.Need-direct-lines-requires
 direct-lines-requires c κs =
-    let ranges = c .before .before .before in
+    let ranges = c .before .before .before .before in
     let start = ranges .before .before .before .before .before .before .before .before .before .before .before .before in
     (law.lines-stretch (ranged ranges), law.long-lanes (start .args .sizes) (start .pre .1 .readings-laid), law.lines-lanes (ranged ranges) (start .pre .1))
 
--- src/rows.rt:217:9
 add-one-by-one : tie.Need-add-one-by-one
 add-one-by-one c =
-    let ranges = c .before .before .before .before .before in
+    let ranges = c .before .before .before .before .before .before in
     let start = ranges .before .before .before .before .before .before .before .before .before .before .before .before in
     omega (arith, start .pre .0 .few-rows, few-back (ranges .before .before))
 
--- src/rows.rt:219:9
 add-one-by-one-2 : tie.Need-add-one-by-one-2
 add-one-by-one-2 c =
-    let ranges = c .before .before .before .before .before in
+    let ranges = c .before .before .before .before .before .before in
     let start = ranges .before .before .before .before .before .before .before .before .before .before .before .before in
     omega (arith, start .pre .0 .few-rows, few-back (ranges .before .before))
 
--- src/rows.rt:210:9
 one-by-one-requires : tie.Need-one-by-one-requires
 one-by-one-requires c κs =
-    let ranges = c .before .before .before .before .before in
+    let ranges = c .before .before .before .before .before .before in
     let start = ranges .before .before .before .before .before .before .before .before .before .before .before .before in
     let larger = ranges .before .before in
     let inside = farther-in (start .args .sizes) (start .args .comparison) _ (farther larger) (start .args .sizes .start + larger .larger .result) (omega arith) in
     let order = ranges .ranges-of .ensures .in-order in
     (start .pre .0, start .pre .2, start .pre .3, start .pre .4, inside .0, inside .1, omega arith, omega (arith, few-back larger))
 
--- src/rows.rt:163:1
-returns : tie.Need-returns
-returns c =
-    let ranges = c .before .before .before .before .before .before in
+returns-2 : tie.Need-returns-2
+returns-2 c =
+    let ranges = c .before .before .before .before .before .before .before in
     let start = ranges .before .before .before .before .before .before .before .before .before .before .before .before in
-    law.all-swept (ranged ranges) (start .pre .1) _ (c .before .before .before .before .before .place .ensures) (c .before .before .before .before .none-marked .ensures)
-    (c .before .before .before .direct-numbers .ensures) (c .before .before .direct-lines .ensures) (c .one-by-one .ensures)
+    law.all-swept (ranged ranges) (start .pre .1) _ (c .before .before .before .before .before .before .place .ensures) (c .before .before .before .before .before .none-marked .ensures) (c .before .before .before .before .direct-numbers .ensures)
+    (c .before .before .direct-lines .ensures) (c .one-by-one .ensures)
 
 pub verdicts-agree-spec : {M : Type 1} → statement M
 verdicts-agree-spec =
@@ -167,8 +182,11 @@ verdicts-agree-spec =
     place-requires
     none-marked-requires
     direct-numbers-requires
+    add-still-one-by-one
+    still-one-by-one-requires
+    returns
     direct-lines-requires
     add-one-by-one
     add-one-by-one-2
     one-by-one-requires
-    returns)
+    returns-2)

@@ -1,6 +1,6 @@
 -- `verdict::rows::judge_from` meets its contract. Assumes nothing.
 use native.Mathlib.Omega.{arith}
-use mathlib.Core.Path.{_≡_, ap₂, _∙_}
+use mathlib.Core.Path.{ap₂, _∙_}
 use Rattle.verdict.specs.Comparisons.{judgeLines}
 use Rattle.verdict.specs.inner.Landed.{Lands}
 use Rattle.verdict.proofs.Landed.{shift-fits, from-reached, line-from}

@@ -1,0 +1,199 @@
+-- Where nothing drifts in the cycle, the numbers of the rows on which shifts land tell all, whatever the pass. Assumes nothing.
+use Prim.Native.Nat.{ℕ, _+_, _*_, _-_, _≤_, _<_}
+use native.Mathlib.Nat.{zero-add}
+use native.Mathlib.Decide.{decLt}
+use native.Mathlib.Omega.{arith}
+use mathlib.Core.Path.{_≡_, refl, sym, ap, ap₂, _∙_}
+use mathlib.Core.Bool.{Bool, true, Bool·beq}
+use mathlib.Core.List.{List}
+use mathlib.Core.Logic.{by-cases}
+use lib.ListN.{length}
+use lib.IntN.{ℤ, pos, subℕ, _+ℤ_, _*ℤ_, +ℤ-idr, *ℤ-zero}
+use Rattle.cltlb.specs.Run.{number}
+use Rattle.cltlb.specs.Truth.{valueAt}
+use Rattle.cltlb.specs.Fits.{termFits}
+use Rattle.cltlb.specs.declared.Term.{Term}
+use Rattle.cltlb.specs.declared.Term.the-variants.{Constant, Reading}
+use Rattle.cltlb.proofs.Fits.{reading-fits}
+use Rattle.fields.specs.inner.Biased.{unbiased}
+use Rattle.fields.specs.TwosComplement.{signedOf, signedAt}
+use Rattle.fields.proofs.Differences.{sub-pos}
+use Rattle.plan.specs.Layout.{readings, entry, readingOf, driftOf}
+use Rattle.plan.specs.Positions.{rowOf, passOf}
+use Rattle.plan.specs.Run.{readingOn, readingAt, runOf}
+use Rattle.plan.specs.inner.Drifts.{Still}
+use Rattle.plan.specs.inner.Sizes.{allRows, mostArray, Fitting}
+use Rattle.plan.specs.declared.sizes.Sizes.{Sizes}
+use Rattle.plan.proofs.Rows.{row-start, pass-start, row-ge, row-lt}
+use Rattle.plan.proofs.Shifts.{shifted, in-run}
+use Rattle.table.specs.Layout.{marked}
+use Rattle.table.proofs.Places.{cell}
+use Rattle.verdict.specs.Comparisons.{testOf, ofNumber, tested, judgeLines}
+use Rattle.verdict.specs.Rows.{channelLine, termLine, testAt}
+use Rattle.verdict.specs.inner.Landed.{shiftIn}
+use Rattle.verdict.specs.inner.Reach.{TermsFit}
+use Rattle.verdict.specs.declared.Comparison.{Comparison}
+use Rattle.verdict.specs.declared.Relation.{Relation}
+use Rattle.lanes.specs.declared.columns.Column.{Column}
+use Rattle.lanes.specs.inner.Columns.{numberIn, Reaches, FewChannels, Stands, laneNumber}
+use Rattle.lanes.specs.inner.Direct.{numbersSay, LongLanes}
+use Rattle.lanes.specs.inner.Lanes.{LaidTo, Laid}
+use Rattle.lanes.specs.inner.Positions.{positionSays}
+use Rattle.lanes.specs.inner.Still.{landedNumber, stillSays, StillPositions}
+use Rattle.lanes.proofs.Comparing.{level, level-agrees}
+use Rattle.lanes.proofs.Direct.{no-passes}
+use Rattle.lanes.proofs.Positions.{says-alone, says-settled}
+use Rattle.lanes.proofs.Reaching.{reaches-row}
+use Rattle.lanes.proofs.Standing.{few-channels, column-number, column-reaches}
+
+-- ---- readings and terms
+
+module _ {plan : List ℕ} {z : Sizes} (f : Fitting plan z) (still : Still plan (z .start) (allRows z)) where
+  abbrev P : ℕ
+  P = z .start
+
+  abbrev C : ℕ
+  C = z .cycle
+
+  -- no cycle row drifts
+  drift-still : (channel s : ℕ) → channel < z .channels → P ≤ s → driftOf plan (rowOf P C s) channel ≡ pos 0
+  unfolding Still
+  drift-still channel s l h = still (rowOf P C s) channel (row-ge P C s h) (row-lt P C (f .a-cycle) s) (rw (f .v-is) l)
+
+  -- so that a reading is that of its row
+  reading-still : (channel s : ℕ) → channel < z .channels → readingAt plan channel s ≡ readingOf plan (rowOf P C s) channel
+  unfolding readingAt readingOn
+  reading-still channel s l = rw (f .p-is, f .c-is) (by-cases (decLt s P) start (λ h. in-cycle (omega arith)))
+    where
+      r : ℤ
+      r = readingOf plan (rowOf P C s) channel
+
+      start : s < P → r +ℤ pos (passOf P C s) *ℤ driftOf plan (rowOf P C s) channel ≡ r
+      start h = ap (λ (n : ℕ). r +ℤ pos n *ℤ driftOf plan (rowOf P C s) channel) (pass-start P C s (omega arith)) ∙ no-passes r (driftOf plan (rowOf P C s) channel)
+
+      in-cycle : P ≤ s → r +ℤ pos (passOf P C s) *ℤ driftOf plan (rowOf P C s) channel ≡ r
+      in-cycle h =
+          ap (λ (d : ℤ). r +ℤ pos (passOf P C s) *ℤ d) (drift-still channel s l h)
+          ∙ ap (λ (y : ℤ). r +ℤ y) (*ℤ-zero (pos (passOf P C s)))
+          ∙ +ℤ-idr r
+
+  module _ (values : List ℕ) (laid : Laid (readings plan) (z .channels) (allRows z) values) where
+    -- a row of a channel, in its lane
+    in-lane : (channel s : ℕ) → channel < z .channels → readingOf plan (rowOf P C s) channel ≡ entry values (channel * allRows z + (rowOf P C s + 4 - 4))
+    unfolding readingOf entry signedAt LaidTo
+    in-lane channel s l =
+        let place : rowOf P C s ≡ rowOf P C s + 4 - 4 = omega arith in
+        rw (f .v-is) (sym (ap (signedOf 4) (laid .laid channel (rowOf P C s) (row-lt P C (f .a-cycle) s) (cell (z .channels) (allRows z) channel (rowOf P C s) l (row-lt P C (f .a-cycle) s)))))
+        ∙ ap (λ (j : ℕ). entry values (channel * allRows z + j)) place
+
+    module _ (x : Term) (code t : ℕ) (g : subℕ code 4 ≡ shiftIn x) (low : 4 ≤ t + code) (fits : termFits (z .channels) x ≡ true) where
+      -- what is seen of a term,
+      seen-still : valueAt (runOf plan) x t ≡ number (landedNumber values z x code t)
+      unfolding valueAt
+      seen-still = go x g fits
+        where
+          go : (x : Term) → subℕ code 4 ≡ shiftIn x → termFits (z .channels) x ≡ true → valueAt (runOf plan) x t ≡ number (landedNumber values z x code t)
+          go (Constant c) e h = refl
+          go (Reading channel shift) e h =
+              let there = reading-fits (z .channels) channel shift h .0 in
+              ap (runOf plan channel) (shifted t code shift e)
+              ∙ sym (in-run plan channel (t + code) low)
+              ∙ ap number (reading-still channel (t + code - 4) there ∙ in-lane channel (t + code - 4) there)
+
+      -- and its line, where it is read in the cycle
+      line-still : P + 4 ≤ t + code → termLine plan x t ≡ level (landedNumber values z x code t)
+      unfolding termLine channelLine
+      line-still inside = go x g fits
+        where
+          go : (x : Term) → subℕ code 4 ≡ shiftIn x → termFits (z .channels) x ≡ true → termLine plan x t ≡ level (landedNumber values z x code t)
+          go (Constant c) e h = refl
+          go (Reading channel shift) e h =
+              let there = reading-fits (z .channels) channel shift h .0 in
+              rw (shifted t code shift e ∙ sub-pos (t + code) 4 low, f .p-is, f .c-is)
+              (ap₂ (λ (m n : ℤ). record { at = m; step = n })
+              (reading-still channel (t + code - 4) there ∙ in-lane channel (t + code - 4) there)
+              (drift-still channel (t + code - 4) there (omega arith)))
+
+    -- ---- positions
+
+    module _ (table : List ℕ) (i : ℕ) (x : Comparison) (left right : ℕ) (gl : subℕ left 4 ≡ shiftIn (x .left)) (gr : subℕ right 4 ≡ shiftIn (x .right)) (fits : TermsFit z x)
+        (lines t : ℕ) (low : (4 ≤ t + left) × (4 ≤ t + right)) (inside : lines ≤ t → (P + 4 ≤ t + left) × (P + 4 ≤ t + right)) where
+      abbrev mark : Bool
+      mark = marked (allRows z) table i (rowOf P C t)
+
+      pub still-says : stillSays values table z i x left right t ≡ positionSays plan table z i x lines t
+      unfolding testAt tested ofNumber
+      still-says = by-cases (decLt t lines) (λ h. says-alone plan x lines mark t h (sym test) refl) (λ h. settled (omega arith))
+        where
+          a : ℤ
+          a = landedNumber values z (x .left) left t
+
+          b : ℤ
+          b = landedNumber values z (x .right) right t
+
+          test : testAt plan x t ≡ testOf (x .relation) a b
+          test = ap₂ (tested (testOf (x .relation))) (seen-still (x .left) left t gl (low .0) (fits .0)) (seen-still (x .right) right t gr (low .1) (fits .1))
+
+          settled : lines ≤ t → stillSays values table z i x left right t ≡ positionSays plan table z i x lines t
+          settled h =
+              says-settled plan x lines mark t h
+              (ap₂ (judgeLines (x .relation)) (sym (line-still (x .left) left t gl (low .0) (fits .0) (inside h .0))) (sym (line-still (x .right) right t gr (low .1) (fits .1) (inside h .1))))
+              (level-agrees (x .relation) a b mark)
+
+-- ---- direct positions
+
+-- On pass 0 a term is read on the row that is its position.
+on-pass-0 : (values : List ℕ) (z : Sizes) (x : Term) (code t : ℕ) → 4 ≤ t + code → t + code < allRows z + 4 → laneNumber values (allRows z) x code t ≡ landedNumber values z x code t
+on-pass-0 values z (Constant c) code t low high = refl
+on-pass-0 values z (Reading channel shift) code t low high =
+    let row = row-start (z .start) (z .cycle) (t + code - 4) (omega arith) in
+    let place : t + code - 4 ≡ rowOf (z .start) (z .cycle) (t + code - 4) + 4 - 4 = omega arith in
+    ap (λ (j : ℕ). entry values (channel * allRows z + j)) place
+
+pub direct-still : (values table : List ℕ) (z : Sizes) (i : ℕ) (x : Comparison) (left right t : ℕ) → t < allRows z → (4 ≤ t + left) × (4 ≤ t + right) → (t + left < allRows z + 4) × (t + right < allRows z + 4)
+    → numbersSay values (allRows z) x left right (marked (allRows z) table i t) t ≡ stillSays values table z i x left right t
+direct-still values table z i x left right t few low high =
+    ap₂ Bool·beq (ap (marked (allRows z) table i) (sym (row-start (z .start) (z .cycle) t few)))
+    (ap₂ (testOf (x .relation)) (on-pass-0 values z (x .left) left t (low .0) (high .0)) (on-pass-0 values z (x .right) right t (low .1) (high .1)))
+
+-- ---- one by one, over two lanes
+
+-- the mark says how the numbers compare on the rows on which the two shifts land
+abbrev pub landedSays : Relation → List ℕ → List ℕ → Sizes → ℕ → Column → Column → ℕ → ℕ → ℕ → Bool
+landedSays relation values table z i x y left right t =
+    Bool·beq (marked (allRows z) table i (rowOf (z .start) (z .cycle) t))
+    (testOf relation (numberIn values x (rowOf (z .start) (z .cycle) (t + left - 4))) (numberIn values y (rowOf (z .start) (z .cycle) (t + right - 4))))
+
+module _ (relation : Relation) (values table : List ℕ) (z : Sizes) (i : ℕ) (x y : Column) (left right t : ℕ) where
+  pub landed-step : (a b : ℕ) {p q r : ℕ} {mark test said : Bool} → p ≡ rowOf (z .start) (z .cycle) (t + left - 4) → unbiased a ≡ numberIn values x p
+      → q ≡ rowOf (z .start) (z .cycle) (t + right - 4) → unbiased b ≡ numberIn values y q → r ≡ rowOf (z .start) (z .cycle) t → mark ≡ marked (allRows z) table i r
+      → test ≡ testOf relation (unbiased a) (unbiased b) → said ≡ Bool·beq mark test → said ≡ landedSays relation values table z i x y left right t
+  landed-step a b ep ea eq eb er em et es =
+      es
+      ∙ ap₂ Bool·beq (em ∙ ap (marked (allRows z) table i) er)
+      (et ∙ ap₂ (testOf relation) (ea ∙ ap (numberIn values x) ep) (eb ∙ ap (numberIn values y) eq))
+
+module _ {table : List ℕ} {n : ℕ} {z : Sizes} {i : ℕ} {x : Comparison} {left right from to : ℕ} (d : StillPositions table n z i x left right from to) where
+  pub few-rows : (1 ≤ allRows z) × (allRows z ≤ 256)
+  few-rows = (let a = d .a-cycle in omega arith, d .sized .few-rows)
+
+  pub left-few : FewChannels (x .left)
+  left-few = few-channels (z .channels) (x .left) (d .few-channels) (d .terms-fit .0)
+
+  pub right-few : FewChannels (x .right)
+  right-few = few-channels (z .channels) (x .right) (d .few-channels) (d .terms-fit .1)
+
+  -- a row of a term's lane
+  pub lane-reaches : (values : List ℕ) → LongLanes z values → (y : Term) → termFits (z .channels) y ≡ true → (c : Column) → Stands (allRows z) 0 4 y c → (s : ℕ) {row : ℕ} → row ≡ rowOf (z .start) (z .cycle) s
+      → Reaches values c (row + 1) × (length values ≤ mostArray)
+  lane-reaches values long y fits c stands s e =
+      let within = row-lt (z .start) (z .cycle) (d .a-cycle) s in
+      (reaches-row values c (allRows z - 0) _ (column-reaches (allRows z) 0 4 (omega arith) values (z .channels) (allRows z) y c fits (long .0) (omega arith) (omega arith) stands) (omega arith), long .1)
+
+  -- the two lanes are those of the terms
+  pub lanes-say : (values : List ℕ) (p q : Column) → Stands (allRows z) 0 4 (x .left) p → Stands (allRows z) 0 4 (x .right) q → (t : ℕ)
+      → landedSays (x .relation) values table z i p q left right t ≡ stillSays values table z i x left right t
+  lanes-say values p q s u t = ap (Bool·beq (marked (allRows z) table i (rowOf (z .start) (z .cycle) t))) (ap₂ (testOf (x .relation)) (one (x .left) p s (t + left - 4)) (one (x .right) q u (t + right - 4)))
+    where
+      one : (y : Term) (c : Column) → Stands (allRows z) 0 4 y c → (v : ℕ) → numberIn values c (rowOf (z .start) (z .cycle) v) ≡ laneNumber values (allRows z) y 4 (rowOf (z .start) (z .cycle) v)
+      one y c stands v = column-number (allRows z) 0 4 (omega arith) values y c (rowOf (z .start) (z .cycle) v) stands ∙ ap (laneNumber values (allRows z) y 4) (zero-add (rowOf (z .start) (z .cycle) v))
