@@ -5,7 +5,7 @@ use native.Mathlib.Nat.{mod-lt, div-add-mod', mul-le-mul-right, le-mul-of-pos-ri
 use native.Mathlib.Decide.{decLt}
 use native.Mathlib.Omega.{arith}
 use mathlib.Core.Path.{_≡_, refl, sym, ap, _∙_}
-use mathlib.Core.Bool.{Bool, true, false, _&&_, Bool·beq, and-false, and-assoc, and-eq-true-iff, false≢true}
+use mathlib.Core.Bool.{Bool, true, false, _&&_, Bool·beq, and-false, and-assoc, and-eq-true-iff}
 use mathlib.Core.List.{List}
 use mathlib.Core.Logic.{by-cases}
 use borrow.Author.Tests.{lt-ltb, le-ltb}
@@ -15,7 +15,7 @@ use Rattle.plan.specs.declared.sizes.Sizes.{Sizes}
 use Rattle.plan.proofs.Rows.{row-start, row-ge, row-lt, row-split, row-again}
 use Rattle.table.specs.Layout.{marked}
 use Rattle.table.specs.inner.Tables.{allBelow}
-use Rattle.table.proofs.AllBelow.{all-each, each-all}
+use Rattle.table.proofs.AllBelow.{both-ways, all-each, each-all}
 use Rattle.verdict.specs.Rows.{join, joinFirst, testAt}
 use Rattle.verdict.specs.inner.Reach.{reach, TermsFit}
 use Rattle.verdict.specs.inner.Settled.{judgeFrom}
@@ -63,12 +63,6 @@ joined-agrees f (suc n) v mark =
     joined-agrees f n (join (f n) v) mark
     ∙ ap (λ (b : Bool). allBelow (λ k. Bool·beq mark (f k)) n && b) (join-agrees (f n) v mark)
     ∙ sym (and-assoc (allBelow (λ k. Bool·beq mark (f k)) n) (Bool·beq mark (f n)) (verdictAgrees v mark))
-
--- Two tests that are true of the same are the same.
-both-ways : (a b : Bool) → (a ≡ true → b ≡ true) → (b ≡ true → a ≡ true) → a ≡ b
-both-ways true b h g = sym (h refl)
-both-ways false true h g = absurd (false≢true (g refl))
-both-ways false false h g = refl
 
 -- ---- a row with as many passes in front as are early
 

@@ -1,13 +1,19 @@
 -- A test of all numbers below one, and how a sweep makes it. Assumes nothing.
 use mathlib.Core.Path.{_≡_, refl, sym, ap, ap₂, _∙_, subst}
-use mathlib.Core.Bool.{Bool, true, _&&_, and-true, and-assoc, and-eq-true-iff}
+use mathlib.Core.Bool.{Bool, true, false, _&&_, and-true, and-assoc, and-eq-true-iff, false≢true}
 use mathlib.Core.Logic.{by-cases}
-use Prim.Native.Nat.{ℕ, zero, suc, _+_, _≤_, _<_}
+use Prim.Native.Nat.{ℕ, zero, suc, _+_, _-_, _≤_, _<_}
 use native.Mathlib.Nat.{not-suc-le-zero}
 use native.Mathlib.Decide.{decLt}
 use native.Mathlib.Numerals.{add-one}
 use native.Mathlib.Omega.{arith}
 use Rattle.table.specs.inner.Tables.{allBelow}
+
+-- Two tests that are true of the same are the same.
+pub both-ways : (a b : Bool) → (a ≡ true → b ≡ true) → (b ≡ true → a ≡ true) → a ≡ b
+both-ways true b h g = sym (h refl)
+both-ways false true h g = absurd (false≢true (g refl))
+both-ways false false h g = refl
 
 module _ (f : ℕ → Bool) where
   -- Nothing is amiss before the first,
@@ -54,3 +60,16 @@ module _ (f g : ℕ → Bool) where
   pub all-last : (n : ℕ) {last : Bool} → ((k : ℕ) → k < n → f k ≡ g k) → last ≡ g n → (allBelow f n && last) ≡ allBelow g (suc n)
   unfolding allBelow
   all-last n h e = ap₂ _&&_ (all-ext n h) e
+
+-- All but some at the end, and as many at the end or more.
+pub and-the-last : (f : ℕ → Bool) (n a b : ℕ) {A B : Bool} → a ≤ n → n ≤ a + b → b ≤ n → A ≡ allBelow f a → B ≡ allBelow (λ k. f (n - b + k)) b → (A && B) ≡ allBelow f n
+and-the-last f n a b h g l e d = ap₂ _&&_ e d ∙ both-ways _ _ all parts
+  where
+    all : (allBelow f a && allBelow (λ k. f (n - b + k)) b) ≡ true → allBelow f n ≡ true
+    all t =
+        let p = and-eq-true-iff _ _ .0 t in
+        each-all f n (λ k s. by-cases (decLt k a) (all-each f a (p .0) k)
+        (λ u. subst (λ (x : ℕ). f x ≡ true) (omega arith) (all-each (λ j. f (n - b + j)) b (p .1) (k - (n - b)) (omega arith))))
+
+    parts : allBelow f n ≡ true → (allBelow f a && allBelow (λ k. f (n - b + k)) b) ≡ true
+    parts t = and-eq-true-iff _ _ .1 (each-all f a (λ k s. all-each f n t k (omega arith)), each-all (λ k. f (n - b + k)) b (λ k s. all-each f n t (n - b + k) (omega arith)))

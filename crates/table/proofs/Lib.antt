@@ -1,4 +1,5 @@
 pub mod AllBelow
+pub mod Blocks
 pub mod Places
 pub mod Refused
 pub mod Flips

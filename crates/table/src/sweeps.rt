@@ -8,6 +8,9 @@ ghost use lib.Dec.{eqb, ltb};
 ghost use lib.ListN.{length, getD};
 ghost use Rattle.table.specs.inner.Tables.{allBelow, flipped, copyOf, copiesOf, stepOf, stepsOf, markIn, mostBytes, MarkBytes};
 
+// The marks that are taken at once.
+const BLOCK: usize = 16;
+
 // Every one of `count` bytes from `at` on is a mark, 0 or 1.
 pub fn all_marks(table: &[u8], at: usize, count: usize) -> bool
     requires { ⌜ (at + count ≤ length (now table)) × (length (now table) ≤ mostBytes) ⌝ }
@@ -95,8 +98,8 @@ pub fn copied(table: &[u8], m: usize, a: usize) -> bool
     table[m] == table[a]
 }
 
-// The `count` marks from `m` on are those from `a` on.
-pub fn copies(table: &[u8], m: usize, a: usize, count: usize) -> bool
+// The `count` marks from `m` on are those from `a` on, each looked at once.
+fn copies_each(table: &[u8], m: usize, a: usize, count: usize) -> bool
     requires { ⌜ (MarkBytes (now table) m count) × (MarkBytes (now table) a count) × (length (now table) ≤ mostBytes) ⌝ }
     ensures { λ r. ⌜ r ≡ copiesOf false (λ k. markIn (now (table .entry)) (m + k)) (λ k. markIn (now (table .entry)) (a + k)) count ⌝ }
 {
@@ -107,6 +110,19 @@ pub fn copies(table: &[u8], m: usize, a: usize, count: usize) -> bool
         k += 1;
     }
     all
+}
+
+// The `count` marks from `m` on are those from `a` on. The last block is taken back from the end, some marks a second time, so that
+// few are left to be taken alone.
+pub fn copies(table: &[u8], m: usize, a: usize, count: usize) -> bool
+    requires { ⌜ (MarkBytes (now table) m count) × (MarkBytes (now table) a count) × (length (now table) ≤ mostBytes) ⌝ }
+    ensures { λ r. ⌜ r ≡ copiesOf false (λ k. markIn (now (table .entry)) (m + k)) (λ k. markIn (now (table .entry)) (a + k)) count ⌝ }
+{
+    if count < BLOCK {
+        return copies_each(table, m, a, count);
+    }
+    let last = count - BLOCK;
+    copies_each(table, m, a, count - count % BLOCK) & copies_each(table, m + last, a + last, BLOCK)
 }
 
 // The `count` marks from `m` on are the opposites of those from `a` on.
@@ -164,8 +180,8 @@ fn steps_down(table: &[u8], m: usize, a: usize, b: usize, next: usize, count: us
 }
 
 // Each of the `count` marks from `m` on is b, or a and next, which are the marks from `b`, `a` and `next` on; or it is so of
-// the opposites of all four, that is, each is b, and (a or next).
-pub fn steps(
+// the opposites of all four, that is, each is b, and (a or next). Each is looked at once.
+fn steps_each(
     table: &[u8],
     m: usize,
     a: usize,
@@ -182,4 +198,33 @@ pub fn steps(
     } else {
         steps_up(table, m, a, b, next, count)
     }
+}
+
+// As `steps_each`. The last block is taken back from the end, some marks a second time, so that few are left to be taken alone.
+pub fn steps(
+    table: &[u8],
+    m: usize,
+    a: usize,
+    b: usize,
+    next: usize,
+    count: usize,
+    opposite: bool,
+) -> bool
+    requires { ⌜ (MarkBytes (now table) m count) × (MarkBytes (now table) a count) × (MarkBytes (now table) b count) × (MarkBytes (now table) next count) × (length (now table) ≤ mostBytes) ⌝ }
+    ensures { λ r. ⌜ r ≡ stepsOf opposite (λ k. markIn (now (table .entry)) (m + k)) (λ k. markIn (now (table .entry)) (a + k)) (λ k. markIn (now (table .entry)) (b + k)) (λ k. markIn (now (table .entry)) (next + k)) count ⌝ }
+{
+    if count < BLOCK {
+        return steps_each(table, m, a, b, next, count, opposite);
+    }
+    let last = count - BLOCK;
+    steps_each(table, m, a, b, next, count - count % BLOCK, opposite)
+        & steps_each(
+            table,
+            m + last,
+            a + last,
+            b + last,
+            next + last,
+            BLOCK,
+            opposite,
+        )
 }

@@ -1,74 +1,67 @@
 -- `table::sweeps::copies` meets its contract. Assumes nothing.
-use mathlib.Core.Path.{_≡_}
-use Prim.Native.Nat.{_+_, _-_, _≤_}
 use native.Mathlib.Omega.{arith}
-use Rattle.table.specs.inner.Tables.{allBelow, copyOf, markIn}
-use Rattle.table.proofs.AllBelow.{sweep-first, sweep-next, sweep-end}
-use Rattle.table.proofs.ByteTests.{same-bytes}
+use denote.Ref.{now}
 use mathlib.Core.Bool.{false}
+use mathlib.Core.Path.{refl}
+use Rattle.table.proofs.ByteTests.{some-bytes}
+use Rattle.table.proofs.Blocks as law
+use borrow.Author.Needs.{needs}
 use Rattle.table.proofs.sweeps.copies.Statement.{statement}
 use Rattle.table.proofs.sweeps.copies.Tie as tie
 use Rattle.table.proofs.sweeps.copies.Reads as reads
 use Rattle.table.proofs.sweeps.copies.Lts as lts
+use Rattle.table.proofs.sweeps.copies_each.Reads as copies-each-reads
 
-abbrev Inv-loop : tie.InvT-loop
-Inv-loop table m a count all₀ k₀ all k = (k ≤ count) × (all ≡ allBelow (λ j. copyOf false (markIn table (m + j)) (markIn table (a + j))) k)
+-- src/sweeps.rt:122:9
+copies-each-requires : tie.Need-copies-each-requires
+copies-each-requires c κs = search needs
 
-abbrev μ-loop : tie.MeasureT-loop
-μ-loop table m a count all₀ k₀ all k = count - k
+-- src/sweeps.rt:122:9
+returns : tie.Need-returns
+returns c = search needs
 
--- src/sweeps.rt:91:5
-loop-holds : tie.Need-loop-holds Inv-loop μ-loop
-loop-holds c = (omega arith, sweep-first _)
+-- src/sweeps.rt:125:30
+sub-copies-each : tie.Need-sub-copies-each
+sub-copies-each c = search needs
 
--- src/sweeps.rt:92:28
-add-all : tie.Need-add-all Inv-loop μ-loop
-add-all c = let own = c .before .before .pre .0 .there in omega arith
+-- src/sweeps.rt:125:5
+copies-each-requires-2 : tie.Need-copies-each-requires-2
+copies-each-requires-2 c κs =
+    let start = c .before .before in
+    (some-bytes (start .pre .0) 0 _ (omega arith) (omega arith), some-bytes (start .pre .1) 0 _ (omega arith) (omega arith), start .pre .2)
 
--- src/sweeps.rt:92:22
-shared-slice-read-all : tie.Need-shared-slice-read-all Inv-loop μ-loop
-shared-slice-read-all c = let own = c .before .before .before .pre .0 .there in omega arith
+-- src/sweeps.rt:125:74
+add-copies-each : tie.Need-add-copies-each
+add-copies-each c = search needs
 
--- src/sweeps.rt:92:44
-add-all-2 : tie.Need-add-all-2 Inv-loop μ-loop
-add-all-2 c = let other = c .before .before .before .pre .1 .there in omega arith
+-- src/sweeps.rt:125:84
+add-copies-each-2 : tie.Need-add-copies-each-2
+add-copies-each-2 c = search needs
 
--- src/sweeps.rt:92:38
-shared-slice-read-all-2 : tie.Need-shared-slice-read-all-2 Inv-loop μ-loop
-shared-slice-read-all-2 c = let other = c .before .before .before .before .pre .1 .there in omega arith
+-- src/sweeps.rt:125:55
+copies-each-requires-3 : tie.Need-copies-each-requires-3
+copies-each-requires-3 c κs =
+    let start = c .before .before .before in
+    let if1 = c .before .if1 in
+    (some-bytes (start .pre .0) _ 16 (omega (arith, if1 .left)) refl, some-bytes (start .pre .1) _ 16 (omega (arith, if1 .left)) refl, start .pre .2)
 
--- src/sweeps.rt:93:9
-add-k : tie.Need-add-k Inv-loop μ-loop
-add-k c = let own = c .before .before .before .before .pre .0 .there in omega arith
-
--- src/sweeps.rt:91:5
-loop-less : tie.Need-loop-less Inv-loop μ-loop
-loop-less c = omega arith
-
--- src/sweeps.rt:91:5
-loop-again : tie.Need-loop-again Inv-loop μ-loop
-loop-again c =
+-- src/sweeps.rt:117:1
+returns-2 : tie.Need-returns-2
+returns-2 c =
     let start = c .before .before .before .before in
-    let loop = c .before .before .before .loop in
-    let loop-test = c .before .before .loop-test in
-    (omega arith, sweep-next _ _ (loop .inv .1) (same-bytes _ _ (start .pre .0 .low _ (loop-test .taken)) (start .pre .1 .low _ (loop-test .taken))))
-
--- src/sweeps.rt:85:1
-returns : tie.Need-returns Inv-loop μ-loop
-returns c = sweep-end _ _ _ (c .before .loop .inv .0) (c .loop-test .left) (c .before .loop .inv .1)
+    let if1 = c .before .before .if1 in
+    let copies-each2 = c .before .copies-each2 in
+    law.copies-in-blocks (now (start .args .table)) false (start .args .m) (start .args .a) (start .args .count) (if1 .left) (copies-each2 .ensures) (c .copies-each3 .ensures)
 
 pub copies-spec : {M : Type 1} → statement M
 copies-spec =
     tie.close
     (tie.spec
-    Inv-loop
-    μ-loop
-    loop-holds
-    add-all
-    shared-slice-read-all
-    add-all-2
-    shared-slice-read-all-2
-    add-k
-    loop-less
-    loop-again
-    returns)
+    copies-each-requires
+    returns
+    sub-copies-each
+    copies-each-requires-2
+    add-copies-each
+    add-copies-each-2
+    copies-each-requires-3
+    returns-2)

@@ -1,0 +1,74 @@
+-- `table::sweeps::copies_each` meets its contract. Assumes nothing.
+use mathlib.Core.Path.{_≡_}
+use Prim.Native.Nat.{_+_, _-_, _≤_}
+use native.Mathlib.Omega.{arith}
+use Rattle.table.specs.inner.Tables.{allBelow, copyOf, markIn}
+use Rattle.table.proofs.AllBelow.{sweep-first, sweep-next, sweep-end}
+use Rattle.table.proofs.ByteTests.{same-bytes}
+use mathlib.Core.Bool.{false}
+use Rattle.table.proofs.sweeps.copies_each.Statement.{statement}
+use Rattle.table.proofs.sweeps.copies_each.Tie as tie
+use Rattle.table.proofs.sweeps.copies_each.Reads as reads
+use Rattle.table.proofs.sweeps.copies_each.Lts as lts
+
+abbrev Inv-loop : tie.InvT-loop
+Inv-loop table m a count all₀ k₀ all k = (k ≤ count) × (all ≡ allBelow (λ j. copyOf false (markIn table (m + j)) (markIn table (a + j))) k)
+
+abbrev μ-loop : tie.MeasureT-loop
+μ-loop table m a count all₀ k₀ all k = count - k
+
+-- src/sweeps.rt:91:5
+loop-holds : tie.Need-loop-holds Inv-loop μ-loop
+loop-holds c = (omega arith, sweep-first _)
+
+-- src/sweeps.rt:92:28
+add-all : tie.Need-add-all Inv-loop μ-loop
+add-all c = let own = c .before .before .pre .0 .there in omega arith
+
+-- src/sweeps.rt:92:22
+shared-slice-read-all : tie.Need-shared-slice-read-all Inv-loop μ-loop
+shared-slice-read-all c = let own = c .before .before .before .pre .0 .there in omega arith
+
+-- src/sweeps.rt:92:44
+add-all-2 : tie.Need-add-all-2 Inv-loop μ-loop
+add-all-2 c = let other = c .before .before .before .pre .1 .there in omega arith
+
+-- src/sweeps.rt:92:38
+shared-slice-read-all-2 : tie.Need-shared-slice-read-all-2 Inv-loop μ-loop
+shared-slice-read-all-2 c = let other = c .before .before .before .before .pre .1 .there in omega arith
+
+-- src/sweeps.rt:93:9
+add-k : tie.Need-add-k Inv-loop μ-loop
+add-k c = let own = c .before .before .before .before .pre .0 .there in omega arith
+
+-- src/sweeps.rt:91:5
+loop-less : tie.Need-loop-less Inv-loop μ-loop
+loop-less c = omega arith
+
+-- src/sweeps.rt:91:5
+loop-again : tie.Need-loop-again Inv-loop μ-loop
+loop-again c =
+    let start = c .before .before .before .before in
+    let loop = c .before .before .before .loop in
+    let loop-test = c .before .before .loop-test in
+    (omega arith, sweep-next _ _ (loop .inv .1) (same-bytes _ _ (start .pre .0 .low _ (loop-test .taken)) (start .pre .1 .low _ (loop-test .taken))))
+
+-- src/sweeps.rt:85:1
+returns : tie.Need-returns Inv-loop μ-loop
+returns c = sweep-end _ _ _ (c .before .loop .inv .0) (c .loop-test .left) (c .before .loop .inv .1)
+
+pub copies-each-spec : {M : Type 1} → statement M
+copies-each-spec =
+    tie.close
+    (tie.spec
+    Inv-loop
+    μ-loop
+    loop-holds
+    add-all
+    shared-slice-read-all
+    add-all-2
+    shared-slice-read-all-2
+    add-k
+    loop-less
+    loop-again
+    returns)
