@@ -7,7 +7,6 @@ use mathlib.Core.Bool.{Bool, true, false, not, Bool·beq}
 use mathlib.Core.List.{List}
 use mathlib.Core.Logic.{by-cases}
 use lib.IntN.{ℤ, pos, negsuc, subℕ, _+ℤ_, _*ℤ_, +ℤ-idr}
-use borrow.Author.Tests.{lt-ltb, le-ltb}
 use Rattle.cltlb.specs.Run.{Seen, number, beforeRun}
 use Rattle.cltlb.specs.Truth.{valueAt}
 use Rattle.cltlb.specs.Fits.{termFits}
@@ -28,15 +27,15 @@ use Rattle.verdict.specs.Lines.{Line}
 use Rattle.verdict.specs.Rows.{channelLine, termLine, testAt}
 use Rattle.verdict.specs.inner.Landed.{shiftIn}
 use Rattle.verdict.specs.inner.Reach.{back, reach, TermsFit}
-use Rattle.verdict.specs.inner.Settled.{judgeFrom}
 use Rattle.verdict.specs.declared.Comparison.{Comparison}
 use Rattle.lanes.specs.inner.Agreement.{verdictAgrees}
 use Rattle.lanes.specs.inner.Columns.{laneNumber, laneDrift}
 use Rattle.lanes.specs.inner.Direct.{numbersSay, linesSay}
 use Rattle.lanes.specs.inner.Lanes.{LaidTo, Laid}
-use Rattle.lanes.specs.inner.Positions.{saysAt, positionSays}
+use Rattle.lanes.specs.inner.Positions.{positionSays}
 use Rattle.table.specs.Layout.{marked}
 use Rattle.table.proofs.Places.{cell}
+use Rattle.lanes.proofs.Positions.{alone, settled}
 
 -- ---- shifts
 
@@ -141,19 +140,13 @@ module _ {plan : List ℕ} {z : Sizes} (f : Fitting plan z) (table : List ℕ) (
   abbrev mark : Bool
   mark = marked (allRows z) table i t
 
-  at-own-row : positionSays plan table z i x lines t ≡ saysAt plan x lines mark t
-  at-own-row = ap (λ (row : ℕ). saysAt plan x lines (marked (allRows z) table i row) t) (row-start (z .start) (z .cycle) t few)
-
-  alone : t < lines → positionSays plan table z i x lines t ≡ Bool·beq mark (testAt plan x t)
-  alone h = at-own-row ∙ simp (lt-ltb t lines h)
-
-  settled : lines ≤ t → positionSays plan table z i x lines t ≡ verdictAgrees (judgeFrom plan x t) mark
-  settled h = at-own-row ∙ simp (le-ltb t lines h)
+  own-row : rowOf (z .start) (z .cycle) t ≡ t
+  own-row = row-start (z .start) (z .cycle) t few
 
   -- where a term is read before the run
   pub before-says : t < max (reach (x .left)) (reach (x .right)) → t < lines → not mark ≡ positionSays plan table z i x lines t
   unfolding testAt
-  before-says l h = sym (alone h ∙ ap (Bool·beq mark) blank ∙ is-not mark)
+  before-says l h = sym (alone plan table z i x lines t t own-row h ∙ ap (Bool·beq mark) blank ∙ is-not mark)
     where
       is-not : (b : Bool) → Bool·beq b false ≡ not b
       is-not true = refl
@@ -176,7 +169,7 @@ module _ {plan : List ℕ} {z : Sizes} (f : Fitting plan z) (table : List ℕ) (
     -- by the numbers, before the lines
     pub numbers-say : t < lines → numbersSay values (allRows z) x left right mark t ≡ positionSays plan table z i x lines t
     unfolding testAt tested ofNumber
-    numbers-say h = sym (alone h ∙ ap (Bool·beq mark) seen)
+    numbers-say h = sym (alone plan table z i x lines t t own-row h ∙ ap (Bool·beq mark) seen)
       where
         seen : testAt plan x t ≡ testOf (x .relation) (laneNumber values (allRows z) (x .left) left t) (laneNumber values (allRows z) (x .right) right t)
         seen =
@@ -190,4 +183,4 @@ module _ {plan : List ℕ} {z : Sizes} (f : Fitting plan z) (table : List ℕ) (
         ap₂ (λ (p q : Line). verdictAgrees (judgeLines (x .relation) p q) mark)
         (ap₂ (λ (m n : ℤ). record { at = m; step = n }) left-number (lane-drift-is f t (x .left) left gl (low .0) (high .0) (fits .0) steps down))
         (ap₂ (λ (m n : ℤ). record { at = m; step = n }) right-number (lane-drift-is f t (x .right) right gr (low .1) (high .1) (fits .1) steps down))
-        ∙ sym (settled h)
+        ∙ sym (settled plan table z i x lines t t own-row h)

@@ -42,6 +42,14 @@ pub by-its-mark : (plan table : List ℕ) (z : Sizes) (i : ℕ) (x : Comparison)
     → r ≡ saysAt plan x lines mark t → r ≡ positionSays plan table z i x lines t
 by-its-mark plan table z i x lines t e m g = g ∙ ap (λ (b : Bool). saysAt plan x lines b t) (m ∙ ap (marked (allRows z) table i) e)
 
+-- before the lines, and from there on
+module _ (plan table : List ℕ) (z : Sizes) (i : ℕ) (x : Comparison) (lines t row : ℕ) (on : rowOf (z .start) (z .cycle) t ≡ row) where
+  pub alone : t < lines → positionSays plan table z i x lines t ≡ Bool·beq (marked (allRows z) table i row) (testAt plan x t)
+  alone h = simp (on, lt-ltb t lines h)
+
+  pub settled : lines ≤ t → positionSays plan table z i x lines t ≡ verdictAgrees (judgeFrom plan x t) (marked (allRows z) table i row)
+  settled h = simp (on, le-ltb t lines h)
+
 -- ---- passes in front of a verdict
 
 -- A mark says what a verdict with a pass in front of it says, where it says what either says.
@@ -86,18 +94,11 @@ module _ {plan : List ℕ} {z : Sizes} (f : Fitting plan z) (table : List ℕ) (
   abbrev at : ℕ → Bool
   at = positionSays plan table z i x (P + back)
 
-  -- the two ways of looking at a position
-  at-alone : (t row : ℕ) → rowOf P C t ≡ row → t < P + back → at t ≡ Bool·beq (mark row) (testAt plan x t)
-  at-alone t row e h = simp (e, lt-ltb t (P + back) h)
-
-  at-lines : (t row : ℕ) → rowOf P C t ≡ row → P + back ≤ t → at t ≡ verdictAgrees (judgeFrom plan x t) (mark row)
-  at-lines t row e h = simp (e, le-ltb t (P + back) h)
-
   start-row : (row : ℕ) → row < P → onRow row ≡ at row
   start-row row h =
       ap (λ v. verdictAgrees v (mark row)) (sym (on-start-row f x row h (testAt plan x row) (testAt plan x row) refl refl))
       ∙ sym (truth-agrees (testAt plan x row) (mark row))
-      ∙ sym (at-alone row row (row-start P C row (omega arith)) (omega arith))
+      ∙ sym (alone plan table z i x (P + back) row row (row-start P C row (omega arith)) (omega arith))
 
   -- a cycle row, with n passes looked at one by one
   abbrev early : ℕ → ℕ → Bool
@@ -123,8 +124,8 @@ module _ {plan : List ℕ} {z : Sizes} (f : Fitting plan z) (table : List ℕ) (
       in-cycle : P ≤ t → at t ≡ true
       in-cycle h =
           by-cases (decLt t (P + back))
-          (λ g. at-alone t row refl g ∙ ap (λ (u : ℕ). Bool·beq (mark row) (testAt plan x u)) split ∙ all-each (early row) (k + 1 + back) (seen (k + 1 + back) (omega (arith, low, le-mul-of-pos-right (k + 1 + back) (f .a-cycle))) .0) k (omega arith))
-          (λ g. at-lines t row refl (omega arith) ∙ ap (λ (u : ℕ). verdictAgrees (judgeFrom plan x u) (mark row)) split ∙ seen k (omega (arith, split)) .1)
+          (λ g. alone plan table z i x (P + back) t row refl g ∙ ap (λ (u : ℕ). Bool·beq (mark row) (testAt plan x u)) split ∙ all-each (early row) (k + 1 + back) (seen (k + 1 + back) (omega (arith, low, le-mul-of-pos-right (k + 1 + back) (f .a-cycle))) .0) k (omega arith))
+          (λ g. settled plan table z i x (P + back) t row refl (omega arith) ∙ ap (λ (u : ℕ). verdictAgrees (judgeFrom plan x u) (mark row)) split ∙ seen k (omega (arith, split)) .1)
         where
           low : P ≤ row
           low = row-ge P C t h
@@ -150,8 +151,8 @@ module _ {plan : List ℕ} {z : Sizes} (f : Fitting plan z) (table : List ℕ) (
           seen n before low high =
               cycle-row row n h low
               ∙ and-eq-true-iff _ _ .1 (
-                each-all (early row) n (λ k b. let g = before k b in sym (at-alone (row + k * C) row (again k) g) ∙ all (row + k * C) (omega arith)),
-                sym (at-lines (row + n * C) row (again n) low) ∙ all (row + n * C) high,
+                each-all (early row) n (λ k b. let g = before k b in sym (alone plan table z i x (P + back) (row + k * C) row (again k) g) ∙ all (row + k * C) (omega arith)),
+                sym (settled plan table z i x (P + back) (row + n * C) row (again n) low) ∙ all (row + n * C) high,
               )
 
           later : row < P + back → onRow row ≡ true
