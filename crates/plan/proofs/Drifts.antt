@@ -16,9 +16,9 @@ use Rattle.fields.specs.LittleEndian.{numberAt}
 use Rattle.fields.specs.TwosComplement.{signedOf, signedAt}
 use Rattle.fields.proofs.Differences.{sub-pos, sub-neg}
 use Rattle.fields.proofs.Patterns.{signed-low}
-use Rattle.plan.specs.Layout.{channels, headLength, arrayLength, cell, entry, driftOf}
-use Rattle.plan.specs.inner.Sizes.{allRows, mostArray, Fitting}
-use Rattle.plan.specs.inner.Drifts.{nonZero, allZero, Still}
+use Rattle.plan.specs.Layout.{channels, headLength, arrayLength, cell, entry, storedDrift, driftOf}
+use Rattle.plan.specs.inner.Sizes.{allStored, mostArray, Fitting}
+use Rattle.plan.specs.inner.Drifts.{nonZero, allZero, StoredStill, Still}
 use Rattle.plan.proofs.Arrays.{array-le, drifts-part}
 use Rattle.plan.specs.declared.sizes.Sizes.{Sizes}
 use Rattle.fields.specs.inner.Biased.{bias, unbiased}
@@ -56,29 +56,29 @@ other-field n e h =
     (λ l. ap isZero (sym e ∙ sub-neg n bias l))
     (λ l. ap isZero (sym e ∙ sub-pos n bias (omega arith)) ∙ ne-eqb (n - bias) 0 (λ g. h (omega arith)))
 
-module _ (plan : List ℕ) (row channel : ℕ) {n : ℕ} (e : unbiased n ≡ driftOf plan row channel) where
-  pub no-drift : n ≡ bias → driftsAt plan row channel ≡ false
+module _ (plan : List ℕ) (k channel : ℕ) {n : ℕ} (e : unbiased n ≡ storedDrift plan k channel) where
+  pub no-drift : n ≡ bias → driftsAt plan k channel ≡ false
   unfolding driftsAt
   no-drift h = ap not (zero-field n e h)
 
-  pub a-drift : (n ≡ bias → ⊥) → driftsAt plan row channel ≡ true
+  pub a-drift : (n ≡ bias → ⊥) → driftsAt plan k channel ≡ true
   unfolding driftsAt
   a-drift h = ap not (other-field n e h)
 
--- What is found of a row.
-module _ {plan : List ℕ} {z : Sizes} (fits : Fitting plan z) (row : ℕ) where
-  pub row-drifts : (channel : ℕ) → channel < z .channels → driftsAt plan row channel ≡ true → drifting plan row ≡ true
+-- What is found of a stored row.
+module _ {plan : List ℕ} {z : Sizes} (fits : Fitting plan z) (k : ℕ) where
+  pub row-drifts : (channel : ℕ) → channel < z .channels → driftsAt plan k channel ≡ true → drifting plan k ≡ true
   unfolding drifting
-  row-drifts channel h e = rw (fits .v-is) (one-here (driftsAt plan row) channel (z .channels) h e)
+  row-drifts channel h e = rw (fits .v-is) (one-here (driftsAt plan k) channel (z .channels) h e)
 
-  pub row-still : (n : ℕ) → n ≡ z .channels → anyBelow (driftsAt plan row) n ≡ false → drifting plan row ≡ false
+  pub row-still : (n : ℕ) → n ≡ z .channels → anyBelow (driftsAt plan k) n ≡ false → drifting plan k ≡ false
   unfolding drifting
   row-still n h e = rw (fits .v-is, ← h) e
 
 -- A row none of whose channels drifts.
-pub row-quiet : (plan : List ℕ) (row : ℕ) → ((channel : ℕ) → channel < channels plan → driftOf plan row channel ≡ pos 0) → drifting plan row ≡ false
+pub row-quiet : (plan : List ℕ) (k : ℕ) → ((channel : ℕ) → channel < channels plan → storedDrift plan k channel ≡ pos 0) → drifting plan k ≡ false
 unfolding drifting driftsAt isZero
-row-quiet plan row h = none-below (driftsAt plan row) (channels plan) (λ channel l. rw (h channel l) refl)
+row-quiet plan k h = none-below (driftsAt plan k) (channels plan) (λ channel l. rw (h channel l) refl)
 
 -- ---- many at once
 
@@ -109,29 +109,30 @@ module _ (array : List ℕ) (from : ℕ) where
       go false g = absurd (false≢true (sym (ap not (one-here (nonZero array from) j n l (ap not g))) ∙ e))
 
 module _ {plan : List ℕ} {z : Sizes} (fits : Fitting plan z) where
-  -- The numbers of the drifts on the rows from one up to another lie in their array,
-  module _ (from to : ℕ) (h : from ≤ to) (l : to ≤ allRows z) where
+  -- The numbers of the drifts on the stored rows from one up to another lie in their array,
+  module _ (from to : ℕ) (h : from ≤ to) (l : to ≤ allStored z) where
     together : from * z .channels + (to - from) * z .channels ≡ to * z .channels
     together = let back : from + (to - from) ≡ to = omega arith in omega (arith, ap (λ (r : ℕ). r * z .channels) back)
 
-    pub few-numbers : from * z .channels + (to - from) * z .channels ≤ 2048
+    pub few-numbers : from * z .channels + (to - from) * z .channels ≤ 2080
     few-numbers =
         let few = fits .few-rows in
+        let lead = fits .few-lead in
         let most = array-le (z .channels) to (fits .few-channels) (omega arith) in
         omega (arith, together, most)
 
-    pub numbers-there : (b e : ℕ) → b ≡ headLength + arrayLength (z .channels) (allRows z) → e ≡ b + arrayLength (z .channels) (allRows z)
+    pub numbers-there : (b e : ℕ) → b ≡ headLength + arrayLength (z .channels) (allStored z) → e ≡ b + arrayLength (z .channels) (allStored z)
         → (4 * (from * z .channels + (to - from) * z .channels) ≤ length (take (e - b) (drop b plan))) × (length (take (e - b) (drop b plan)) ≤ mostArray)
     unfolding arrayLength
     numbers-there b e hb he =
         let whole = fits .whole in
-        let most = array-le (z .channels) (allRows z) (fits .few-channels) (fits .few-rows) in
+        let most = array-le (z .channels) (allStored z) (fits .few-channels) (omega (arith, fits .few-rows, fits .few-lead)) in
         simp (length-take, length-drop) (omega (arith, together, mul-le-mul-right (z .channels) l, most))
 
   -- and where they are 0, no channel drifts there.
-  pub still-rows : (b e from to : ℕ) → b ≡ headLength + arrayLength (z .channels) (allRows z) → e ≡ b + arrayLength (z .channels) (allRows z)
-      → allZero (take (e - b) (drop b plan)) (from * z .channels) ((to - from) * z .channels) ≡ true → Still plan from to
-  unfolding Still driftOf entry signedAt cell
+  pub still-rows : (b e from to : ℕ) → b ≡ headLength + arrayLength (z .channels) (allStored z) → e ≡ b + arrayLength (z .channels) (allStored z)
+      → allZero (take (e - b) (drop b plan)) (from * z .channels) ((to - from) * z .channels) ≡ true → StoredStill plan from to
+  unfolding StoredStill storedDrift entry signedAt cell
   still-rows b e from to hb he all row channel low high l =
       let there : channel < z .channels = rw (← fits .v-is) l in
       let near : row - from + 1 ≤ to - from = omega arith in
@@ -144,3 +145,8 @@ module _ {plan : List ℕ} {z : Sizes} (fits : Fitting plan z) where
     where
       zero-signed : signedOf 4 0 ≡ pos 0
       zero-signed = sym (signed-low 4 0 (omega arith))
+
+  -- Rows are stored behind the lead-in.
+  pub still-behind : (from to : ℕ) → StoredStill plan (z .lead + from) (z .lead + to) → Still plan from to
+  unfolding Still StoredStill driftOf
+  still-behind from to h row channel low high l = rw (fits .l-is) (h (z .lead + row) channel (omega arith) (omega arith) l)

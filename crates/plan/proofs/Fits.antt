@@ -7,10 +7,10 @@ use mathlib.Core.List.{List}
 use lib.ListN.{length}
 use lib.Dec.{leb, eqb}
 use borrow.Author.Tests.{le-leb, lt-leb, eq-eqb, ne-eqb, leb-true, eqb-true}
-use Rattle.plan.specs.Layout.{channels, startRows, cycleRows, rows, headLength, arrayLength, sizesFit}
+use Rattle.plan.specs.Layout.{channels, startRows, cycleRows, leadRows, rows, storedRows, headLength, arrayLength, sizesFit}
 use Rattle.plan.specs.Positions.{rowOf, passOf}
 use Rattle.plan.specs.inner.Lifted.{passes}
-use Rattle.plan.specs.inner.Sizes.{sizesIn, sizesRead, allRows, farthest, Fitting}
+use Rattle.plan.specs.inner.Sizes.{sizesIn, sizesRead, allRows, allStored, mostStored, farthest, Fitting}
 use Rattle.plan.specs.declared.sizes.Sizes.{Sizes}
 use Rattle.plan.specs.declared.sizes.SizesRead.the-variants.{Counts, Wrong}
 use Rattle.plan.proofs.Rows.{row-lt, pass-lt}
@@ -19,53 +19,61 @@ both : (a b : Bool) → a && b ≡ true → (a ≡ true) × (b ≡ true)
 both true b e = (refl, e)
 both false b e = let z : _≡_ {A = ℕ} 0 1 = cc in absurd (omega arith)
 
-all-of : (a b c d e f : Bool) → a && ((b && c) && (d && (e && f))) ≡ true → (b ≡ true) × (c ≡ true) × (d ≡ true) × (e ≡ true) × (f ≡ true)
-all-of a b c d e f h =
-    let sizes = both a ((b && c) && (d && (e && f))) h .1 in
-    let range = both b c (both (b && c) (d && (e && f)) sizes .0) in
-    let cycle = both d (e && f) (both (b && c) (d && (e && f)) sizes .1) in
-    let whole = both e f (cycle .1) in
-    (range .0, range .1, cycle .0, whole .0, whole .1)
+all-of : (a b c d e f g : Bool) → a && ((b && c) && (d && (e && (f && g)))) ≡ true → (b ≡ true) × (c ≡ true) × (d ≡ true) × (e ≡ true) × (f ≡ true) × (g ≡ true)
+all-of a b c d e f g h =
+    let sizes = both a ((b && c) && (d && (e && (f && g)))) h .1 in
+    let range = both b c (both (b && c) (d && (e && (f && g))) sizes .0) in
+    let cycle = both d (e && (f && g)) (both (b && c) (d && (e && (f && g))) sizes .1) in
+    let rows = both e (f && g) (cycle .1) in
+    let whole = both f g (rows .1) in
+    (range .0, range .1, cycle .0, rows .0, whole .0, whole .1)
 
 -- What the test says of the sizes.
 pub fitting : (plan : List ℕ) → sizesFit plan ≡ true → Fitting plan (sizesIn plan)
-unfolding sizesFit rows
+unfolding sizesFit storedRows rows
 fitting plan h =
-    let long = headLength + 2 * arrayLength (channels plan) (startRows plan + cycleRows plan) in
-    let all = all-of (leb headLength (length plan)) (leb 1 (channels plan)) (leb (channels plan) 8) (leb 1 (cycleRows plan)) (leb (startRows plan + cycleRows plan) 256) (eqb (length plan) long) h in
+    let long = headLength + 2 * arrayLength (channels plan) (leadRows plan + (startRows plan + cycleRows plan)) in
+    let all = all-of (leb headLength (length plan)) (leb 1 (channels plan)) (leb (channels plan) 8) (leb 1 (cycleRows plan)) (leb (startRows plan + cycleRows plan) 256) (leb (leadRows plan) 4) (eqb (length plan) long) h in
     record {
       v-is = refl;
       p-is = refl;
       c-is = refl;
+      l-is = refl;
       a-channel = leb-true 1 (channels plan) (all .0);
       few-channels = leb-true (channels plan) 8 (all .1);
       a-cycle = leb-true 1 (cycleRows plan) (all .2);
       few-rows = leb-true (startRows plan + cycleRows plan) 256 (all .3);
-      whole = eqb-true (length plan) long (all .4);
+      few-lead = leb-true (leadRows plan) 4 (all .4);
+      whole = eqb-true (length plan) long (all .5);
     }
 
 pub fits-true : {plan : List ℕ} {z : Sizes} → Fitting plan z → sizesFit plan ≡ true
-unfolding sizesFit rows
+unfolding sizesFit storedRows rows
 fits-true {plan} f =
-    let long : 6 ≤ length plan = omega (arith, f .whole) in
+    let long : headLength ≤ length plan = omega (arith, f .whole) in
     simp (
       f .v-is,
       f .p-is,
       f .c-is,
+      f .l-is,
       le-leb _ _ long,
       le-leb _ _ (f .a-channel),
       le-leb _ _ (f .few-channels),
       le-leb _ _ (f .a-cycle),
       le-leb _ _ (f .few-rows),
+      le-leb _ _ (f .few-lead),
       eq-eqb _ _ (f .whole),
     )
 
 pub sizes-are : {plan : List ℕ} {z : Sizes} → Fitting plan z → sizesIn plan ≡ z
-sizes-are f = rw (f .v-is, f .p-is, f .c-is) refl
+sizes-are f = rw (f .v-is, f .p-is, f .c-is, f .l-is) refl
 
 pub rows-are : {plan : List ℕ} {z : Sizes} → Fitting plan z → rows plan ≡ allRows z
 unfolding rows
 rows-are f = rw (f .p-is, f .c-is) refl
+
+pub few-stored : {plan : List ℕ} {z : Sizes} → Fitting plan z → allStored z ≤ mostStored
+few-stored f = omega (arith, f .few-rows, f .few-lead)
 
 -- A position before the end of the passes that the lookups reach: its row and its pass.
 pub reached : {plan : List ℕ} {z : Sizes} → Fitting plan z → (t : ℕ) → t < farthest z
@@ -118,6 +126,10 @@ module _ (plan : List ℕ) where
       unfolding sizesRead sizesFit rows
       many-rows h = simp (← e, ← f, lt-leb _ _ h, and-false)
 
-      pub other-length : {v : ℕ} → v ≡ channels plan → (length plan ≡ headLength + 2 * arrayLength v (p + c) → ⊥) → Wrong ≡ sizesRead plan
-      unfolding sizesRead sizesFit rows
-      other-length g h = simp (← e, ← f, ← g, ne-eqb _ _ h, and-false)
+      pub other-length : {v l : ℕ} → v ≡ channels plan → l ≡ leadRows plan → (length plan ≡ headLength + 2 * arrayLength v (l + (p + c)) → ⊥) → Wrong ≡ sizesRead plan
+      unfolding sizesRead sizesFit storedRows rows
+      other-length g k h = simp (← e, ← f, ← g, ← k, ne-eqb _ _ h, and-false)
+
+  pub long-lead : {l : ℕ} → l ≡ leadRows plan → 4 < l → Wrong ≡ sizesRead plan
+  unfolding sizesRead sizesFit
+  long-lead e h = simp (← e, lt-leb _ _ h, and-false)

@@ -1,14 +1,22 @@
 -- On a cycle row a reading is a straight line in the pass. Assumes nothing.
 use Prim.Native.Nat.{ℕ, _+_, _*_, _≤_, _<_}
+use native.Mathlib.Omega.{arith}
 use mathlib.Core.Path.{_≡_, sym, ap, ap₂, _∙_}
 use mathlib.Core.List.{List}
-use lib.IntN.{ℤ, pos, _+ℤ_, _*ℤ_}
+use lib.IntN.{ℤ, pos, _+ℤ_, _*ℤ_, +ℤ-idr}
 use Rattle.cltlb.specs.Run.{number}
-use Rattle.fields.proofs.Differences.{mul-plus, add-assoc}
+use Rattle.fields.proofs.Differences.{by-sub, sub-same, sub-mul, pos-sub, mul-plus, add-assoc}
 use Rattle.plan.specs.Layout.{startRows, cycleRows, readingOf, driftOf}
 use Rattle.plan.specs.Positions.{rowOf, passOf}
 use Rattle.plan.specs.Run.{readingOn, readingAt, runOf}
 use Rattle.plan.proofs.Rows.{row-later, pass-later}
+
+-- no pass is no drift
+pub no-passes : (z d : ℤ) → z +ℤ pos 0 *ℤ d ≡ z
+no-passes z d = ap (λ (x : ℤ). z +ℤ x) (none d) ∙ +ℤ-idr z
+  where
+    none : (d : ℤ) → pos 0 *ℤ d ≡ pos 0
+    none = by-sub (λ d. pos 0 *ℤ d ≡ pos 0) (λ a b. sub-mul 0 a b ∙ sub-same (0 * a) (0 * b) 0 0 (omega arith) ∙ sym (pos-sub 0))
 
 -- k passes more are k drifts more
 pub readingOn-later : (plan : List ℕ) (channel row pass k : ℕ) → readingOn plan channel row (pass + k) ≡ readingOn plan channel row pass +ℤ pos k *ℤ driftOf plan row channel

@@ -1,5 +1,5 @@
 -- The refusals of a plan, one law for each way that the check ends, and what a plan has that is not refused. Assumes nothing.
-use Prim.Native.Nat.{ℕ, _<_}
+use Prim.Native.Nat.{ℕ, _+_, _<_}
 use native.Mathlib.Omega.{arith}
 use mathlib.Core.Path.{_≡_, refl, sym, ap, _∙_}
 use mathlib.Core.Bool.{false}
@@ -11,11 +11,11 @@ use Rattle.refusal.specs.declared.Outcome.the-variants.{Clear, Refused}
 use Rattle.refusal.specs.declared.Refusal.{Refusal}
 use Rattle.refusal.specs.declared.Refusal.the-variants.{PlanSizes, Channels, StartDrift}
 use Rattle.refusal.proofs.First.{orElse-clear, unless-clear, atLowest-clear}
-use Rattle.plan.specs.Layout.{channels, startRows, sizesFit}
+use Rattle.plan.specs.Layout.{channels, startRows, leadRows, sizesFit}
 use Rattle.plan.specs.inner.Sizes.{sizesIn, sizesRead, Fitting}
-use Rattle.plan.specs.inner.Drifts.{Still}
+use Rattle.plan.specs.inner.Drifts.{StoredStill}
 use Rattle.plan.specs.inner.Read.{readOf, planRead}
-use Rattle.plan.specs.Refusals.{drifting, planOutcome}
+use Rattle.plan.specs.Refusals.{drifting, namedRow, planOutcome}
 use Rattle.plan.specs.declared.sizes.Sizes.{Sizes}
 use Rattle.plan.specs.declared.sizes.SizesRead.the-variants.{Counts, Wrong}
 use Rattle.plan.specs.declared.check.PlanRead.the-variants as read
@@ -32,10 +32,10 @@ module _ (v : ℕ) (plan : List ℕ) where
     unfolding planRead planOutcome unless _orElse_
     channels-refused h = let fits = counted plan counts in simp (fits-true fits, fits .v-is, ne-eqb _ _ h)
 
-    module _ (same : z .channels ≡ v) (r : Outcome) (found : r ≡ atLowest (drifting plan) (z .start) StartDrift) where
+    module _ (same : z .channels ≡ v) (r : Outcome) (found : r ≡ atLowest (drifting plan) (z .lead + z .start) (λ k. StartDrift (namedRow (z .lead) k))) where
       drifts-remain : r ≡ planOutcome v plan
       unfolding planOutcome unless _orElse_
-      drifts-remain = let fits = counted plan counts in found ∙ simp (fits-true fits, fits .v-is, fits .p-is, eq-eqb _ _ same)
+      drifts-remain = let fits = counted plan counts in found ∙ simp (fits-true fits, fits .v-is, fits .p-is, fits .l-is, eq-eqb _ _ same)
 
       pub drifts-refused : {refusal : Refusal} → r ≡ Refused refusal → read.Refused refusal ≡ planRead v plan
       unfolding planRead
@@ -45,22 +45,22 @@ module _ (v : ℕ) (plan : List ℕ) where
       unfolding planRead
       fits-read e = ap read.Fits (sym (sizes-are (counted plan counts))) ∙ ap (readOf plan) (sym e ∙ drifts-remain)
 
-    -- start rows that were found still at once
-    pub still-read : z .channels ≡ v → Still plan 0 (z .start) → read.Fits z ≡ planRead v plan
-    unfolding Still
+    -- rows before the cycle that were found still at once
+    pub still-read : z .channels ≡ v → StoredStill plan 0 (z .lead + z .start) → read.Fits z ≡ planRead v plan
+    unfolding StoredStill
     still-read same h =
         fits-read same Clear
-        (sym (atLowest-clear (drifting plan) (z .start) StartDrift .1 (λ row l. row-quiet plan row (λ channel g. h row channel (omega arith) l g)))) refl
+        (sym (atLowest-clear (drifting plan) (z .lead + z .start) (λ k. StartDrift (namedRow (z .lead) k)) .1 (λ k l. row-quiet plan k (λ channel g. h k channel (omega arith) l g)))) refl
 
-  -- A plan that is not refused fits the rule, and its start rows do not drift.
-  pub cleared : planOutcome v plan ≡ Clear → Fitting plan (sizesIn plan) × (channels plan ≡ v) × ((row : ℕ) → row < startRows plan → drifting plan row ≡ false)
+  -- A plan that is not refused fits the rule, and its rows before the cycle do not drift.
+  pub cleared : planOutcome v plan ≡ Clear → Fitting plan (sizesIn plan) × (channels plan ≡ v) × ((k : ℕ) → k < leadRows plan + startRows plan → drifting plan k ≡ false)
   unfolding planOutcome
   cleared e =
       let one = orElse-clear _ _ .0 e in
       let two = orElse-clear _ _ .0 (one .1) in
       let fits = unless-clear (sizesFit plan) PlanSizes .0 (one .0) in
       let same = eqb-true (channels plan) v (unless-clear _ Channels .0 (two .0)) in
-      (fitting plan fits, same, atLowest-clear (drifting plan) (startRows plan) StartDrift .0 (two .1))
+      (fitting plan fits, same, atLowest-clear (drifting plan) (leadRows plan + startRows plan) (λ k. StartDrift (namedRow (leadRows plan) k)) .0 (two .1))
 
   -- What is read of a plan tells whether it is refused.
   pub read-clear : (z : Sizes) → planRead v plan ≡ read.Fits z → (planOutcome v plan ≡ Clear) × Fitting plan z × (z .channels ≡ v)

@@ -1,13 +1,19 @@
 -- Positions given without a sign: the position `ahead` - 4, and the codes of shifts, which are the shifts + 4.
 -- Assumes nothing.
-use Prim.Native.Nat.{ℕ, _+_, _-_, _≤_, _<_}
+use Prim.Native.Nat.{ℕ, suc, _+_, _-_, _≤_, _<_}
 use native.Mathlib.Omega.{arith}
-use mathlib.Core.Path.{_≡_, refl, sym, ap₂, _∙_}
+use mathlib.Core.Path.{_≡_, refl, sym, ap, ap₂, _∙_}
 use mathlib.Core.List.{List}
-use lib.IntN.{ℤ, pos, subℕ, _+ℤ_}
+use mathlib.Core.Logic.{by-cases}
+use native.Mathlib.Decide.{decLt}
+use borrow.Author.Tests.{le-leb, lt-leb}
+use lib.IntN.{ℤ, pos, subℕ, _+ℤ_, _*ℤ_}
 use Rattle.cltlb.specs.Run.{number, beforeRun}
 use Rattle.fields.proofs.Differences.{sub-pos, sub-neg, sub-same, sub-add, pos-sub}
-use Rattle.plan.specs.Run.{readingAt, runOf}
+use Rattle.plan.specs.Layout.{startRows, cycleRows, leadRows, rows, storedReading, readingOf, driftOf}
+use Rattle.plan.specs.Run.{readingOn, readingAt, leadAt, runOf}
+use Rattle.plan.proofs.Lines.{no-passes}
+use Rattle.plan.proofs.Rows.{row-start, pass-start}
 
 -- position t plus the shift that a code stands for
 pub shifted : (t code : ℕ) (shift : ℤ) → subℕ code 4 ≡ shift → pos t +ℤ shift ≡ subℕ (t + code) 4
@@ -18,10 +24,33 @@ shifted t code shift e =
 
 -- what is seen there
 module _ (plan : List ℕ) (channel ahead : ℕ) where
-  pub before-run : ahead < 4 → beforeRun ≡ runOf plan channel (subℕ ahead 4)
-  unfolding runOf
-  before-run h = rw (sub-neg ahead 4 h) refl
+  -- before the lead-in,
+  pub before-run : leadRows plan + ahead < 4 → beforeRun ≡ runOf plan channel (subℕ ahead 4)
+  unfolding runOf leadAt
+  before-run h = rw (sub-neg ahead 4 (omega arith)) (simp (lt-leb (suc (4 - suc ahead)) (leadRows plan) (omega arith)))
+
+  -- in it,
+  pub in-lead : ahead < 4 → 4 ≤ leadRows plan + ahead → number (storedReading plan (leadRows plan + ahead - 4) channel) ≡ runOf plan channel (subℕ ahead 4)
+  unfolding runOf leadAt
+  in-lead h l =
+      let place : leadRows plan + ahead - 4 ≡ leadRows plan - suc (4 - suc ahead) = omega arith in
+      rw (sub-neg ahead 4 h, place) (simp (le-leb (suc (4 - suc ahead)) (leadRows plan) (omega arith)))
+
+  -- and behind it
 
   pub in-run : 4 ≤ ahead → number (readingAt plan channel (ahead - 4)) ≡ runOf plan channel (subℕ ahead 4)
   unfolding runOf
   in-run h = rw (sub-pos ahead 4 h) refl
+
+  -- In the lead-in and on pass 0 it is the reading that is stored there.
+  pub as-stored : 4 ≤ leadRows plan + ahead → ahead < rows plan + 4 → runOf plan channel (subℕ ahead 4) ≡ number (storedReading plan (leadRows plan + ahead - 4) channel)
+  unfolding readingAt readingOn readingOf rows
+  as-stored low high = by-cases (decLt ahead 4) (λ h. sym (in-lead h low)) (λ h. sym (in-run (omega arith)) ∙ ap number (on-pass-0 (omega arith)))
+    where
+      on-pass-0 : 4 ≤ ahead → readingAt plan channel (ahead - 4) ≡ storedReading plan (leadRows plan + ahead - 4) channel
+      on-pass-0 h =
+          ap₂ (λ (r p : ℕ). readingOf plan r channel +ℤ pos p *ℤ driftOf plan r channel)
+          (row-start (startRows plan) (cycleRows plan) (ahead - 4) (omega arith))
+          (pass-start (startRows plan) (cycleRows plan) (ahead - 4) (omega arith))
+          ∙ no-passes (readingOf plan (ahead - 4) channel) (driftOf plan (ahead - 4) channel)
+          ∙ ap (λ (k : ℕ). storedReading plan k channel) (omega arith)

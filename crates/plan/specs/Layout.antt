@@ -1,6 +1,6 @@
 -- The plan's layout: its sizes, and its two arrays, each a part that starts inside the bytes. A plan is the field's lasso, an
 -- ultimately periodic run: the start is its stem, the cycle its loop, and a drift what a reading gains on each iteration of the
--- loop. Assumes nothing.
+-- loop; the lead-in is its history, what was read before position 0. Assumes nothing.
 use Prim.Native.Nat.{ℕ, _+_, _*_}
 use mathlib.Core.List.{List}
 use mathlib.Core.Bool.{Bool, _&&_}
@@ -10,7 +10,7 @@ use lib.IntN.{ℤ}
 use Rattle.fields.specs.LittleEndian.{numberAt}
 use Rattle.fields.specs.TwosComplement.{signedAt}
 
--- Sizes: V, P (start rows) and C (cycle rows), 2 bytes each. W = P + C.
+-- Sizes: V, P (start rows), C (cycle rows) and L (lead-in rows), 2 bytes each. W = P + C.
 unfoldable pub channels : List ℕ → ℕ
 channels plan = numberAt 2 plan 0
 
@@ -22,33 +22,42 @@ startRows plan = numberAt 2 plan 2
 unfoldable pub cycleRows : List ℕ → ℕ
 cycleRows plan = numberAt 2 plan 4
 
+-- the rows of the lead-in
+unfoldable pub leadRows : List ℕ → ℕ
+leadRows plan = numberAt 2 plan 6
+
 unfoldable pub rows : List ℕ → ℕ
 rows plan = startRows plan + cycleRows plan
 
+-- Both arrays begin with L lead-in rows, which W does not count.
+unfoldable pub storedRows : List ℕ → ℕ
+storedRows plan = leadRows plan + rows plan
+
 -- the bytes of the sizes, and of one array of w rows of v numbers
 abbrev pub headLength : ℕ
-headLength = 6
+headLength = 8
 
 unfoldable pub arrayLength : ℕ → ℕ → ℕ
 arrayLength v w = 4 * (v * w)
 
--- V is 1 to 8, P may be 0, C is at least 1, W is at most 256. The length is 6 + 8 × V × W.
+-- V is 1 to 8, P may be 0, C is at least 1, W is at most 256, L is 0 to 4. The length is 8 + 8 × V × (L + W).
 unfoldable pub sizesFit : List ℕ → Bool
 sizesFit plan =
     leb headLength (length plan)
     && ((leb 1 (channels plan) && leb (channels plan) 8)
     && (leb 1 (cycleRows plan)
     && (leb (rows plan) 256
-    && eqb (length plan) (headLength + 2 * arrayLength (channels plan) (rows plan)))))
+    && (leb (leadRows plan) 4
+    && eqb (length plan) (headLength + 2 * arrayLength (channels plan) (storedRows plan))))))
 
--- Then two parallel arrays of W × V signed 4-byte numbers, row after row: readings, then drifts.
+-- Then two parallel arrays of (L + W) × V signed 4-byte numbers, row after row: readings, then drifts.
 unfoldable pub readings : List ℕ → List ℕ
-readings plan = take (arrayLength (channels plan) (rows plan)) (drop headLength plan)
+readings plan = take (arrayLength (channels plan) (storedRows plan)) (drop headLength plan)
 
 unfoldable pub drifts : List ℕ → List ℕ
-drifts plan = take (arrayLength (channels plan) (rows plan)) (drop (headLength + arrayLength (channels plan) (rows plan)) plan)
+drifts plan = take (arrayLength (channels plan) (storedRows plan)) (drop (headLength + arrayLength (channels plan) (storedRows plan)) plan)
 
--- the index of a row and a channel, with v channels
+-- the index of a row of an array and a channel, with v channels
 unfoldable pub cell : ℕ → ℕ → ℕ → ℕ
 cell v row channel = row * v + channel
 
@@ -56,9 +65,17 @@ cell v row channel = row * v + channel
 unfoldable pub entry : List ℕ → ℕ → ℤ
 entry array index = signedAt 4 array (4 * index)
 
+-- the numbers of the k-th row that is stored
+unfoldable pub storedReading : List ℕ → ℕ → ℕ → ℤ
+storedReading plan k channel = entry (readings plan) (cell (channels plan) k channel)
+
+unfoldable pub storedDrift : List ℕ → ℕ → ℕ → ℤ
+storedDrift plan k channel = entry (drifts plan) (cell (channels plan) k channel)
+
+-- Row 0 is stored behind the lead-in.
 unfoldable pub readingOf : List ℕ → ℕ → ℕ → ℤ
-readingOf plan row channel = entry (readings plan) (cell (channels plan) row channel)
+readingOf plan row channel = storedReading plan (leadRows plan + row) channel
 
 -- what the reading gains on each iteration of the loop
 unfoldable pub driftOf : List ℕ → ℕ → ℕ → ℤ
-driftOf plan row channel = entry (drifts plan) (cell (channels plan) row channel)
+driftOf plan row channel = storedDrift plan (leadRows plan + row) channel

@@ -1,16 +1,17 @@
 // Refusals 4 to 6.
 ghost use mathlib.Core.Path.{_≡_};
-ghost use Prim.Native.Nat.{_<_};
+ghost use Prim.Native.Nat.{_+_, _<_};
 ghost use Rattle.refusal.specs.First.{atLowest};
 ghost use Rattle.refusal.specs.declared.Refusal.the-variants.{StartDrift};
-ghost use Rattle.plan.specs.inner.Sizes.{allRows, Fitting};
+ghost use Rattle.plan.specs.inner.Sizes.{allStored, Fitting};
 ghost use Rattle.plan.specs.inner.Read.{planRead};
 ghost use Rattle.plan.specs.Refusals as refusals;
-use crate::lookup::drift_at;
+ghost use Rattle.plan.specs.Refusals.{namedRow};
+use crate::lookup::stored_drift;
 use crate::sizes::Sizes;
 use crate::sizes::SizesRead;
 use crate::sizes::read_sizes;
-use crate::sweeps::still;
+use crate::sweeps::stored_still;
 use fields::BIAS;
 use refusal::Outcome;
 use refusal::Refusal;
@@ -21,14 +22,14 @@ pub enum PlanRead {
     Refused(Refusal),
 }
 
-// A row has a drift other than 0.
-fn drifting(plan: &[u8], sizes: Sizes, row: usize) -> bool
-    requires { ⌜ (Fitting (now plan) sizes) × (row < allRows sizes) ⌝ }
-    ensures { λ r. ⌜ r ≡ refusals.drifting (now (plan .entry)) row ⌝ }
+// The k-th row that is stored has a drift other than 0.
+fn drifting(plan: &[u8], sizes: Sizes, k: usize) -> bool
+    requires { ⌜ (Fitting (now plan) sizes) × (k < allStored sizes) ⌝ }
+    ensures { λ r. ⌜ r ≡ refusals.drifting (now (plan .entry)) k ⌝ }
 {
     let mut channel = 0;
     while channel < sizes.channels {
-        if drift_at(plan, sizes, channel, row) != BIAS {
+        if stored_drift(plan, sizes, channel, k) != BIAS {
             return true;
         }
         channel += 1;
@@ -36,23 +37,36 @@ fn drifting(plan: &[u8], sizes: Sizes, row: usize) -> bool
     false
 }
 
-// The lowest start row that has a drift other than 0 is refused.
-fn start_rows(plan: &[u8], sizes: Sizes) -> Outcome
-    requires { ⌜ Fitting (now plan) sizes ⌝ }
-    ensures { λ r. ⌜ r ≡ atLowest (refusals.drifting (now (plan .entry))) (sizes .start) StartDrift ⌝ }
+// The row that is named of the k-th that is stored: a lead-in row is named as row 0.
+fn named_row(sizes: Sizes, k: usize) -> usize
+    ensures { λ r. ⌜ r ≡ namedRow (sizes .lead) k ⌝ }
 {
-    let mut row = 0;
-    while row < sizes.start {
-        if drifting(plan, sizes, row) {
-            return Outcome::Refused(Refusal::StartDrift { row });
+    if k < sizes.lead {
+        return 0;
+    }
+    k - sizes.lead
+}
+
+// The lowest row before the cycle that has a drift other than 0 is refused, the lead-in rows first.
+fn rows_before_cycle(plan: &[u8], sizes: Sizes) -> Outcome
+    requires { ⌜ Fitting (now plan) sizes ⌝ }
+    ensures { λ r. ⌜ r ≡ atLowest (refusals.drifting (now (plan .entry))) (sizes .lead + sizes .start) (λ k. StartDrift (namedRow (sizes .lead) k)) ⌝ }
+{
+    let cycle = sizes.lead + sizes.start;
+    let mut k = 0;
+    while k < cycle {
+        if drifting(plan, sizes, k) {
+            return Outcome::Refused(Refusal::StartDrift {
+                row: named_row(sizes, k),
+            });
         }
-        row += 1;
+        k += 1;
     }
     Outcome::Clear
 }
 
-// Refusals 4, 5 and 6 of a plan, in this order, against a rule of `v` channels. The start rows are searched one by one only where a
-// look at all of them at once finds a drift.
+// Refusals 4, 5 and 6 of a plan, in this order, against a rule of `v` channels. The rows before the cycle are searched one by one only
+// where a look at all of them at once finds a drift.
 pub fn check_plan(plan: &[u8], v: usize) -> PlanRead
     ensures { λ r. ⌜ r ≡ planRead v (now (plan .entry)) ⌝ }
 {
@@ -63,10 +77,10 @@ pub fn check_plan(plan: &[u8], v: usize) -> PlanRead
     if sizes.channels != v {
         return PlanRead::Refused(Refusal::Channels);
     }
-    if still(plan, sizes, 0, sizes.start) {
+    if stored_still(plan, sizes, 0, sizes.lead + sizes.start) {
         return PlanRead::Fits(sizes);
     }
-    let drifts = start_rows(plan, sizes);
+    let drifts = rows_before_cycle(plan, sizes);
     if let Outcome::Refused(refusal) = drifts {
         return PlanRead::Refused(refusal);
     }

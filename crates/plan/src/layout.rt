@@ -2,34 +2,44 @@
 ghost use mathlib.Core.Path.{_≡_};
 ghost use Prim.Native.Nat.{_+_, _*_, _≤_, _<_};
 ghost use Rattle.plan.specs.Layout.{headLength, arrayLength, cell};
+ghost use Rattle.plan.specs.inner.Sizes.{allStored, mostStored, mostArray};
+use crate::sizes::Sizes;
 
 // The bytes of the sizes; the readings begin after them.
 pub fn head_length() -> usize
     ensures { λ r. ⌜ r ≡ headLength ⌝ }
 {
-    6
+    8
 }
 
-// The bytes of one array, of `w` rows of `v` numbers.
-pub fn array_length(v: usize, w: usize) -> usize
-    requires { ⌜ (v ≤ 8) × (w ≤ 256) ⌝ }
-    ensures { λ r. ⌜ (r ≡ arrayLength v w) × (r ≤ 8192) ⌝ }
+// The rows of an array: the lead-in rows, then the start rows and the cycle rows.
+pub fn stored_rows(sizes: Sizes) -> usize
+    requires { ⌜ allStored sizes ≤ mostStored ⌝ }
+    ensures { λ r. ⌜ r ≡ allStored sizes ⌝ }
 {
-    4 * (v * w)
+    sizes.lead + (sizes.start + sizes.cycle)
+}
+
+// The bytes of one array.
+pub fn array_length(sizes: Sizes) -> usize
+    requires { ⌜ (sizes .channels ≤ 8) × (allStored sizes ≤ mostStored) ⌝ }
+    ensures { λ r. ⌜ (r ≡ arrayLength (sizes .channels) (allStored sizes)) × (r ≤ mostArray) ⌝ }
+{
+    4 * (sizes.channels * stored_rows(sizes))
 }
 
 // Where the drifts begin.
-pub fn drifts_start(v: usize, w: usize) -> usize
-    requires { ⌜ (v ≤ 8) × (w ≤ 256) ⌝ }
-    ensures { λ r. ⌜ (r ≡ headLength + arrayLength v w) × (r ≤ 8198) ⌝ }
+pub fn drifts_start(sizes: Sizes) -> usize
+    requires { ⌜ (sizes .channels ≤ 8) × (allStored sizes ≤ mostStored) ⌝ }
+    ensures { λ r. ⌜ (r ≡ headLength + arrayLength (sizes .channels) (allStored sizes)) × (r ≤ headLength + mostArray) ⌝ }
 {
-    head_length() + array_length(v, w)
+    head_length() + array_length(sizes)
 }
 
-// The index of a row and a channel in an array, with `v` channels.
-pub fn cell_of(v: usize, row: usize, channel: usize) -> usize
-    requires { ⌜ (v ≤ 8) × (row < 256) × (channel < v) ⌝ }
-    ensures { λ r. ⌜ r ≡ cell v row channel ⌝ }
+// The index of a row of an array and a channel.
+pub fn cell_of(sizes: Sizes, k: usize, channel: usize) -> usize
+    requires { ⌜ (sizes .channels ≤ 8) × (k < mostStored) × (channel < sizes .channels) ⌝ }
+    ensures { λ r. ⌜ r ≡ cell (sizes .channels) k channel ⌝ }
 {
-    row * v + channel
+    k * sizes.channels + channel
 }

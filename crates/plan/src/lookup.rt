@@ -5,8 +5,8 @@ ghost use Prim.Native.Nat.{_+_, _*_, _≤_, _<_};
 ghost use lib.ListN.{length};
 ghost use lib.IntN.{pos, subℕ, _+ℤ_, _*ℤ_};
 ghost use Rattle.fields.specs.inner.Biased.{patterns, unbiased};
-ghost use Rattle.plan.specs.Layout.{entry, driftOf};
-ghost use Rattle.plan.specs.inner.Sizes.{allRows, farthest, Fitting};
+ghost use Rattle.plan.specs.Layout.{entry, storedReading, storedDrift, driftOf};
+ghost use Rattle.plan.specs.inner.Sizes.{allRows, allStored, farthest, Fitting};
 ghost use Rattle.plan.specs.Run.{readingOn, runOf};
 ghost use Rattle.plan.specs.inner.Lifted.{passes, lowered, valueEnd, seenOf, Small};
 use crate::layout::array_length;
@@ -46,20 +46,33 @@ pub fn number_on(readings: &[u8], drifts: &[u8], index: usize, pass: usize) -> u
     entry_at(readings, index) + k * entry_at(drifts, index) + (LAST_PASS - k) * BIAS
 }
 
+// The value of a channel on a pass, on the k-th row that is stored.
+pub fn stored_number(plan: &[u8], sizes: Sizes, channel: usize, k: usize, pass: usize) -> u64
+    requires { ⌜ (Fitting (now plan) sizes) × (channel < sizes .channels) × (k < allStored sizes) × (pass < passes) ⌝ }
+    ensures { λ r. ⌜ (lowered r ≡ storedReading (now (plan .entry)) k channel +ℤ pos pass *ℤ storedDrift (now (plan .entry)) k channel) × (r < valueEnd) ⌝ }
+{
+    let a = head_length();
+    let b = drifts_start(sizes);
+    let e = b + array_length(sizes);
+    number_on(&plan[a..b], &plan[b..e], cell_of(sizes, k, channel), pass)
+}
+
 // The value of a channel on a row and a pass.
 pub fn number_at(plan: &[u8], sizes: Sizes, channel: usize, row: usize, pass: usize) -> u64
     requires { ⌜ (Fitting (now plan) sizes) × (channel < sizes .channels) × (row < allRows sizes) × (pass < passes) ⌝ }
     ensures { λ r. ⌜ (lowered r ≡ readingOn (now (plan .entry)) channel row pass) × (r < valueEnd) ⌝ }
 {
-    let a = head_length();
-    let b = drifts_start(sizes.channels, sizes.start + sizes.cycle);
-    let e = b + array_length(sizes.channels, sizes.start + sizes.cycle);
-    number_on(
-        &plan[a..b],
-        &plan[b..e],
-        cell_of(sizes.channels, row, channel),
-        pass,
-    )
+    stored_number(plan, sizes, channel, sizes.lead + row, pass)
+}
+
+// The drift of a channel on the k-th row that is stored.
+pub fn stored_drift(plan: &[u8], sizes: Sizes, channel: usize, k: usize) -> u64
+    requires { ⌜ (Fitting (now plan) sizes) × (channel < sizes .channels) × (k < allStored sizes) ⌝ }
+    ensures { λ r. ⌜ (unbiased r ≡ storedDrift (now (plan .entry)) k channel) × (r < patterns) ⌝ }
+{
+    let b = drifts_start(sizes);
+    let e = b + array_length(sizes);
+    entry_at(&plan[b..e], cell_of(sizes, k, channel))
 }
 
 // The drift of a channel on a row.
@@ -67,19 +80,20 @@ pub fn drift_at(plan: &[u8], sizes: Sizes, channel: usize, row: usize) -> u64
     requires { ⌜ (Fitting (now plan) sizes) × (channel < sizes .channels) × (row < allRows sizes) ⌝ }
     ensures { λ r. ⌜ (unbiased r ≡ driftOf (now (plan .entry)) row channel) × (r < patterns) ⌝ }
 {
-    let b = drifts_start(sizes.channels, sizes.start + sizes.cycle);
-    let e = b + array_length(sizes.channels, sizes.start + sizes.cycle);
-    entry_at(&plan[b..e], cell_of(sizes.channels, row, channel))
+    stored_drift(plan, sizes, channel, sizes.lead + row)
 }
 
 // What is seen of a channel at the position `ahead` - 4: a term at position t whose shift has the code k, which is the shift
-// + 4, is seen at t + k.
+// + 4, is seen at t + k. Below position 0 it is the lead-in, whose first row lies farthest back.
 pub fn seen_at(plan: &[u8], sizes: Sizes, channel: usize, ahead: usize) -> Seen
     requires { ⌜ (Fitting (now plan) sizes) × (channel < sizes .channels) × (ahead ≤ farthest sizes) ⌝ }
     ensures { λ r. ⌜ (seenOf r ≡ runOf (now (plan .entry)) channel (subℕ ahead 4)) × Small r ⌝ }
 {
-    if ahead < 4 {
+    if sizes.lead + ahead < 4 {
         return Seen::BeforeRun;
+    }
+    if ahead < 4 {
+        return Seen::Number(stored_number(plan, sizes, channel, sizes.lead + ahead - 4, 0));
     }
     let t = ahead - 4;
     Seen::Number(number_at(plan, sizes, channel, row_of(sizes, t), pass_of(sizes, t)))

@@ -5,11 +5,12 @@ use crate::layout::array_length;
 use crate::layout::head_length;
 use fields::u16_at;
 
-// The channels, V, the start rows, P, and the cycle rows, C.
+// The channels, V, the start rows, P, the cycle rows, C, and the lead-in rows, L.
 pub struct Sizes {
     pub channels: usize,
     pub start: usize,
     pub cycle: usize,
+    pub lead: usize,
 }
 
 // The sizes of a plan, or that they do not fit their ranges or the length.
@@ -27,6 +28,7 @@ pub fn read_sizes(plan: &[u8]) -> SizesRead
     let v = u16_at(plan, 0);
     let p = u16_at(plan, 2);
     let c = u16_at(plan, 4);
+    let l = u16_at(plan, 6);
     if v < 1 {
         return SizesRead::Wrong;
     }
@@ -39,12 +41,17 @@ pub fn read_sizes(plan: &[u8]) -> SizesRead
     if 256 < p + c {
         return SizesRead::Wrong;
     }
-    if plan.len() != head_length() + 2 * array_length(v, p + c) {
+    if 4 < l {
         return SizesRead::Wrong;
     }
-    SizesRead::Counts(Sizes {
+    let sizes = Sizes {
         channels: v,
         start: p,
         cycle: c,
-    })
+        lead: l,
+    };
+    if plan.len() != head_length() + 2 * array_length(sizes) {
+        return SizesRead::Wrong;
+    }
+    SizesRead::Counts(sizes)
 }

@@ -4,8 +4,8 @@ ghost use mathlib.Core.Path.{_≡_};
 ghost use mathlib.Core.Bool.{true};
 ghost use Prim.Native.Nat.{_+_, _*_, _≤_};
 ghost use lib.ListN.{length};
-ghost use Rattle.plan.specs.inner.Sizes.{allRows, mostArray, Fitting};
-ghost use Rattle.plan.specs.inner.Drifts.{allZero, Still};
+ghost use Rattle.plan.specs.inner.Sizes.{allRows, allStored, mostArray, Fitting};
+ghost use Rattle.plan.specs.inner.Drifts.{allZero, StoredStill, Still};
 use crate::layout::array_length;
 use crate::layout::drifts_start;
 use crate::sizes::Sizes;
@@ -25,14 +25,21 @@ fn all_zero(array: &[u8], from: usize, count: usize) -> bool
     all
 }
 
-// Where this is true, no channel drifts on the rows from one up to another.
+// Where this is true, no channel drifts on the stored rows from one up to another.
+pub fn stored_still(plan: &[u8], sizes: Sizes, from: usize, to: usize) -> bool
+    requires { ⌜ (Fitting (now plan) sizes) × (from ≤ to) × (to ≤ allStored sizes) ⌝ }
+    ensures { λ r. ⌜ (r ≡ true → StoredStill (now (plan .entry)) from to) ⌝ }
+{
+    let v = sizes.channels;
+    let b = drifts_start(sizes);
+    let e = b + array_length(sizes);
+    all_zero(&plan[b..e], from * v, (to - from) * v)
+}
+
+// Where this is true, none does on the rows from one up to another.
 pub fn still(plan: &[u8], sizes: Sizes, from: usize, to: usize) -> bool
     requires { ⌜ (Fitting (now plan) sizes) × (from ≤ to) × (to ≤ allRows sizes) ⌝ }
     ensures { λ r. ⌜ (r ≡ true → Still (now (plan .entry)) from to) ⌝ }
 {
-    let v = sizes.channels;
-    let w = sizes.start + sizes.cycle;
-    let b = drifts_start(v, w);
-    let e = b + array_length(v, w);
-    all_zero(&plan[b..e], from * v, (to - from) * v)
+    stored_still(plan, sizes, sizes.lead + from, sizes.lead + to)
 }

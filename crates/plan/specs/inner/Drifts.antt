@@ -6,7 +6,7 @@ use mathlib.Core.List.{List}
 use lib.Dec.{eqb}
 use lib.IntN.{pos}
 use Rattle.fields.specs.LittleEndian.{numberAt}
-use Rattle.plan.specs.Layout.{channels, driftOf}
+use Rattle.plan.specs.Layout.{channels, storedDrift, driftOf}
 use Rattle.plan.specs.Refusals.{anyBelow}
 
 -- the number at an index of an array is not 0
@@ -17,6 +17,10 @@ nonZero array from k = not (eqb (numberAt 4 array (4 * (from + k))) 0)
 unfoldable pub allZero : List ℕ → ℕ → ℕ → Bool
 allZero array from count = not (anyBelow (nonZero array from) count)
 
--- no channel drifts on the rows from one up to another
+-- no channel drifts on the stored rows from one up to another
+unfoldable pub StoredStill : List ℕ → ℕ → ℕ → Type 0
+StoredStill plan from to = (k channel : ℕ) → from ≤ k → k < to → channel < channels plan → storedDrift plan k channel ≡ pos 0
+
+-- and on the rows
 unfoldable pub Still : List ℕ → ℕ → ℕ → Type 0
 Still plan from to = (row channel : ℕ) → from ≤ row → row < to → channel < channels plan → driftOf plan row channel ≡ pos 0

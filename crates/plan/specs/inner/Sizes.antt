@@ -4,7 +4,7 @@ use mathlib.Core.Path.{_≡_}
 use mathlib.Core.Bool.{cond}
 use mathlib.Core.List.{List}
 use lib.ListN.{length}
-use Rattle.plan.specs.Layout.{channels, startRows, cycleRows, headLength, arrayLength, sizesFit}
+use Rattle.plan.specs.Layout.{channels, startRows, cycleRows, leadRows, headLength, arrayLength, sizesFit}
 use Rattle.plan.specs.inner.Lifted.{passes}
 use Rattle.plan.specs.declared.sizes.Sizes.{Sizes}
 use Rattle.plan.specs.declared.sizes.SizesRead.{SizesRead}
@@ -12,7 +12,7 @@ use Rattle.plan.specs.declared.sizes.SizesRead.the-variants.{Counts, Wro
 
 -- the sizes that stand in the bytes
 abbrev pub sizesIn : List ℕ → Sizes
-sizesIn plan = record { channels = channels plan; start = startRows plan; cycle = cycleRows plan }
+sizesIn plan = record { channels = channels plan; start = startRows plan; cycle = cycleRows plan; lead = leadRows plan }
 
 unfoldable pub sizesRead : List ℕ → SizesRead
 sizesRead plan = cond (sizesFit plan) (Counts (sizesIn plan)) Wrong
@@ -21,9 +21,17 @@ sizesRead plan = cond (sizesFit plan) (Counts (sizesIn plan)) Wrong
 abbrev pub allRows : Sizes → ℕ
 allRows z = z .start + z .cycle
 
--- the bytes of the largest array, of 8 channels on 256 rows
+-- the rows that are stored, the lead-in rows before the others
+abbrev pub allStored : Sizes → ℕ
+allStored z = z .lead + allRows z
+
+-- how many are stored at most, of a lead-in of 4 and 256 others
+abbrev pub mostStored : ℕ
+mostStored = 260
+
+-- the bytes of the largest array, of 8 channels on as many rows
 abbrev pub mostArray : ℕ
-mostArray = 8192
+mostArray = 8320
 
 -- the end of the passes that the lookups reach
 abbrev pub farthest : Sizes → ℕ
@@ -34,8 +42,10 @@ pub record Fitting (plan : List ℕ) (z : Sizes) : Type 0 where
   pub v-is : channels plan ≡ z .channels
   pub p-is : startRows plan ≡ z .start
   pub c-is : cycleRows plan ≡ z .cycle
+  pub l-is : leadRows plan ≡ z .lead
   pub a-channel : 1 ≤ z .channels
   pub few-channels : z .channels ≤ 8
   pub a-cycle : 1 ≤ z .cycle
   pub few-rows : allRows z ≤ 256
-  pub whole : length plan ≡ headLength + 2 * arrayLength (z .channels) (allRows z)
+  pub few-lead : z .lead ≤ 4
+  pub whole : length plan ≡ headLength + 2 * arrayLength (z .channels) (allStored z)

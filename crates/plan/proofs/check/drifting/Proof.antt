@@ -11,25 +11,25 @@ use Rattle.plan.proofs.check.drifting.Statement.{statement}
 use Rattle.plan.proofs.check.drifting.Tie as tie
 
 abbrev Inv-loop : tie.InvT-loop
-Inv-loop plan sizes row channel₀ channel = (channel ≤ sizes .channels) × (anyBelow (driftsAt plan row) channel ≡ false)
+Inv-loop plan sizes k channel₀ channel = (channel ≤ sizes .channels) × (anyBelow (driftsAt plan k) channel ≡ false)
 
 abbrev μ-loop : tie.MeasureT-loop
-μ-loop plan sizes row channel₀ channel = sizes .channels - channel
+μ-loop plan sizes k channel₀ channel = sizes .channels - channel
 
 loop-holds : tie.Need-loop-holds Inv-loop μ-loop
 unfolding anyBelow
 loop-holds c = (omega arith, refl)
 
-drift-at-requires : tie.Need-drift-at-requires Inv-loop μ-loop
-drift-at-requires c κs = search needs
+stored-drift-requires : tie.Need-stored-drift-requires Inv-loop μ-loop
+stored-drift-requires c κs = search needs
 
 returns : tie.Need-returns Inv-loop μ-loop
 returns c =
     let start = c .before .before .before .before .before .before in
     let loop = c .before .before .before .before .loop in
     let if1 = c .before .before .if1 in
-    let drift = drifts.a-drift (now (start .args .plan)) (start .args .row) (loop .channel) (c .before .drift-at .ensures .0) (c .if2 .taken) in
-    sym (drifts.row-drifts (start .pre .0) (start .args .row) (loop .channel) (if1 .taken) drift)
+    let drift = drifts.a-drift (now (start .args .plan)) (start .args .k) (loop .channel) (c .before .stored-drift .ensures .0) (c .if2 .taken) in
+    sym (drifts.row-drifts (start .pre .0) (start .args .k) (loop .channel) (if1 .taken) drift)
 
 add-channel : tie.Need-add-channel Inv-loop μ-loop
 add-channel c = search needs
@@ -41,14 +41,14 @@ loop-again : tie.Need-loop-again Inv-loop μ-loop
 loop-again c =
     let start = c .before .before .before .before .before .before in
     let loop = c .before .before .before .before .loop in
-    let still = drifts.no-drift (now (start .args .plan)) (start .args .row) (loop .channel) (c .before .drift-at .ensures .0) (c .if2 .left) in
-    (omega arith, drifts.none-more (driftsAt (now (start .args .plan)) (start .args .row)) (loop .channel) (loop .inv .1) still)
+    let still = drifts.no-drift (now (start .args .plan)) (start .args .k) (loop .channel) (c .before .stored-drift .ensures .0) (c .if2 .left) in
+    (omega arith, drifts.none-more (driftsAt (now (start .args .plan)) (start .args .k)) (loop .channel) (loop .inv .1) still)
 
 returns-2 : tie.Need-returns-2 Inv-loop μ-loop
 returns-2 c =
     let start = c .before .before .before .before in
     let loop = c .before .before .loop in
-    sym (drifts.row-still (start .pre .0) (start .args .row) (loop .channel) (omega arith) (loop .inv .1))
+    sym (drifts.row-still (start .pre .0) (start .args .k) (loop .channel) (omega arith) (loop .inv .1))
 
 pub drifting-spec : {M : Type 1} → statement M
 drifting-spec =
@@ -57,7 +57,7 @@ drifting-spec =
     Inv-loop
     μ-loop
     loop-holds
-    drift-at-requires
+    stored-drift-requires
     returns
     add-channel
     loop-less

@@ -1,68 +1,26 @@
--- `plan::lookup::drift_at` meets its contract. Assumes nothing.
-use Prim.Native.Nat.{_+_}
+use Rattle.plan.proofs.Arrays.{drift-behind}
 use native.Mathlib.Omega.{arith}
-use Rattle.plan.proofs.Arrays as arrays
+use Prim.Native.Nat.{ℕ, _+_, _-_, _*_, _≤_, _<_}
+use mathlib.Core.Path.{_≡_}
+use lib.ListN.{length}
 use borrow.Author.Needs.{needs}
 use Rattle.plan.proofs.lookup.drift_at.Statement.{statement}
 use Rattle.plan.proofs.lookup.drift_at.Tie as tie
+use Rattle.plan.proofs.lookup.drift_at.Reads as reads
+use Rattle.plan.proofs.lookup.drift_at.Lts as lts
+use Rattle.plan.proofs.lookup.stored_drift.Reads as stored-drift-reads
 
-add-drifts-start : tie.Need-add-drifts-start
-add-drifts-start c = search needs
+-- src/lookup.rt:83:40
+add-stored-drift : tie.Need-add-stored-drift
+add-stored-drift c = search needs
 
-drifts-start-requires : tie.Need-drifts-start-requires
-drifts-start-requires c κs = search needs
+-- src/lookup.rt:83:5
+stored-drift-requires : tie.Need-stored-drift-requires
+stored-drift-requires c κs = search needs
 
-add-array-length : tie.Need-add-array-length
-add-array-length c = search needs
-
-array-length-requires : tie.Need-array-length-requires
-array-length-requires c κs = search needs
-
-add-e : tie.Need-add-e
-add-e c = search needs
-
-sub-entry-at : tie.Need-sub-entry-at
-sub-entry-at c = search needs
-
-part-entry-at-start : tie.Need-part-entry-at-start
-part-entry-at-start c = search needs
-
-part-entry-at-end : tie.Need-part-entry-at-end
-part-entry-at-end c = search needs
-
-cell-of-requires : tie.Need-cell-of-requires
-cell-of-requires c κs = search needs
-
-entry-at-requires : tie.Need-entry-at-requires
-entry-at-requires c κs =
-    let start = c .before .before .before .before .before .before .before in
-    let drifts-start = c .before .before .before .before .drifts-start in
-    let array-length = c .before .before .array-length in
-    arrays.in-part (start .pre .0) (start .args .row) (start .args .channel) (drifts-start .result) (drifts-start .result + array-length .result) _
-    (c .cell-of .ensures) (omega arith) (omega arith) (start .pre .2) (start .pre .1)
-
+-- src/lookup.rt:79:1
 returns : tie.Need-returns
-returns c =
-    let start = c .before .before .before .before .before .before .before .before in
-    let drifts-start = c .before .before .before .before .before .drifts-start in
-    let array-length = c .before .before .before .array-length in (
-      arrays.drift-read (start .pre .0) (start .args .row) (start .args .channel) (drifts-start .result) (drifts-start .result + array-length .result) _
-          (drifts-start .ensures .0) (omega arith) (c .before .cell-of .ensures) (c .entry-at .ensures .0),
-      c .entry-at .ensures .1,
-    )
+returns c = (drift-behind (c .before .before .before .pre .0) (c .before .before .before .args .row) (c .before .before .before .args .channel) (c .stored-drift .ensures .0), c .stored-drift .ensures .1)
 
 pub drift-at-spec : {M : Type 1} → statement M
-drift-at-spec =
-    tie.close
-    (tie.spec
-    add-drifts-start
-    drifts-start-requires
-    add-array-length
-    array-length-requires
-    add-e
-    sub-entry-at
-    part-entry-at-start
-    part-entry-at-end
-    cell-of-requires
-    entry-at-requires
-    returns)
+drift-at-spec = tie.close (tie.spec add-stored-drift stored-drift-requires returns)

@@ -1,89 +1,30 @@
--- `plan::sweeps::still` meets its contract. Assumes nothing.
-use mathlib.Core.Path.{sym, _∙_}
-use Prim.Native.Nat.{_+_}
+use Rattle.plan.proofs.Drifts.{still-behind}
 use native.Mathlib.Omega.{arith}
-use Rattle.plan.proofs.Drifts.{few-numbers, numbers-there, still-rows}
+use Prim.Native.Nat.{ℕ, _+_, _-_, _*_, _≤_, _<_}
+use mathlib.Core.Path.{_≡_}
+use lib.ListN.{length}
 use borrow.Author.Needs.{needs}
 use Rattle.plan.proofs.sweeps.still.Statement.{statement}
 use Rattle.plan.proofs.sweeps.still.Tie as tie
 use Rattle.plan.proofs.sweeps.still.Reads as reads
 use Rattle.plan.proofs.sweeps.still.Lts as lts
-use Rattle.plan.proofs.layout.array_length.Reads as array-length-reads
-use Rattle.plan.proofs.layout.drifts_start.Reads as drifts-start-reads
-use Rattle.plan.proofs.sweeps.all_zero.Reads as all-zero-reads
+use Rattle.plan.proofs.sweeps.stored_still.Reads as stored-still-reads
 
--- src/sweeps.rt:34:13
-add-w : tie.Need-add-w
-add-w c = search needs
+-- src/sweeps.rt:44:31
+add-stored-still : tie.Need-add-stored-still
+add-stored-still c = search needs
 
--- src/sweeps.rt:35:9
-drifts-start-requires : tie.Need-drifts-start-requires
-drifts-start-requires c κs = search needs
+-- src/sweeps.rt:44:50
+add-stored-still-2 : tie.Need-add-stored-still-2
+add-stored-still-2 c = search needs
 
--- src/sweeps.rt:36:17
-array-length-requires : tie.Need-array-length-requires
-array-length-requires c κs = search needs
+-- src/sweeps.rt:44:5
+stored-still-requires : tie.Need-stored-still-requires
+stored-still-requires c κs = search needs
 
--- src/sweeps.rt:36:13
-add-e : tie.Need-add-e
-add-e c = search needs
-
--- src/sweeps.rt:37:14
-sub-all-zero : tie.Need-sub-all-zero
-sub-all-zero c = search needs
-
--- src/sweeps.rt:37:14
-part-all-zero-start : tie.Need-part-all-zero-start
-part-all-zero-start c = search needs
-
--- src/sweeps.rt:37:14
-part-all-zero-end : tie.Need-part-all-zero-end
-part-all-zero-end c = search needs
-
--- src/sweeps.rt:37:27
-mul-all-zero : tie.Need-mul-all-zero
-mul-all-zero c =
-    let start = c .before .before .before .before .before in
-    omega (arith, few-numbers (start .pre .0) _ _ (start .pre .1) (start .pre .2))
-
--- src/sweeps.rt:37:38
-sub-all-zero-2 : tie.Need-sub-all-zero-2
-sub-all-zero-2 c = search needs
-
--- src/sweeps.rt:37:37
-mul-all-zero-2 : tie.Need-mul-all-zero-2
-mul-all-zero-2 c =
-    let start = c .before .before .before .before .before in
-    omega (arith, few-numbers (start .pre .0) _ _ (start .pre .1) (start .pre .2))
-
--- src/sweeps.rt:37:5
-all-zero-requires : tie.Need-all-zero-requires
-all-zero-requires c κs =
-    let start = c .before .before .before .before .before in
-    let drifts-start = c .before .before .drifts-start in
-    numbers-there (start .pre .0) _ _ (start .pre .1) (start .pre .2) _ _ (drifts-start .ensures .0) (omega arith)
-
--- src/sweeps.rt:29:1
+-- src/sweeps.rt:40:1
 returns : tie.Need-returns
-returns c =
-    let start = c .before .before .before .before .before .before in
-    let drifts-start = c .before .before .before .drifts-start in
-    let array-length = c .before .before .array-length in
-    λ all. still-rows (start .pre .0) (drifts-start .result) (drifts-start .result + array-length .result) _ _ (drifts-start .ensures .0) (omega arith) (sym (c .all-zero .ensures) ∙ all)
+returns c = λ all. still-behind (c .before .before .before .before .pre .0) _ _ (c .stored-still .ensures all)
 
 pub still-spec : {M : Type 1} → statement M
-still-spec =
-    tie.close
-    (tie.spec
-    add-w
-    drifts-start-requires
-    array-length-requires
-    add-e
-    sub-all-zero
-    part-all-zero-start
-    part-all-zero-end
-    mul-all-zero
-    sub-all-zero-2
-    mul-all-zero-2
-    all-zero-requires
-    returns)
+still-spec = tie.close (tie.spec add-stored-still add-stored-still-2 stored-still-requires returns)

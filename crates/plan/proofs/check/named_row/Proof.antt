@@ -1,0 +1,23 @@
+use Rattle.plan.specs.Refusals.{namedRow}
+use native.Mathlib.Omega.{arith}
+use Prim.Native.Nat.{ℕ, _+_, _-_, _*_, _≤_, _<_}
+use mathlib.Core.Path.{_≡_}
+use lib.ListN.{length}
+use borrow.Author.Needs.{needs}
+use Rattle.plan.proofs.check.named_row.Statement.{statement}
+use Rattle.plan.proofs.check.named_row.Tie as tie
+use Rattle.plan.proofs.check.named_row.Reads as reads
+use Rattle.plan.proofs.check.named_row.Lts as lts
+
+-- src/check.rt:45:9
+returns : tie.Need-returns
+unfolding namedRow
+returns c = omega arith
+
+-- src/check.rt:41:1
+returns-2 : tie.Need-returns-2
+unfolding namedRow
+returns-2 c = omega arith
+
+pub named-row-spec : {M : Type 1} → statement M
+named-row-spec = tie.close (tie.spec returns returns-2)

@@ -1,0 +1,94 @@
+use mathlib.Core.Path.{refl, _∙_, ap, sym}
+use denote.Ref.{now}
+use Rattle.refusal.specs.Lowest.{lowest, lowestFrom}
+use Rattle.refusal.specs.First.{refusedAt, atLowest}
+use Rattle.refusal.specs.declared.Outcome.the-variants.{Refused}
+use Rattle.refusal.specs.declared.Refusal.{Refusal}
+use Rattle.refusal.specs.declared.Refusal.the-variants.{StartDrift}
+use Rattle.refusal.proofs.Lowest.{passes, found, ended}
+use Rattle.plan.specs.Refusals.{drifting, namedRow}
+use Rattle.plan.specs.declared.sizes.Sizes.{Sizes}
+use native.Mathlib.Omega.{arith}
+use Prim.Native.Nat.{ℕ, _+_, _-_, _*_, _≤_, _<_}
+use mathlib.Core.Path.{_≡_}
+use lib.ListN.{length}
+use borrow.Author.Needs.{needs}
+use Rattle.plan.proofs.check.rows_before_cycle.Statement.{statement}
+use Rattle.plan.proofs.check.rows_before_cycle.Tie as tie
+use Rattle.plan.proofs.check.rows_before_cycle.Reads as reads
+use Rattle.plan.proofs.check.rows_before_cycle.Lts as lts
+use Rattle.plan.proofs.check.drifting.Reads as drifting-reads
+use Rattle.plan.proofs.check.named_row.Reads as named-row-reads
+
+-- the refusal of a stored row
+abbrev asNamed : Sizes → ℕ → Refusal
+asNamed z k = StartDrift (namedRow (z .lead) k)
+
+abbrev Inv-loop : tie.InvT-loop
+Inv-loop plan sizes cycle k₀ k = (k ≤ cycle) × (atLowest (drifting plan) cycle (asNamed sizes) ≡ refusedAt (asNamed sizes) (lowestFrom (drifting plan) k (cycle - k)))
+
+abbrev μ-loop : tie.MeasureT-loop
+μ-loop plan sizes cycle k₀ k = cycle - k
+
+-- src/check.rt:55:17
+add-cycle : tie.Need-add-cycle Inv-loop μ-loop
+add-cycle c = omega (arith, c .before .before .pre .few-lead, c .before .before .pre .few-rows)
+
+-- src/check.rt:57:5
+loop-holds : tie.Need-loop-holds Inv-loop μ-loop
+unfolding atLowest lowest
+loop-holds c = let n = c .before .before .args .sizes .lead + c .before .before .args .sizes .start in
+    let left : n ≡ n - 0 = omega arith in
+    (omega arith, ap (λ (m : ℕ). refusedAt (asNamed (c .before .before .args .sizes)) (lowestFrom (drifting (now (c .before .before .args .plan))) 0 m)) left)
+
+-- src/check.rt:58:12
+drifting-requires : tie.Need-drifting-requires Inv-loop μ-loop
+drifting-requires c κs = (c .before .before .before .before .pre, omega arith)
+
+-- src/check.rt:60:22
+named-row-requires : tie.Need-named-row-requires Inv-loop μ-loop
+named-row-requires c κs = search needs
+
+-- src/check.rt:59:13
+returns : tie.Need-returns Inv-loop μ-loop
+unfolding refusedAt
+returns c = let n = c .before .before .before .before .before .before .before .args .sizes .lead + c .before .before .before .before .before .before .before .args .sizes .start in
+    let here = found (drifting (now (c .before .before .before .before .before .before .before .args .plan))) (c .before .before .before .before .loop .k) n (c .before .before .before .loop-test .taken) (sym (c .before .before .drifting .ensures) ∙ c .before .if1 .taken) in
+    ap (λ (row : ℕ). Refused (StartDrift row)) (c .named-row .ensures) ∙ sym (c .before .before .before .before .loop .inv .1 ∙ ap (refusedAt (asNamed (c .before .before .before .before .before .before .before .args .sizes))) here)
+
+-- src/check.rt:63:9
+add-k : tie.Need-add-k Inv-loop μ-loop
+add-k c = search needs
+
+-- src/check.rt:57:5
+loop-less : tie.Need-loop-less Inv-loop μ-loop
+loop-less c = search needs
+
+-- src/check.rt:57:5
+loop-again : tie.Need-loop-again Inv-loop μ-loop
+loop-again c = let n = c .before .before .before .before .before .before .args .sizes .lead + c .before .before .before .before .before .before .args .sizes .start in
+    let later = passes (drifting (now (c .before .before .before .before .before .before .args .plan))) (c .before .before .before .loop .k) n (c .before .before .loop-test .taken) (sym (c .before .drifting .ensures) ∙ c .if1 .left) in
+    (omega arith, c .before .before .before .loop .inv .1 ∙ ap (refusedAt (asNamed (c .before .before .before .before .before .before .args .sizes))) later)
+
+-- src/check.rt:51:1
+returns-2 : tie.Need-returns-2 Inv-loop μ-loop
+unfolding refusedAt
+returns-2 c = let n = c .before .before .before .before .args .sizes .lead + c .before .before .before .before .args .sizes .start in
+    let none = ended (drifting (now (c .before .before .before .before .args .plan))) (c .before .loop .k) n (c .loop-test .left) in
+    sym (c .before .loop .inv .1 ∙ ap (refusedAt (asNamed (c .before .before .before .before .args .sizes))) none)
+
+pub rows-before-cycle-spec : {M : Type 1} → statement M
+rows-before-cycle-spec =
+    tie.close
+    (tie.spec
+    Inv-loop
+    μ-loop
+    add-cycle
+    loop-holds
+    drifting-requires
+    named-row-requires
+    returns
+    add-k
+    loop-less
+    loop-again
+    returns-2)

@@ -1,0 +1,69 @@
+use Rattle.plan.proofs.Arrays as arrays
+use native.Mathlib.Omega.{arith}
+use Prim.Native.Nat.{ℕ, _+_, _-_, _*_, _≤_, _<_}
+use mathlib.Core.Path.{_≡_}
+use lib.ListN.{length}
+use borrow.Author.Needs.{needs}
+use Rattle.plan.proofs.lookup.stored_drift.Statement.{statement}
+use Rattle.plan.proofs.lookup.stored_drift.Tie as tie
+use Rattle.plan.proofs.lookup.stored_drift.Reads as reads
+use Rattle.plan.proofs.lookup.stored_drift.Lts as lts
+use Rattle.plan.proofs.layout.array_length.Reads as array-length-reads
+use Rattle.plan.proofs.layout.cell_of.Reads as cell-of-reads
+use Rattle.plan.proofs.layout.drifts_start.Reads as drifts-start-reads
+use Rattle.plan.proofs.lookup.entry_at.Reads as entry-at-reads
+
+-- src/lookup.rt:73:9
+drifts-start-requires : tie.Need-drifts-start-requires
+drifts-start-requires c κs = search needs
+
+-- src/lookup.rt:74:17
+array-length-requires : tie.Need-array-length-requires
+array-length-requires c κs = search needs
+
+-- src/lookup.rt:74:13
+add-e : tie.Need-add-e
+add-e c = search needs
+
+-- src/lookup.rt:75:14
+sub-entry-at : tie.Need-sub-entry-at
+sub-entry-at c = search needs
+
+-- src/lookup.rt:75:14
+part-entry-at-start : tie.Need-part-entry-at-start
+part-entry-at-start c = search needs
+
+-- src/lookup.rt:75:14
+part-entry-at-end : tie.Need-part-entry-at-end
+part-entry-at-end c = search needs
+
+-- src/lookup.rt:75:27
+cell-of-requires : tie.Need-cell-of-requires
+cell-of-requires c κs = search needs
+
+-- src/lookup.rt:75:5
+entry-at-requires : tie.Need-entry-at-requires
+entry-at-requires c κs = arrays.in-part (c .before .before .before .before .before .pre .0) (c .before .before .before .before .before .args .k) (c .before .before .before .before .before .args .channel) (c .before .before .before .drifts-start .result) (c .before .before .before .drifts-start .result + c .before .before .array-length .result) _
+    (c .cell-of .ensures) (omega arith) (omega arith) (c .before .before .before .before .before .pre .2) (c .before .before .before .before .before .pre .1)
+
+-- src/lookup.rt:69:1
+returns : tie.Need-returns
+returns c = (
+    arrays.drift-read (c .before .before .before .before .before .before .pre .0) (c .before .before .before .before .before .before .args .k) (c .before .before .before .before .before .before .args .channel) (c .before .before .before .before .drifts-start .result) (c .before .before .before .before .drifts-start .result + c .before .before .before .array-length .result) _
+    (c .before .before .before .before .drifts-start .ensures .0) (omega arith) (c .before .cell-of .ensures) (c .entry-at .ensures .0),
+    c .entry-at .ensures .1,
+    )
+
+pub stored-drift-spec : {M : Type 1} → statement M
+stored-drift-spec =
+    tie.close
+    (tie.spec
+    drifts-start-requires
+    array-length-requires
+    add-e
+    sub-entry-at
+    part-entry-at-start
+    part-entry-at-end
+    cell-of-requires
+    entry-at-requires
+    returns)

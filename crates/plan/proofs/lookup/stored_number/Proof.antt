@@ -1,0 +1,93 @@
+use Rattle.plan.proofs.Arrays as arrays
+use native.Mathlib.Omega.{arith}
+use Prim.Native.Nat.{ℕ, _+_, _-_, _*_, _≤_, _<_}
+use mathlib.Core.Path.{_≡_}
+use lib.ListN.{length}
+use borrow.Author.Needs.{needs}
+use Rattle.plan.proofs.lookup.stored_number.Statement.{statement}
+use Rattle.plan.proofs.lookup.stored_number.Tie as tie
+use Rattle.plan.proofs.lookup.stored_number.Reads as reads
+use Rattle.plan.proofs.lookup.stored_number.Lts as lts
+use Rattle.plan.proofs.layout.array_length.Reads as array-length-reads
+use Rattle.plan.proofs.layout.cell_of.Reads as cell-of-reads
+use Rattle.plan.proofs.layout.drifts_start.Reads as drifts-start-reads
+use Rattle.plan.proofs.layout.head_length.Reads as head-length-reads
+use Rattle.plan.proofs.lookup.number_on.Reads as number-on-reads
+
+-- src/lookup.rt:54:9
+head-length-requires : tie.Need-head-length-requires
+head-length-requires c κs = search needs
+
+-- src/lookup.rt:55:9
+drifts-start-requires : tie.Need-drifts-start-requires
+drifts-start-requires c κs = search needs
+
+-- src/lookup.rt:56:17
+array-length-requires : tie.Need-array-length-requires
+array-length-requires c κs = search needs
+
+-- src/lookup.rt:56:13
+add-e : tie.Need-add-e
+add-e c = search needs
+
+-- src/lookup.rt:57:15
+sub-number-on : tie.Need-sub-number-on
+sub-number-on c = search needs
+
+-- src/lookup.rt:57:15
+part-number-on-start : tie.Need-part-number-on-start
+part-number-on-start c = search needs
+
+-- src/lookup.rt:57:15
+part-number-on-end : tie.Need-part-number-on-end
+part-number-on-end c = search needs
+
+-- src/lookup.rt:57:28
+sub-number-on-2 : tie.Need-sub-number-on-2
+sub-number-on-2 c = search needs
+
+-- src/lookup.rt:57:28
+part-number-on-start-2 : tie.Need-part-number-on-start-2
+part-number-on-start-2 c = search needs
+
+-- src/lookup.rt:57:28
+part-number-on-end-2 : tie.Need-part-number-on-end-2
+part-number-on-end-2 c = search needs
+
+-- src/lookup.rt:57:41
+cell-of-requires : tie.Need-cell-of-requires
+cell-of-requires c κs = search needs
+
+-- src/lookup.rt:57:5
+number-on-requires : tie.Need-number-on-requires
+number-on-requires c κs = let inside = arrays.in-part (c .before .before .before .before .before .before .before .pre .0) (c .before .before .before .before .before .before .before .args .k) (c .before .before .before .before .before .before .before .args .channel) in (
+    inside (c .before .before .before .before .before .head-length .result) (c .before .before .before .before .drifts-start .result) _ (c .cell-of .ensures) (omega arith) (omega arith) (c .before .before .before .before .before .before .before .pre .2) (c .before .before .before .before .before .before .before .pre .1),
+    inside (c .before .before .before .before .drifts-start .result) (c .before .before .before .before .drifts-start .result + c .before .before .before .array-length .result) _ (c .cell-of .ensures) (omega arith) (omega arith) (c .before .before .before .before .before .before .before .pre .2) (c .before .before .before .before .before .before .before .pre .1),
+    c .before .before .before .before .before .before .before .pre .3,
+    )
+
+-- src/lookup.rt:50:1
+returns : tie.Need-returns
+returns c = (
+    arrays.value-read (c .before .before .before .before .before .before .before .before .pre .0) (c .before .before .before .before .before .before .before .before .args .k) (c .before .before .before .before .before .before .before .before .args .channel) (c .before .before .before .before .before .drifts-start .result) (c .before .before .before .before .before .drifts-start .result + c .before .before .before .before .array-length .result) _
+    (c .before .before .before .before .before .drifts-start .ensures .0) (omega arith) (c .before .cell-of .ensures) _ (c .before .before .before .before .before .before .before .before .args .pass) (c .before .before .before .before .before .before .head-length .ensures) (c .number-on .ensures .0),
+    c .number-on .ensures .1,
+    )
+
+pub stored-number-spec : {M : Type 1} → statement M
+stored-number-spec =
+    tie.close
+    (tie.spec
+    head-length-requires
+    drifts-start-requires
+    array-length-requires
+    add-e
+    sub-number-on
+    part-number-on-start
+    part-number-on-end
+    sub-number-on-2
+    part-number-on-start-2
+    part-number-on-end-2
+    cell-of-requires
+    number-on-requires
+    returns)

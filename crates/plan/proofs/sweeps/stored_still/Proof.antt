@@ -1,0 +1,74 @@
+use mathlib.Core.Path.{sym, _∙_}
+use Rattle.plan.proofs.Drifts.{few-numbers, numbers-there, still-rows}
+use native.Mathlib.Omega.{arith}
+use Prim.Native.Nat.{ℕ, _+_, _-_, _*_, _≤_, _<_}
+use mathlib.Core.Path.{_≡_}
+use lib.ListN.{length}
+use borrow.Author.Needs.{needs}
+use Rattle.plan.proofs.sweeps.stored_still.Statement.{statement}
+use Rattle.plan.proofs.sweeps.stored_still.Tie as tie
+use Rattle.plan.proofs.sweeps.stored_still.Reads as reads
+use Rattle.plan.proofs.sweeps.stored_still.Lts as lts
+use Rattle.plan.proofs.layout.array_length.Reads as array-length-reads
+use Rattle.plan.proofs.layout.drifts_start.Reads as drifts-start-reads
+use Rattle.plan.proofs.sweeps.all_zero.Reads as all-zero-reads
+
+-- src/sweeps.rt:34:9
+drifts-start-requires : tie.Need-drifts-start-requires
+drifts-start-requires c κs = search needs
+
+-- src/sweeps.rt:35:17
+array-length-requires : tie.Need-array-length-requires
+array-length-requires c κs = search needs
+
+-- src/sweeps.rt:35:13
+add-e : tie.Need-add-e
+add-e c = search needs
+
+-- src/sweeps.rt:36:14
+sub-all-zero : tie.Need-sub-all-zero
+sub-all-zero c = search needs
+
+-- src/sweeps.rt:36:14
+part-all-zero-start : tie.Need-part-all-zero-start
+part-all-zero-start c = search needs
+
+-- src/sweeps.rt:36:14
+part-all-zero-end : tie.Need-part-all-zero-end
+part-all-zero-end c = search needs
+
+-- src/sweeps.rt:36:27
+mul-all-zero : tie.Need-mul-all-zero
+mul-all-zero c = omega (arith, few-numbers (c .before .before .before .before .pre .0) _ _ (c .before .before .before .before .pre .1) (c .before .before .before .before .pre .2))
+
+-- src/sweeps.rt:36:38
+sub-all-zero-2 : tie.Need-sub-all-zero-2
+sub-all-zero-2 c = search needs
+
+-- src/sweeps.rt:36:37
+mul-all-zero-2 : tie.Need-mul-all-zero-2
+mul-all-zero-2 c = omega (arith, few-numbers (c .before .before .before .before .pre .0) _ _ (c .before .before .before .before .pre .1) (c .before .before .before .before .pre .2))
+
+-- src/sweeps.rt:36:5
+all-zero-requires : tie.Need-all-zero-requires
+all-zero-requires c κs = numbers-there (c .before .before .before .before .pre .0) _ _ (c .before .before .before .before .pre .1) (c .before .before .before .before .pre .2) _ _ (c .before .before .drifts-start .ensures .0) (omega arith)
+
+-- src/sweeps.rt:29:1
+returns : tie.Need-returns
+returns c = λ all. still-rows (c .before .before .before .before .before .pre .0) (c .before .before .before .drifts-start .result) (c .before .before .before .drifts-start .result + c .before .before .array-length .result) _ _ (c .before .before .before .drifts-start .ensures .0) (omega arith) (sym (c .all-zero .ensures) ∙ all)
+
+pub stored-still-spec : {M : Type 1} → statement M
+stored-still-spec =
+    tie.close
+    (tie.spec
+    drifts-start-requires
+    array-length-requires
+    add-e
+    sub-all-zero
+    part-all-zero-start
+    part-all-zero-end
+    mul-all-zero
+    sub-all-zero-2
+    mul-all-zero-2
+    all-zero-requires
+    returns)
