@@ -9,7 +9,7 @@ use mathlib.Core.Logic.{by-cases}
 use lib.Dec.{eqb}
 use lib.IntN.{subℕ}
 use lib.ListN.{getD}
-use Rattle.plan.specs.inner.Sizes.{allRows, Fitting}
+use Rattle.plan.specs.inner.Sizes.{allRows, allStored, Fitting}
 use Rattle.plan.specs.declared.sizes.Sizes.{Sizes}
 use Rattle.table.specs.Layout.{markByte, marked}
 use Rattle.table.specs.inner.Tables.{allBelow, markIn, Sized}
@@ -20,7 +20,7 @@ use Rattle.verdict.specs.declared.Comparison.{Comparison}
 use Rattle.verdict.proofs.Landed.{read-inside}
 use Rattle.verdict.proofs.Values.{farther-le}
 use Rattle.lanes.specs.declared.ranges.Ranges.{Ranges}
-use Rattle.lanes.specs.inner.Direct.{agreesOn, numbersSay, linesSay, DirectRows, LongLanes}
+use Rattle.lanes.specs.inner.Direct.{agreesOn, numbersSay, linesSay, OfPart, DirectRows, LongLanes}
 use Rattle.lanes.specs.inner.Lanes.{Laid, Lanes}
 use Rattle.lanes.specs.inner.Positions.{positionSays}
 use Rattle.lanes.specs.inner.Ranges.{OnFirstPass, Divides}
@@ -36,7 +36,7 @@ use Rattle.lanes.proofs.Stretches.{none-swept}
 pub marks-from-first : (table : List ℕ) (n w : ℕ) → Sized table n w → (i count m : ℕ) → i < n → count ≤ w → m ≡ 4 + (i * w + 0) → InMarks table m count
 marks-from-first table n w s i count m l h e = marks-there table n w s i 0 count m l (omega arith) e
 
-pub long-lanes : (z : Sizes) {array lanes : List ℕ} → Laid array (z .channels) (allRows z) lanes → LongLanes z lanes
+pub long-lanes : (z : Sizes) {array lanes : List ℕ} → Laid array (z .channels) (allStored z) lanes → LongLanes z lanes
 long-lanes z laid = (laid .there, laid .few)
 
 -- what is known of the comparison that part i is, once its ranges are found
@@ -59,7 +59,18 @@ module _ {plan table : List ℕ} {z : Sizes} {n i : ℕ} {x : Comparison} {left 
   d : Divides z back high still r
   d = known .divided
 
-  -- where both terms are read
+  of-part : OfPart table n z i x left right
+  of-part = record {
+    few-channels = f .few-channels;
+    a-cycle = f .a-cycle;
+    few-lead = f .few-lead;
+    sized = known .sized;
+    present = known .present;
+    terms-fit = known .terms-fit;
+    small = known .small;
+  }
+
+  -- where both terms are read, from a position or from one so many rows behind
   low : (t : ℕ) → back ≤ t → (4 ≤ t + left) × (4 ≤ t + right)
   low t h =
       let farther = known .farther in
@@ -76,14 +87,10 @@ module _ {plan table : List ℕ} {z : Sizes} {n i : ℕ} {x : Comparison} {left 
   -- a stretch all of whose positions are on the first pass
   stretch : (from to : ℕ) → to ≤ allRows z → ((t : ℕ) → from ≤ t → t < to → OnFirstPass z back high t) → DirectRows table n z i x left right from to
   stretch from to few on = record {
-    few-channels = f .few-channels;
-    sized = known .sized;
-    present = known .present;
-    terms-fit = known .terms-fit;
+    part = of-part;
     few-rows = few;
-    left-in = λ h. (low from (on from (omega arith) h .0) .0, omega (arith, below (to - 1) (on (to - 1) (omega arith) (omega arith) .1) .0));
-    right-in = λ h. (low from (on from (omega arith) h .0) .1, omega (arith, below (to - 1) (on (to - 1) (omega arith) (omega arith) .1) .1));
-    small = known .small;
+    left-in = λ h. (low (z .lead + from) (on from (omega arith) h .0) .0, omega (arith, below (to - 1) (on (to - 1) (omega arith) (omega arith) .1) .0));
+    right-in = λ h. (low (z .lead + from) (on from (omega arith) h .0) .1, omega (arith, below (to - 1) (on (to - 1) (omega arith) (omega arith) .1) .1));
   }
 
   pub numbers-stretch : DirectRows table n z i x left right (r .before) (r .numbers)
@@ -92,18 +99,13 @@ module _ {plan table : List ℕ} {z : Sizes} {n i : ℕ} {x : Comparison} {left 
   pub lines-stretch : DirectRows table n z i x left right (r .numbers) (r .end)
   lines-stretch = stretch (r .numbers) (r .end) (d .in-order .2) (λ t l k. d .lines-direct t l k .0)
 
-  -- the positions that are not direct, unless one of them is before the run
+  -- the positions that are not direct, unless from one of them a term is read before position 0
   pub later-positions : back ≤ r .end → StillPositions table n z i x left right (r .end) (allRows z + back)
   later-positions h = record {
-    few-channels = f .few-channels;
-    a-cycle = f .a-cycle;
-    sized = known .sized;
-    present = known .present;
-    terms-fit = known .terms-fit;
+    part = of-part;
     few = omega (arith, farther-le z x back (known .farther) (known .terms-fit));
     in-order = omega (arith, d .in-order .2);
     in-run = low (r .end) h;
-    small = known .small;
   }
 
   module _ {values steps : List ℕ} (lanes : Lanes plan z values steps still) where
@@ -128,31 +130,31 @@ module _ {plan table : List ℕ} {z : Sizes} {n i : ℕ} {x : Comparison} {left 
         ap (λ (j : ℕ). not (eqb (getD table j 0) 1)) place
         ∙ before-says f table i x left right (known .left-code) (known .right-code) (known .terms-fit) (z .start + back) t (omega arith) (omega arith) (omega arith))
 
-    -- where nothing drifts, the numbers tell all at every position at which no term is read before the run
+    -- where nothing drifts, the numbers tell all at every position at which no term is read before position 0
     still-at : still ≡ true → (t : ℕ) → back ≤ t → stillSays values table z i x left right t ≡ at t
     still-at e t h = still-says f (lanes .no-drift e) values (lanes .readings-laid) table i x left right (known .left-code) (known .right-code) (known .terms-fit) (z .start + back) t (low t h) (in-cycle t)
 
-    numbers-swept : {B : Bool} → B ≡ allBelow (λ k. numbersSay values (allRows z) x left right (mark (r .before + k)) (r .before + k)) (r .numbers - r .before)
+    numbers-swept : {B : Bool} → B ≡ allBelow (λ k. numbersSay values z x left right (mark (r .before + k)) (r .before + k)) (r .numbers - r .before)
         → B ≡ allBelow (λ k. at (r .before + k)) (r .numbers - r .before)
     numbers-swept e = e ∙ all-ext _ _ (r .numbers - r .before) (λ k l. position (r .before + k) (d .numbers-direct (r .before + k) (omega arith) (omega arith)) (let order = d .in-order in omega arith))
       where
-        position : (t : ℕ) → OnFirstPass z back high t × (still ≡ false → t < z .start + back) → t < allRows z → numbersSay values (allRows z) x left right (mark t) t ≡ at t
+        position : (t : ℕ) → OnFirstPass z back high t × (still ≡ false → t < z .start + back) → t < allRows z → numbersSay values z x left right (mark t) t ≡ at t
         position t on few =
             by-cases (decLt t (z .start + back))
-            (numbers-say f table i x left right (known .left-code) (known .right-code) (known .terms-fit) (z .start + back) t few values (lanes .readings-laid) (low t (on .0 .0)) (below t (on .0 .1)))
+            (numbers-say f table i x left right (known .left-code) (known .right-code) (known .terms-fit) (z .start + back) t few values (lanes .readings-laid) (below t (on .0 .1)) (low (z .lead + t) (on .0 .0)))
             (λ h. settled (omega arith) still refl)
           where
-            settled : z .start + back ≤ t → (b : Bool) → still ≡ b → numbersSay values (allRows z) x left right (mark t) t ≡ at t
-            settled h true e = direct-still values table z i x left right t few (low t (on .0 .0)) (below t (on .0 .1)) ∙ still-at e t (on .0 .0)
+            settled : z .start + back ≤ t → (b : Bool) → still ≡ b → numbersSay values z x left right (mark t) t ≡ at t
+            settled h true e = direct-still values table z i x left right t few (low t (omega arith)) (below t (on .0 .1)) ∙ still-at e t (omega arith)
             settled h false e = absurd (let early = on .1 e in omega arith)
 
-    lines-swept : {D : Bool} → D ≡ allBelow (λ k. linesSay values (allRows z) x left right steps (mark (r .numbers + k)) (r .numbers + k)) (r .end - r .numbers)
+    lines-swept : {D : Bool} → D ≡ allBelow (λ k. linesSay values z x left right steps (mark (r .numbers + k)) (r .numbers + k)) (r .end - r .numbers)
         → D ≡ allBelow (λ k. at (r .numbers + k)) (r .end - r .numbers)
     lines-swept e =
         e ∙ all-ext _ _ (r .end - r .numbers) (λ k l.
         let on = d .lines-direct (r .numbers + k) (omega arith) (omega arith) in
         lines-say f table i x left right (known .left-code) (known .right-code) (known .terms-fit) (z .start + back) (r .numbers + k) (let order = d .in-order in omega arith) values (lanes .readings-laid)
-        (low (r .numbers + k) (on .0 .0)) (below (r .numbers + k) (on .0 .1)) (on .1) steps (lanes .drifts-laid (on .2)))
+        (below (r .numbers + k) (on .0 .1)) (low (r .numbers + k) (omega (arith, on .1))) (on .1) steps (lanes .drifts-laid (on .2)))
 
     -- the four together
     together : {A B D E : Bool} → A ≡ allBelow at (r .before) → B ≡ allBelow (λ k. at (r .before + k)) (r .numbers - r .before) → D ≡ allBelow (λ k. at (r .numbers + k)) (r .end - r .numbers)
@@ -164,8 +166,8 @@ module _ {plan table : List ℕ} {z : Sizes} {n i : ℕ} {x : Comparison} {left 
         ∙ positions-for-rows f table i x (known .terms-fit) back (omega arith) (omega arith)
 
     module _ (m : ℕ) (first : m ≡ 4 + (i * allRows z + 0)) {A B : Bool} (a : A ≡ allBelow (λ k. not (markIn table (m + k))) (r .before))
-        (b : B ≡ allBelow (λ k. numbersSay values (allRows z) x left right (mark (r .before + k)) (r .before + k)) (r .numbers - r .before)) where
-      pub all-swept : {D E : Bool} → D ≡ allBelow (λ k. linesSay values (allRows z) x left right steps (mark (r .numbers + k)) (r .numbers + k)) (r .end - r .numbers)
+        (b : B ≡ allBelow (λ k. numbersSay values z x left right (mark (r .before + k)) (r .before + k)) (r .numbers - r .before)) where
+      pub all-swept : {D E : Bool} → D ≡ allBelow (λ k. linesSay values z x left right steps (mark (r .numbers + k)) (r .numbers + k)) (r .end - r .numbers)
           → E ≡ allBelow (λ k. at (r .end + k)) (allRows z + back - r .end) → (((A && B) && D) && E) ≡ allBelow (agreesOn plan table (allRows z) i x) (allRows z)
       all-swept e g = together (before-swept m first a) (numbers-swept b) (lines-swept e) g
 

@@ -1,27 +1,28 @@
 -- Direct positions: what stands in the lanes is what the run gives there, and the marks are held against that. Assumes nothing.
-use Prim.Native.Nat.{ℕ, suc, _+_, _*_, _-_, max, _≤_, _<_}
+use Prim.Native.Nat.{ℕ, suc, _+_, _-_, max, _≤_, _<_}
 use native.Mathlib.Decide.{decLt}
 use native.Mathlib.Omega.{arith}
 use mathlib.Core.Path.{_≡_, refl, sym, ap, ap₂, _∙_}
 use mathlib.Core.Bool.{Bool, true, false, not, Bool·beq}
 use mathlib.Core.List.{List}
 use mathlib.Core.Logic.{by-cases}
-use lib.IntN.{ℤ, pos, negsuc, subℕ, _+ℤ_, _*ℤ_, +ℤ-idr}
+use lib.IntN.{ℤ, pos, negsuc, subℕ}
 use Rattle.cltlb.specs.Run.{Seen, number, beforeRun}
 use Rattle.cltlb.specs.Truth.{valueAt}
 use Rattle.cltlb.specs.Fits.{termFits}
 use Rattle.cltlb.specs.declared.Term.{Term}
 use Rattle.cltlb.specs.declared.Term.the-variants.{Constant, Reading}
 use Rattle.cltlb.proofs.Fits.{reading-fits}
-use Rattle.fields.specs.TwosComplement.{signedOf, signedAt}
-use Rattle.fields.proofs.Differences.{by-sub, sub-pos, sub-same, sub-mul, sub-eq, pos-sub, negsuc-sub}
-use Rattle.plan.specs.Layout.{channels, startRows, cycleRows, readings, drifts, entry, readingOf, driftOf}
+use Rattle.fields.proofs.Differences.{sub-pos, sub-eq, pos-sub, negsuc-sub}
+use Rattle.plan.specs.Layout.{startRows, cycleRows, leadRows, readings, drifts, storedReading, storedDrift, readingOf, driftOf}
 use Rattle.plan.specs.Positions.{rowOf}
-use Rattle.plan.specs.Run.{readingOn, readingAt, runOf}
-use Rattle.plan.specs.inner.Sizes.{allRows, Fitting}
+use Rattle.plan.specs.Run.{runOf}
+use Rattle.plan.specs.inner.Sizes.{allRows, allStored, Fitting}
 use Rattle.plan.specs.declared.sizes.Sizes.{Sizes}
-use Rattle.plan.proofs.Rows.{row-start, pass-start}
-use Rattle.plan.proofs.Shifts.{shifted, before-run}
+use Rattle.plan.proofs.Fits.{rows-are}
+use Rattle.plan.proofs.Lines.{reading-on-pass-0}
+use Rattle.plan.proofs.Rows.{row-start}
+use Rattle.plan.proofs.Shifts.{shifted, before-run, as-stored}
 use Rattle.verdict.specs.Comparisons.{testOf, ofNumber, tested, judgeLines}
 use Rattle.verdict.specs.Lines.{Line}
 use Rattle.verdict.specs.Rows.{channelLine, termLine, testAt}
@@ -29,25 +30,25 @@ use Rattle.verdict.specs.inner.Landed.{shiftIn}
 use Rattle.verdict.specs.inner.Reach.{back, reach, TermsFit}
 use Rattle.verdict.specs.declared.Comparison.{Comparison}
 use Rattle.lanes.specs.inner.Agreement.{verdictAgrees}
-use Rattle.lanes.specs.inner.Columns.{laneNumber, laneDrift}
+use Rattle.lanes.specs.inner.Columns.{laneNumber, laneLine}
 use Rattle.lanes.specs.inner.Direct.{numbersSay, linesSay}
-use Rattle.lanes.specs.inner.Lanes.{LaidTo, Laid}
+use Rattle.lanes.specs.inner.Lanes.{Laid}
 use Rattle.lanes.specs.inner.Positions.{positionSays}
 use Rattle.table.specs.Layout.{marked}
-use Rattle.table.proofs.Places.{cell}
+use Rattle.lanes.proofs.Laying.{reading-in-lane, drift-in-lane}
 use Rattle.lanes.proofs.Positions.{alone, settled}
 
 -- ---- shifts
 
--- A term that reaches farther back than a position is read before the run there.
-pub reads-before : (x : Term) (t code : ℕ) → subℕ code 4 ≡ shiftIn x → t < reach x → t + code < 4
+-- A term that reaches farther back than a position and a lead-in of so many rows is read before the run there.
+pub reads-before : (x : Term) (lead t code : ℕ) → subℕ code 4 ≡ shiftIn x → lead + t < reach x → lead + (t + code) < 4
 unfolding reach back
-reads-before (Constant z) t code g h = absurd (omega arith)
-reads-before (Reading channel (pos n)) t code g h = absurd (omega arith)
-reads-before (Reading channel (negsuc n)) t code g h = let k = sub-eq code 4 0 (suc n) .0 (g ∙ negsuc-sub n) in omega arith
+reads-before (Constant z) lead t code g h = absurd (omega arith)
+reads-before (Reading channel (pos n)) lead t code g h = absurd (omega arith)
+reads-before (Reading channel (negsuc n)) lead t code g h = let k = sub-eq code 4 0 (suc n) .0 (g ∙ negsuc-sub n) in omega arith
 
 -- A term that is read before the run.
-seen-before : (plan : List ℕ) (x : Term) (t code : ℕ) → subℕ code 4 ≡ shiftIn x → t + code < 4 → valueAt (runOf plan) x t ≡ beforeRun
+seen-before : (plan : List ℕ) (x : Term) (t code : ℕ) → subℕ code 4 ≡ shiftIn x → leadRows plan + (t + code) < 4 → valueAt (runOf plan) x t ≡ beforeRun
 unfolding valueAt
 seen-before plan (Constant z) t code g h = absurd (let k = sub-eq code 4 0 0 .0 (g ∙ pos-sub 0) in omega arith)
 seen-before plan (Reading channel shift) t code g h = ap (runOf plan channel) (shifted t code shift g) ∙ sym (before-run plan channel (t + code) h)
@@ -64,73 +65,53 @@ blank-right test x e = rw e (go x)
     go (number a) = refl
     go beforeRun = refl
 
-pub no-passes : (z d : ℤ) → z +ℤ pos 0 *ℤ d ≡ z
-no-passes z d = ap (λ (x : ℤ). z +ℤ x) (none d) ∙ +ℤ-idr z
-  where
-    none : (d : ℤ) → pos 0 *ℤ d ≡ pos 0
-    none = by-sub (λ d. pos 0 *ℤ d ≡ pos 0) (λ a b. sub-mul 0 a b ∙ sub-same (0 * a) (0 * b) 0 0 (omega arith) ∙ sym (pos-sub 0))
-
 -- ---- terms at direct positions
 
-module _ {plan : List ℕ} {z : Sizes} (f : Fitting plan z) (row : ℕ) where
-  module _ (channel code : ℕ) (shift : ℤ) (g : subℕ code 4 ≡ shift) (low : 4 ≤ row + code) (high : row + code < allRows z + 4) where
-    abbrev at : ℕ
-    at = row + code - 4
+module _ {plan : List ℕ} {z : Sizes} (f : Fitting plan z) (t : ℕ) (x : Term) (code : ℕ) (g : subℕ code 4 ≡ shiftIn x) (fits : termFits (z .channels) x ≡ true) (high : t + code < allRows z + 4)
+    (values : List ℕ) (laid : Laid (readings plan) (z .channels) (allStored z) values) where
+  -- what is seen of a term, in the lead-in or on pass 0, stands in its lane
+  pub seen-in-lane : 4 ≤ z .lead + t + code → valueAt (runOf plan) x t ≡ number (laneNumber values (allStored z) x code (z .lead + t))
+  unfolding valueAt
+  seen-in-lane low = go x g fits
+    where
+      k : ℕ
+      k = z .lead + t + code - 4
 
-    read-at : pos row +ℤ shift ≡ pos at
-    read-at = shifted row code shift g ∙ sub-pos (row + code) 4 low
+      go : (x : Term) → subℕ code 4 ≡ shiftIn x → termFits (z .channels) x ≡ true → valueAt (runOf plan) x t ≡ number (laneNumber values (allStored z) x code (z .lead + t))
+      go (Constant c) e h = refl
+      go (Reading channel shift) e h =
+          let lead = f .l-is in
+          let place : leadRows plan + (t + code) - 4 ≡ k = omega arith in
+          ap (runOf plan channel) (shifted t code shift e)
+          ∙ as-stored plan channel (t + code) (omega arith) (rw (rows-are f) high)
+          ∙ ap (λ (j : ℕ). number (storedReading plan j channel)) place
+          ∙ ap number (reading-in-lane f channel k (reading-fits (z .channels) channel shift h .0) (omega arith) laid)
 
-    on-row : rowOf (startRows plan) (cycleRows plan) at ≡ at
-    on-row = rw (f .p-is, f .c-is) (row-start (z .start) (z .cycle) at (omega arith))
+  -- and so does its line, where it is read not before position 0
+  pub line-in-lane : 4 ≤ t + code → (steps : List ℕ) → Laid (drifts plan) (z .channels) (allStored z) steps → laneLine values steps (allStored z) x code (z .lead + t) ≡ termLine plan x t
+  unfolding termLine channelLine readingOf driftOf
+  line-in-lane low steps down = go x g fits
+    where
+      at : ℕ
+      at = t + code - 4
 
-    reading-there : readingAt plan channel at ≡ readingOf plan at channel
-    unfolding readingAt readingOn
-    reading-there =
-        rw (on-row)
-        (ap (λ (n : ℕ). readingOf plan at channel +ℤ pos n *ℤ driftOf plan at channel) (rw (f .p-is, f .c-is) (pass-start (z .start) (z .cycle) at (omega arith)))
-        ∙ no-passes (readingOf plan at channel) (driftOf plan at channel))
+      k : ℕ
+      k = z .lead + t + code - 4
 
-    direct-number : termLine plan (Reading channel shift) row .at ≡ readingOf plan at channel
-    unfolding termLine channelLine
-    direct-number = rw read-at reading-there
+      place : leadRows plan + at ≡ k
+      place = let lead = f .l-is in omega arith
 
-    direct-drift : termLine plan (Reading channel shift) row .step ≡ driftOf plan at channel
-    unfolding termLine channelLine
-    direct-drift = rw (read-at, on-row) refl
+      on-row : rowOf (startRows plan) (cycleRows plan) at ≡ at
+      on-row = rw (f .p-is, f .c-is) (row-start (z .start) (z .cycle) at (omega arith))
 
-    direct-seen : valueAt (runOf plan) (Reading channel shift) row ≡ number (termLine plan (Reading channel shift) row .at)
-    unfolding valueAt runOf termLine channelLine
-    direct-seen = rw read-at refl
-
-  module _ (x : Term) (code : ℕ) (g : subℕ code 4 ≡ shiftIn x) (low : 4 ≤ row + code) (high : row + code < allRows z + 4) where
-    pub seen-direct : valueAt (runOf plan) x row ≡ number (termLine plan x row .at)
-    unfolding valueAt termLine
-    seen-direct = go x g
-      where
-        go : (x : Term) → subℕ code 4 ≡ shiftIn x → valueAt (runOf plan) x row ≡ number (termLine plan x row .at)
-        go (Constant c) e = refl
-        go (Reading channel shift) e = direct-seen channel code shift e low high
-
-    module _ (fits : termFits (z .channels) x ≡ true) where
-      pub lane-number-is : (values : List ℕ) → Laid (readings plan) (z .channels) (allRows z) values → laneNumber values (allRows z) x code row ≡ termLine plan x row .at
-      unfolding termLine readingOf entry signedAt LaidTo
-      lane-number-is values laid = go x g fits
-        where
-          go : (x : Term) → subℕ code 4 ≡ shiftIn x → termFits (z .channels) x ≡ true → laneNumber values (allRows z) x code row ≡ termLine plan x row .at
-          go (Constant c) e h = refl
-          go (Reading channel shift) e h =
-              ap (signedOf 4) (laid .laid channel (row + code - 4) (omega arith) (cell (z .channels) (allRows z) channel (row + code - 4) (reading-fits (z .channels) channel shift h .0) (omega arith)))
-              ∙ sym (direct-number channel code shift e low high ∙ rw (f .v-is) refl)
-
-      pub lane-drift-is : (steps : List ℕ) → Laid (drifts plan) (z .channels) (allRows z) steps → laneDrift steps (allRows z) x code row ≡ termLine plan x row .step
-      unfolding termLine driftOf entry signedAt LaidTo
-      lane-drift-is steps laid = go x g fits
-        where
-          go : (x : Term) → subℕ code 4 ≡ shiftIn x → termFits (z .channels) x ≡ true → laneDrift steps (allRows z) x code row ≡ termLine plan x row .step
-          go (Constant c) e h = refl
-          go (Reading channel shift) e h =
-              ap (signedOf 4) (laid .laid channel (row + code - 4) (omega arith) (cell (z .channels) (allRows z) channel (row + code - 4) (reading-fits (z .channels) channel shift h .0) (omega arith)))
-              ∙ sym (direct-drift channel code shift e low high ∙ rw (f .v-is) refl)
+      go : (x : Term) → subℕ code 4 ≡ shiftIn x → termFits (z .channels) x ≡ true → laneLine values steps (allStored z) x code (z .lead + t) ≡ termLine plan x t
+      go (Constant c) e h = refl
+      go (Reading channel shift) e h =
+          let there = reading-fits (z .channels) channel shift h .0 in
+          rw (shifted t code shift e ∙ sub-pos (t + code) 4 low, on-row)
+          (ap₂ (λ (m n : ℤ). record { at = m; step = n })
+          (sym (reading-on-pass-0 plan channel at (rw (rows-are f) (omega arith)) ∙ ap (λ (j : ℕ). storedReading plan j channel) place ∙ reading-in-lane f channel k there (omega arith) laid))
+          (sym (ap (λ (j : ℕ). storedDrift plan j channel) place ∙ drift-in-lane f channel k there (omega arith) down)))
 
 -- ---- direct positions
 
@@ -144,7 +125,7 @@ module _ {plan : List ℕ} {z : Sizes} (f : Fitting plan z) (table : List ℕ) (
   own-row = row-start (z .start) (z .cycle) t few
 
   -- where a term is read before the run
-  pub before-says : t < max (reach (x .left)) (reach (x .right)) → t < lines → not mark ≡ positionSays plan table z i x lines t
+  pub before-says : z .lead + t < max (reach (x .left)) (reach (x .right)) → t < lines → not mark ≡ positionSays plan table z i x lines t
   unfolding testAt
   before-says l h = sym (alone plan table z i x lines t t own-row h ∙ ap (Bool·beq mark) blank ∙ is-not mark)
     where
@@ -152,35 +133,32 @@ module _ {plan : List ℕ} {z : Sizes} (f : Fitting plan z) (table : List ℕ) (
       is-not true = refl
       is-not false = refl
 
+      before : (y : Term) (code : ℕ) → subℕ code 4 ≡ shiftIn y → z .lead + t < reach y → valueAt (runOf plan) y t ≡ beforeRun
+      before y code g s = seen-before plan y t code g (rw (f .l-is) (reads-before y (z .lead) t code g s))
+
       blank : testAt plan x t ≡ false
       blank =
-          by-cases (decLt t (reach (x .left)))
-          (λ s. blank-left (testOf (x .relation)) (valueAt (runOf plan) (x .right) t) (seen-before plan (x .left) t left gl (reads-before (x .left) t left gl s)))
-          (λ s. blank-right (testOf (x .relation)) (valueAt (runOf plan) (x .left) t) (seen-before plan (x .right) t right gr (reads-before (x .right) t right gr (omega arith))))
+          by-cases (decLt (z .lead + t) (reach (x .left)))
+          (λ s. blank-left (testOf (x .relation)) (valueAt (runOf plan) (x .right) t) (before (x .left) left gl s))
+          (λ s. blank-right (testOf (x .relation)) (valueAt (runOf plan) (x .left) t) (before (x .right) right gr (omega arith)))
 
-  -- where both terms are read on pass 0
-  module _ (values : List ℕ) (laid : Laid (readings plan) (z .channels) (allRows z) values) (low : (4 ≤ t + left) × (4 ≤ t + right)) (high : (t + left < allRows z + 4) × (t + right < allRows z + 4)) where
-    left-number : laneNumber values (allRows z) (x .left) left t ≡ termLine plan (x .left) t .at
-    left-number = lane-number-is f t (x .left) left gl (low .0) (high .0) (fits .0) values laid
-
-    right-number : laneNumber values (allRows z) (x .right) right t ≡ termLine plan (x .right) t .at
-    right-number = lane-number-is f t (x .right) right gr (low .1) (high .1) (fits .1) values laid
-
-    -- by the numbers, before the lines
-    pub numbers-say : t < lines → numbersSay values (allRows z) x left right mark t ≡ positionSays plan table z i x lines t
+  module _ (values : List ℕ) (laid : Laid (readings plan) (z .channels) (allStored z) values) (high : (t + left < allRows z + 4) × (t + right < allRows z + 4)) where
+    -- where both terms are read in the lead-in or on pass 0, by the numbers, before the lines
+    pub numbers-say : (4 ≤ z .lead + t + left) × (4 ≤ z .lead + t + right) → t < lines → numbersSay values z x left right mark t ≡ positionSays plan table z i x lines t
     unfolding testAt tested ofNumber
-    numbers-say h = sym (alone plan table z i x lines t t own-row h ∙ ap (Bool·beq mark) seen)
+    numbers-say low h = sym (alone plan table z i x lines t t own-row h ∙ ap (Bool·beq mark) seen)
       where
-        seen : testAt plan x t ≡ testOf (x .relation) (laneNumber values (allRows z) (x .left) left t) (laneNumber values (allRows z) (x .right) right t)
+        seen : testAt plan x t ≡ testOf (x .relation) (laneNumber values (allStored z) (x .left) left (z .lead + t)) (laneNumber values (allStored z) (x .right) right (z .lead + t))
         seen =
             ap₂ (tested (testOf (x .relation)))
-            (seen-direct f t (x .left) left gl (low .0) (high .0) ∙ ap number (sym left-number))
-            (seen-direct f t (x .right) right gr (low .1) (high .1) ∙ ap number (sym right-number))
+            (seen-in-lane f t (x .left) left gl (fits .0) (high .0) values laid (low .0))
+            (seen-in-lane f t (x .right) right gr (fits .1) (high .1) values laid (low .1))
 
-    -- from there on by the lines
-    pub lines-say : lines ≤ t → (steps : List ℕ) → Laid (drifts plan) (z .channels) (allRows z) steps → linesSay values (allRows z) x left right steps mark t ≡ positionSays plan table z i x lines t
-    lines-say h steps down =
+    -- where both are read on pass 0, from there on by the lines
+    pub lines-say : (4 ≤ t + left) × (4 ≤ t + right) → lines ≤ t → (steps : List ℕ) → Laid (drifts plan) (z .channels) (allStored z) steps
+        → linesSay values z x left right steps mark t ≡ positionSays plan table z i x lines t
+    lines-say low h steps down =
         ap₂ (λ (p q : Line). verdictAgrees (judgeLines (x .relation) p q) mark)
-        (ap₂ (λ (m n : ℤ). record { at = m; step = n }) left-number (lane-drift-is f t (x .left) left gl (low .0) (high .0) (fits .0) steps down))
-        (ap₂ (λ (m n : ℤ). record { at = m; step = n }) right-number (lane-drift-is f t (x .right) right gr (low .1) (high .1) (fits .1) steps down))
+        (line-in-lane f t (x .left) left gl (fits .0) (high .0) values laid (low .0) steps down)
+        (line-in-lane f t (x .right) right gr (fits .1) (high .1) values laid (low .1) steps down)
         ∙ sym (settled plan table z i x lines t t own-row h)

@@ -3,17 +3,20 @@ use Prim.Native.Nat.{ℕ, _+_, _*_, _-_, _^_, _≤_, _<_}
 use native.Mathlib.Nat.{mul-le-mul-right}
 use native.Mathlib.Decide.{decLt}
 use native.Mathlib.Omega.{arith}
-use mathlib.Core.Path.{_≡_, ap, _∙_, subst, subst₂}
+use mathlib.Core.Path.{_≡_, sym, ap, _∙_, subst, subst₂}
 use mathlib.Core.List.{List}
 use mathlib.Core.Logic.{inl, by-cases}
 use lib.ListN.{length, getD, take, drop, length-take, length-drop}
 use Rattle.fields.specs.LittleEndian.{numberAt, bytesOf}
+use Rattle.fields.specs.TwosComplement.{signedOf, signedAt}
 use Rattle.fields.proofs.Widths.{number4, number-of-bytes}
-use Rattle.plan.specs.Layout.{headLength, arrayLength, cell}
-use Rattle.plan.specs.inner.Sizes.{allRows, mostArray, Fitting}
+use Rattle.plan.specs.Layout.{headLength, arrayLength, readings, drifts, cell, entry, storedReading, storedDrift}
+use Rattle.plan.specs.inner.Sizes.{allStored, mostArray, Fitting}
 use Rattle.plan.specs.declared.sizes.Sizes.{Sizes}
 use Rattle.plan.proofs.Arrays.{array-le, cell-lt}
+use Rattle.plan.proofs.Fits.{few-stored}
 use Rattle.table.specs.inner.Stored.{Stored}
+use Rattle.table.proofs.Places as places
 use Rattle.lanes.specs.inner.Lanes.{Room, LaidTo, Laid}
 
 -- A place in the lanes is that of one channel and one row.
@@ -56,7 +59,7 @@ module _ (array : List ℕ) (v w : ℕ) where
       (number-of-bytes 4 x new (4 * (channel * w + row)) small (λ k q. stored .inside k (omega arith) q) ∙ e))
 
   module _ {lanes : List ℕ} (room : Room array v w lanes) where
-    pub few-places : (channel : ℕ) → channel < v → (channel * w + w ≤ v * w) × (v * w ≤ 2048)
+    pub few-places : (channel : ℕ) → channel < v → (channel * w + w ≤ v * w) × (v * w ≤ 2080)
     few-places channel l =
         let g : (channel + 1) * w ≤ v * w = mul-le-mul-right w (omega arith) in
         (omega arith, array-le v w (room .few-channels) (room .few-rows))
@@ -88,23 +91,39 @@ module _ (array : List ℕ) (v w : ℕ) where
 
 module _ {plan : List ℕ} {z : Sizes} (f : Fitting plan z) {lanes : List ℕ} (long : length lanes ≡ mostArray) where
   -- a part of the plan that is as long as an array
-  part-room : (a e : ℕ) → e ≡ a + arrayLength (z .channels) (allRows z) → e ≤ length plan → Room (take (e - a) (drop a plan)) (z .channels) (allRows z) lanes
+  part-room : (a e : ℕ) → e ≡ a + arrayLength (z .channels) (allStored z) → e ≤ length plan → Room (take (e - a) (drop a plan)) (z .channels) (allStored z) lanes
   unfolding arrayLength
   part-room a e h l = record {
     few-channels = f .few-channels;
-    few-rows = f .few-rows;
+    few-rows = few-stored f;
     whole = simp (length-take, length-drop) (omega arith);
-    there = omega (arith, array-le (z .channels) (allRows z) (f .few-channels) (f .few-rows));
+    there = omega (arith, array-le (z .channels) (allStored z) (f .few-channels) (few-stored f));
     few = omega arith;
   }
 
-  pub readings-room : (a b : ℕ) → a ≡ headLength → b ≡ headLength + arrayLength (z .channels) (allRows z) → Room (take (b - a) (drop a plan)) (z .channels) (allRows z) lanes
+  pub readings-room : (a b : ℕ) → a ≡ headLength → b ≡ headLength + arrayLength (z .channels) (allStored z) → Room (take (b - a) (drop a plan)) (z .channels) (allStored z) lanes
   readings-room a b g h = let whole = f .whole in part-room a b (omega arith) (omega arith)
 
-  pub drifts-room : (b e : ℕ) → b ≡ headLength + arrayLength (z .channels) (allRows z) → e ≡ b + arrayLength (z .channels) (allRows z)
-      → Room (take (e - b) (drop b plan)) (z .channels) (allRows z) lanes
+  pub drifts-room : (b e : ℕ) → b ≡ headLength + arrayLength (z .channels) (allStored z) → e ≡ b + arrayLength (z .channels) (allStored z)
+      → Room (take (e - b) (drop b plan)) (z .channels) (allStored z) lanes
   drifts-room b e g h = let whole = f .whole in part-room b e h (omega arith)
 
 -- the array that was laid out, by its name
 pub laid-as : {part array : List ℕ} {v w : ℕ} {lanes : List ℕ} → part ≡ array → Laid part v w lanes → Laid array v w lanes
 laid-as {part} {array} {v} {w} {lanes} e laid = subst (λ (a : List ℕ). Laid a v w lanes) e laid
+
+-- ---- what stands in lanes
+
+-- A number of a lane is that of its channel and row in the array.
+lane-entry : {array lanes : List ℕ} {v w : ℕ} → Laid array v w lanes → (channel k : ℕ) → channel < v → k < w → entry array (cell v k channel) ≡ entry lanes (channel * w + k)
+unfolding entry signedAt LaidTo
+lane-entry {array} {lanes} {v} {w} laid channel k l h = sym (ap (signedOf 4) (laid .laid channel k h (places.cell v w channel k l h)))
+
+module _ {plan : List ℕ} {z : Sizes} (f : Fitting plan z) (channel k : ℕ) (l : channel < z .channels) (h : k < allStored z) where
+  pub reading-in-lane : {values : List ℕ} → Laid (readings plan) (z .channels) (allStored z) values → storedReading plan k channel ≡ entry values (channel * allStored z + k)
+  unfolding storedReading
+  reading-in-lane laid = ap (λ (v : ℕ). entry (readings plan) (cell v k channel)) (f .v-is) ∙ lane-entry laid channel k l h
+
+  pub drift-in-lane : {steps : List ℕ} → Laid (drifts plan) (z .channels) (allStored z) steps → storedDrift plan k channel ≡ entry steps (channel * allStored z + k)
+  unfolding storedDrift
+  drift-in-lane laid = ap (λ (v : ℕ). entry (drifts plan) (cell v k channel)) (f .v-is) ∙ lane-entry laid channel k l h

@@ -43,11 +43,11 @@ module _ (w row code : ℕ) (h : 4 ≤ row + code) where
   column-line values drifts x c k s = ap₂ (λ m n. record { at = m; step = n }) (column-number values x c k s) (column-drift drifts x c k s)
 
   -- it lies in lanes that have room for an array
-  pub column-reaches : (lanes : List ℕ) (v to : ℕ) (x : Term) (c : Column) → termFits v x ≡ true → arrayLength v w ≤ length lanes → row < to → to + code ≤ w + 4
-      → Stands w row code x c → Reaches lanes c (to - row)
+  pub column-reaches : (lanes : List ℕ) (v count : ℕ) (x : Term) (c : Column) → termFits v x ≡ true → arrayLength v w ≤ length lanes → row + count + code ≤ w + 4
+      → Stands w row code x c → Reaches lanes c count
   unfolding Stands Reaches arrayLength
-  column-reaches lanes v to (Constant z) c f l g t s e = absurd (false≢true (sym (s .0) ∙ e))
-  column-reaches lanes v to (Reading channel shift) c f l g t s e =
+  column-reaches lanes v count (Constant z) c f l t s e = absurd (false≢true (sym (s .0) ∙ e))
+  column-reaches lanes v count (Reading channel shift) c f l t s e =
       let from = s .1 in
       let there = reading-fits v channel shift f .0 in
       let last : (channel + 1) * w ≤ v * w = mul-le-mul-right w (omega arith) in

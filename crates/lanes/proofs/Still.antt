@@ -16,18 +16,17 @@ use Rattle.cltlb.specs.declared.Term.{Term}
 use Rattle.cltlb.specs.declared.Term.the-variants.{Constant, Reading}
 use Rattle.cltlb.proofs.Fits.{reading-fits}
 use Rattle.fields.specs.inner.Biased.{unbiased}
-use Rattle.fields.specs.TwosComplement.{signedOf, signedAt}
 use Rattle.fields.proofs.Differences.{sub-pos}
-use Rattle.plan.specs.Layout.{readings, entry, readingOf, driftOf}
+use Rattle.plan.specs.Layout.{leadRows, readings, entry, storedReading, readingOf, driftOf}
 use Rattle.plan.specs.Positions.{rowOf, passOf}
 use Rattle.plan.specs.Run.{readingOn, readingAt, runOf}
 use Rattle.plan.specs.inner.Drifts.{Still}
-use Rattle.plan.specs.inner.Sizes.{allRows, mostArray, Fitting}
+use Rattle.plan.specs.inner.Sizes.{allRows, allStored, mostStored, mostArray, Fitting}
 use Rattle.plan.specs.declared.sizes.Sizes.{Sizes}
+use Rattle.plan.proofs.Lines.{no-passes}
 use Rattle.plan.proofs.Rows.{row-start, pass-start, row-ge, row-lt}
 use Rattle.plan.proofs.Shifts.{shifted, in-run}
 use Rattle.table.specs.Layout.{marked}
-use Rattle.table.proofs.Places.{cell}
 use Rattle.verdict.specs.Comparisons.{testOf, ofNumber, tested, judgeLines}
 use Rattle.verdict.specs.Rows.{channelLine, termLine, testAt}
 use Rattle.verdict.specs.inner.Landed.{shiftIn}
@@ -37,11 +36,11 @@ use Rattle.verdict.specs.declared.Relation.{Relation}
 use Rattle.lanes.specs.declared.columns.Column.{Column}
 use Rattle.lanes.specs.inner.Columns.{numberIn, Reaches, FewChannels, Stands, laneNumber}
 use Rattle.lanes.specs.inner.Direct.{numbersSay, LongLanes}
-use Rattle.lanes.specs.inner.Lanes.{LaidTo, Laid}
+use Rattle.lanes.specs.inner.Lanes.{Laid}
 use Rattle.lanes.specs.inner.Positions.{positionSays}
 use Rattle.lanes.specs.inner.Still.{landedNumber, stillSays, StillPositions}
 use Rattle.lanes.proofs.Comparing.{level, level-agrees}
-use Rattle.lanes.proofs.Direct.{no-passes}
+use Rattle.lanes.proofs.Laying.{reading-in-lane}
 use Rattle.lanes.proofs.Positions.{says-alone, says-settled}
 use Rattle.lanes.proofs.Reaching.{reaches-row}
 use Rattle.lanes.proofs.Standing.{few-channels, column-number, column-reaches}
@@ -77,14 +76,15 @@ module _ {plan : List ℕ} {z : Sizes} (f : Fitting plan z) (still : Still plan 
           ∙ ap (λ (y : ℤ). r +ℤ y) (*ℤ-zero (pos (passOf P C s)))
           ∙ +ℤ-idr r
 
-  module _ (values : List ℕ) (laid : Laid (readings plan) (z .channels) (allRows z) values) where
+  module _ (values : List ℕ) (laid : Laid (readings plan) (z .channels) (allStored z) values) where
     -- a row of a channel, in its lane
-    in-lane : (channel s : ℕ) → channel < z .channels → readingOf plan (rowOf P C s) channel ≡ entry values (channel * allRows z + (rowOf P C s + 4 - 4))
-    unfolding readingOf entry signedAt LaidTo
+    in-lane : (channel s : ℕ) → channel < z .channels → readingOf plan (rowOf P C s) channel ≡ entry values (channel * allStored z + (z .lead + rowOf P C s + 4 - 4))
+    unfolding readingOf
     in-lane channel s l =
-        let place : rowOf P C s ≡ rowOf P C s + 4 - 4 = omega arith in
-        rw (f .v-is) (sym (ap (signedOf 4) (laid .laid channel (rowOf P C s) (row-lt P C (f .a-cycle) s) (cell (z .channels) (allRows z) channel (rowOf P C s) l (row-lt P C (f .a-cycle) s)))))
-        ∙ ap (λ (j : ℕ). entry values (channel * allRows z + j)) place
+        let lead = f .l-is in
+        let place : leadRows plan + rowOf P C s ≡ z .lead + rowOf P C s + 4 - 4 = omega arith in
+        ap (λ (k : ℕ). storedReading plan k channel) place
+        ∙ reading-in-lane f channel (z .lead + rowOf P C s + 4 - 4) l (omega (arith, row-lt P C (f .a-cycle) s)) laid
 
     module _ (x : Term) (code t : ℕ) (g : subℕ code 4 ≡ shiftIn x) (low : 4 ≤ t + code) (fits : termFits (z .channels) x ≡ true) where
       -- what is seen of a term,
@@ -143,15 +143,15 @@ module _ {plan : List ℕ} {z : Sizes} (f : Fitting plan z) (still : Still plan 
 -- ---- direct positions
 
 -- On pass 0 a term is read on the row that is its position.
-on-pass-0 : (values : List ℕ) (z : Sizes) (x : Term) (code t : ℕ) → 4 ≤ t + code → t + code < allRows z + 4 → laneNumber values (allRows z) x code t ≡ landedNumber values z x code t
+on-pass-0 : (values : List ℕ) (z : Sizes) (x : Term) (code t : ℕ) → 4 ≤ t + code → t + code < allRows z + 4 → laneNumber values (allStored z) x code (z .lead + t) ≡ landedNumber values z x code t
 on-pass-0 values z (Constant c) code t low high = refl
 on-pass-0 values z (Reading channel shift) code t low high =
     let row = row-start (z .start) (z .cycle) (t + code - 4) (omega arith) in
-    let place : t + code - 4 ≡ rowOf (z .start) (z .cycle) (t + code - 4) + 4 - 4 = omega arith in
-    ap (λ (j : ℕ). entry values (channel * allRows z + j)) place
+    let place : z .lead + t + code - 4 ≡ z .lead + rowOf (z .start) (z .cycle) (t + code - 4) + 4 - 4 = omega arith in
+    ap (λ (j : ℕ). entry values (channel * allStored z + j)) place
 
 pub direct-still : (values table : List ℕ) (z : Sizes) (i : ℕ) (x : Comparison) (left right t : ℕ) → t < allRows z → (4 ≤ t + left) × (4 ≤ t + right) → (t + left < allRows z + 4) × (t + right < allRows z + 4)
-    → numbersSay values (allRows z) x left right (marked (allRows z) table i t) t ≡ stillSays values table z i x left right t
+    → numbersSay values z x left right (marked (allRows z) table i t) t ≡ stillSays values table z i x left right t
 direct-still values table z i x left right t few low high =
     ap₂ Bool·beq (ap (marked (allRows z) table i) (sym (row-start (z .start) (z .cycle) t few)))
     (ap₂ (testOf (x .relation)) (on-pass-0 values z (x .left) left t (low .0) (high .0)) (on-pass-0 values z (x .right) right t (low .1) (high .1)))
@@ -162,38 +162,43 @@ direct-still values table z i x left right t few low high =
 abbrev pub landedSays : Relation → List ℕ → List ℕ → Sizes → ℕ → Column → Column → ℕ → ℕ → ℕ → Bool
 landedSays relation values table z i x y left right t =
     Bool·beq (marked (allRows z) table i (rowOf (z .start) (z .cycle) t))
-    (testOf relation (numberIn values x (rowOf (z .start) (z .cycle) (t + left - 4))) (numberIn values y (rowOf (z .start) (z .cycle) (t + right - 4))))
+    (testOf relation (numberIn values x (z .lead + rowOf (z .start) (z .cycle) (t + left - 4))) (numberIn values y (z .lead + rowOf (z .start) (z .cycle) (t + right - 4))))
 
 module _ (relation : Relation) (values table : List ℕ) (z : Sizes) (i : ℕ) (x y : Column) (left right t : ℕ) where
-  pub landed-step : (a b : ℕ) {p q r : ℕ} {mark test said : Bool} → p ≡ rowOf (z .start) (z .cycle) (t + left - 4) → unbiased a ≡ numberIn values x p
-      → q ≡ rowOf (z .start) (z .cycle) (t + right - 4) → unbiased b ≡ numberIn values y q → r ≡ rowOf (z .start) (z .cycle) t → mark ≡ marked (allRows z) table i r
+  pub landed-step : (a b : ℕ) {p q r : ℕ} {mark test said : Bool} → p ≡ rowOf (z .start) (z .cycle) (t + left - 4) → unbiased a ≡ numberIn values x (z .lead + p)
+      → q ≡ rowOf (z .start) (z .cycle) (t + right - 4) → unbiased b ≡ numberIn values y (z .lead + q) → r ≡ rowOf (z .start) (z .cycle) t → mark ≡ marked (allRows z) table i r
       → test ≡ testOf relation (unbiased a) (unbiased b) → said ≡ Bool·beq mark test → said ≡ landedSays relation values table z i x y left right t
   landed-step a b ep ea eq eb er em et es =
       es
       ∙ ap₂ Bool·beq (em ∙ ap (marked (allRows z) table i) er)
-      (et ∙ ap₂ (testOf relation) (ea ∙ ap (numberIn values x) ep) (eb ∙ ap (numberIn values y) eq))
+      (et ∙ ap₂ (testOf relation) (ea ∙ ap (λ (j : ℕ). numberIn values x (z .lead + j)) ep) (eb ∙ ap (λ (j : ℕ). numberIn values y (z .lead + j)) eq))
 
 module _ {table : List ℕ} {n : ℕ} {z : Sizes} {i : ℕ} {x : Comparison} {left right from to : ℕ} (d : StillPositions table n z i x left right from to) where
-  pub few-rows : (1 ≤ allRows z) × (allRows z ≤ 256)
-  few-rows = (let a = d .a-cycle in omega arith, d .sized .few-rows)
+  pub few-rows : (1 ≤ allStored z) × (allStored z ≤ mostStored) × (allRows z ≤ 256)
+  few-rows = let few = d .part .sized .few-rows in (omega (arith, d .part .a-cycle), omega (arith, d .part .few-lead), few)
 
   pub left-few : FewChannels (x .left)
-  left-few = few-channels (z .channels) (x .left) (d .few-channels) (d .terms-fit .0)
+  left-few = few-channels (z .channels) (x .left) (d .part .few-channels) (d .part .terms-fit .0)
 
   pub right-few : FewChannels (x .right)
-  right-few = few-channels (z .channels) (x .right) (d .few-channels) (d .terms-fit .1)
+  right-few = few-channels (z .channels) (x .right) (d .part .few-channels) (d .part .terms-fit .1)
 
-  -- a row of a term's lane
-  pub lane-reaches : (values : List ℕ) → LongLanes z values → (y : Term) → termFits (z .channels) y ≡ true → (c : Column) → Stands (allRows z) 0 4 y c → (s : ℕ) {row : ℕ} → row ≡ rowOf (z .start) (z .cycle) s
-      → Reaches values c (row + 1) × (length values ≤ mostArray)
+  -- a row, behind the lead-in
+  pub row-stored : (s : ℕ) {row : ℕ} → row ≡ rowOf (z .start) (z .cycle) s → z .lead + row < allStored z
+  row-stored s e = let within = row-lt (z .start) (z .cycle) (d .part .a-cycle) s in omega arith
+
+  -- in a term's lane
+  pub lane-reaches : (values : List ℕ) → LongLanes z values → (y : Term) → termFits (z .channels) y ≡ true → (c : Column) → Stands (allStored z) 0 4 y c → (s : ℕ) {row : ℕ} → row ≡ rowOf (z .start) (z .cycle) s
+      → Reaches values c (z .lead + row + 1) × (length values ≤ mostArray)
   lane-reaches values long y fits c stands s e =
-      let within = row-lt (z .start) (z .cycle) (d .a-cycle) s in
-      (reaches-row values c (allRows z - 0) _ (column-reaches (allRows z) 0 4 (omega arith) values (z .channels) (allRows z) y c fits (long .0) (omega arith) (omega arith) stands) (omega arith), long .1)
+      (reaches-row values c (allStored z) _ (column-reaches (allStored z) 0 4 (omega arith) values (z .channels) (allStored z) y c fits (long .0) (omega arith) stands) (row-stored s e), long .1)
 
   -- the two lanes are those of the terms
-  pub lanes-say : (values : List ℕ) (p q : Column) → Stands (allRows z) 0 4 (x .left) p → Stands (allRows z) 0 4 (x .right) q → (t : ℕ)
+  pub lanes-say : (values : List ℕ) (p q : Column) → Stands (allStored z) 0 4 (x .left) p → Stands (allStored z) 0 4 (x .right) q → (t : ℕ)
       → landedSays (x .relation) values table z i p q left right t ≡ stillSays values table z i x left right t
   lanes-say values p q s u t = ap (Bool·beq (marked (allRows z) table i (rowOf (z .start) (z .cycle) t))) (ap₂ (testOf (x .relation)) (one (x .left) p s (t + left - 4)) (one (x .right) q u (t + right - 4)))
     where
-      one : (y : Term) (c : Column) → Stands (allRows z) 0 4 y c → (v : ℕ) → numberIn values c (rowOf (z .start) (z .cycle) v) ≡ laneNumber values (allRows z) y 4 (rowOf (z .start) (z .cycle) v)
-      one y c stands v = column-number (allRows z) 0 4 (omega arith) values y c (rowOf (z .start) (z .cycle) v) stands ∙ ap (laneNumber values (allRows z) y 4) (zero-add (rowOf (z .start) (z .cycle) v))
+      one : (y : Term) (c : Column) → Stands (allStored z) 0 4 y c → (v : ℕ) → numberIn values c (z .lead + rowOf (z .start) (z .cycle) v) ≡ laneNumber values (allStored z) y 4 (z .lead + rowOf (z .start) (z .cycle) v)
+      one y c stands v =
+          column-number (allStored z) 0 4 (omega arith) values y c (z .lead + rowOf (z .start) (z .cycle) v) stands
+          ∙ ap (laneNumber values (allStored z) y 4) (zero-add (z .lead + rowOf (z .start) (z .cycle) v))

@@ -3,7 +3,7 @@ ghost use mathlib.Core.Path.{_≡_};
 ghost use Prim.Native.Nat.{_+_, _≤_, _<_};
 ghost use lib.ListN.{length};
 ghost use Rattle.fields.specs.inner.Biased.{unbiased};
-ghost use Rattle.plan.specs.inner.Sizes.{mostArray};
+ghost use Rattle.plan.specs.inner.Sizes.{mostStored, mostArray};
 ghost use Rattle.lanes.specs.inner.Columns.{numberIn, driftIn, Reaches, FewChannels, Stands};
 use cltlb::Term;
 use fields::BIAS;
@@ -42,7 +42,7 @@ pub fn drift(drifts: &[u8], column: Column, k: usize) -> u64
 
 // A term's whole lane, in lanes of `w` rows, its shift left aside.
 pub fn lane_of(term: Term, w: usize) -> Column
-    requires { ⌜ (1 ≤ w) × (w ≤ 256) × (FewChannels term) ⌝ }
+    requires { ⌜ (1 ≤ w) × (w ≤ mostStored) × (FewChannels term) ⌝ }
     ensures { λ r. ⌜ Stands w 0 4 term r ⌝ }
 {
     column_of(term, 4, w, 0)
@@ -50,7 +50,7 @@ pub fn lane_of(term: Term, w: usize) -> Column
 
 // The column of a term whose shift has this code, on the rows from `row` on, in lanes of `w` rows.
 pub fn column_of(term: Term, code: usize, w: usize, row: usize) -> Column
-    requires { ⌜ (w ≤ 256) × (row < w) × (code ≤ 8) × (4 ≤ row + code) × (FewChannels term) ⌝ }
+    requires { ⌜ (w ≤ mostStored) × (row < w) × (code ≤ 8) × (4 ≤ row + code) × (FewChannels term) ⌝ }
     ensures { λ r. ⌜ Stands w row code term r ⌝ }
 {
     match term {

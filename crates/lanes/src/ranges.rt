@@ -10,7 +10,7 @@ use verdict::bounds::larger;
 use verdict::bounds::less_by;
 use verdict::bounds::smaller;
 
-// At positions below `before` a term is read before the run; from there up to `numbers` the numbers of pass 0 tell all, and from
+// At positions below `before` a term is read before the run; from there up to `numbers` the numbers of the lead-in and of pass 0 tell all, and from
 // there up to `end` the lines that begin there. Those from `end` up to W + back, at most eight, are not direct.
 pub struct Ranges {
     pub before: usize,
@@ -34,7 +34,7 @@ pub fn ranges_of(sizes: Sizes, back: usize, high: usize, still: bool) -> Ranges
 {
     let w = sizes.start + sizes.cycle;
     let inside = less_by(w, less_by(high, 4));
-    let before = smaller(back, w);
+    let before = smaller(less_by(back, sizes.lead), w);
     let numbers = larger(before, told_by_numbers(still, sizes.start + back, inside));
     let end = larger(numbers, inside);
     Ranges {

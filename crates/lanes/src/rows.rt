@@ -1,8 +1,8 @@
 // A comparison's verdicts held against its marks on all rows, position by position. `lines` is the first position of the cycle from
 // which on neither of its terms is read before the cycle: below it a mark has to say what the comparison is at the position, and on
-// the cycle from there on, what it is on every pass from the position on. Where both terms are read on pass 0 a position is direct,
-// and is swept over lanes; the others, at most eight, are looked at one by one. `i` is the part's number in a table of `n` parts;
-// `left` and `right` are the codes of the comparison's shifts, which are the shifts + 4.
+// the cycle from there on, what it is on every pass from the position on. Where both terms are read in the lead-in or on pass 0 a
+// position is direct, and is swept over lanes; the others, at most eight, are looked at one by one. `i` is the part's number in a table
+// of `n` parts; `left` and `right` are the codes of the comparison's shifts, which are the shifts + 4.
 ghost use mathlib.Core.Path.{_≡_};
 ghost use Prim.Native.Nat.{_+_, _-_, _≤_, _<_};
 ghost use Rattle.plan.specs.inner.Sizes.{allRows, Fitting};
@@ -106,20 +106,22 @@ fn direct_numbers(
     to: usize,
 ) -> bool
     requires { ⌜ (DirectRows (now table) n sizes i comparison left right from to) × (LongLanes sizes (now values)) ⌝ }
-    ensures { λ r. ⌜ r ≡ allBelow (λ k. numbersSay (now (values .entry)) (allRows sizes) comparison left right (marked (allRows sizes) (now (table .entry)) i (from + k)) (from + k)) (to - from) ⌝ }
+    ensures { λ r. ⌜ r ≡ allBelow (λ k. numbersSay (now (values .entry)) sizes comparison left right (marked (allRows sizes) (now (table .entry)) i (from + k)) (from + k)) (to - from) ⌝ }
 {
     if to <= from {
         return true;
     }
     let w = sizes.start + sizes.cycle;
+    let lane = sizes.lead + w;
+    let first = sizes.lead + from;
     let relation = comparison.relation;
     let x = comparison.left;
     let y = comparison.right;
     values_agree(
         values,
         relation,
-        column_of(x, left, w, from),
-        column_of(y, right, w, from),
+        column_of(x, left, lane, first),
+        column_of(y, right, lane, first),
         table,
         place(w, i, from),
         to - from,
@@ -141,12 +143,14 @@ fn direct_lines(
     to: usize,
 ) -> bool
     requires { ⌜ (DirectRows (now table) n sizes i comparison left right from to) × (LongLanes sizes (now values)) × (from < to → LongLanes sizes (now drifts)) ⌝ }
-    ensures { λ r. ⌜ r ≡ allBelow (λ k. linesSay (now (values .entry)) (allRows sizes) comparison left right (now (drifts .entry)) (marked (allRows sizes) (now (table .entry)) i (from + k)) (from + k)) (to - from) ⌝ }
+    ensures { λ r. ⌜ r ≡ allBelow (λ k. linesSay (now (values .entry)) sizes comparison left right (now (drifts .entry)) (marked (allRows sizes) (now (table .entry)) i (from + k)) (from + k)) (to - from) ⌝ }
 {
     if to <= from {
         return true;
     }
     let w = sizes.start + sizes.cycle;
+    let lane = sizes.lead + w;
+    let first = sizes.lead + from;
     let relation = comparison.relation;
     let x = comparison.left;
     let y = comparison.right;
@@ -154,16 +158,16 @@ fn direct_lines(
         values,
         drifts,
         relation,
-        column_of(x, left, w, from),
-        column_of(y, right, w, from),
+        column_of(x, left, lane, first),
+        column_of(y, right, lane, first),
         table,
         place(w, i, from),
         to - from,
     )
 }
 
-// The positions from one up to another, where nothing drifts in the cycle and no term is read before the run: each by the numbers of
-// the rows on which its shifts land, whatever the pass.
+// The positions from one up to another, where nothing drifts in the cycle and no term is read before position 0: each by the numbers
+// of the rows on which its shifts land, whatever the pass.
 fn still_one_by_one(
     values: &[u8],
     table: &[u8],
@@ -180,18 +184,19 @@ fn still_one_by_one(
     ensures { λ r. ⌜ r ≡ allBelow (λ k. stillSays (now (values .entry)) (now (table .entry)) sizes i comparison left right (from + k)) (to - from) ⌝ }
 {
     let w = sizes.start + sizes.cycle;
+    let lane = sizes.lead + w;
     let relation = comparison.relation;
     let left_term = comparison.left;
     let right_term = comparison.right;
-    let x = lane_of(left_term, w);
-    let y = lane_of(right_term, w);
+    let x = lane_of(left_term, lane);
+    let y = lane_of(right_term, lane);
     let count = to - from;
     let mut all = true;
     let mut k = 0;
     while k < count {
         let t = from + k;
-        let a = number(values, x, row_of(sizes, t + left - 4));
-        let b = number(values, y, row_of(sizes, t + right - 4));
+        let a = number(values, x, sizes.lead + row_of(sizes, t + left - 4));
+        let b = number(values, y, sizes.lead + row_of(sizes, t + right - 4));
         let mark = mark_at(table, n, w, i, row_of(sizes, t));
         all = all & agree(mark, numbers_compare(relation, a, b));
         k += 1;

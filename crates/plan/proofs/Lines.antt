@@ -6,10 +6,10 @@ use mathlib.Core.List.{List}
 use lib.IntN.{ℤ, pos, _+ℤ_, _*ℤ_, +ℤ-idr}
 use Rattle.cltlb.specs.Run.{number}
 use Rattle.fields.proofs.Differences.{by-sub, sub-same, sub-mul, pos-sub, mul-plus, add-assoc}
-use Rattle.plan.specs.Layout.{startRows, cycleRows, readingOf, driftOf}
+use Rattle.plan.specs.Layout.{startRows, cycleRows, rows, readingOf, driftOf}
 use Rattle.plan.specs.Positions.{rowOf, passOf}
 use Rattle.plan.specs.Run.{readingOn, readingAt, runOf}
-use Rattle.plan.proofs.Rows.{row-later, pass-later}
+use Rattle.plan.proofs.Rows.{row-start, pass-start, row-later, pass-later}
 
 -- no pass is no drift
 pub no-passes : (z d : ℤ) → z +ℤ pos 0 *ℤ d ≡ z
@@ -17,6 +17,13 @@ no-passes z d = ap (λ (x : ℤ). z +ℤ x) (none d) ∙ +ℤ-idr z
   where
     none : (d : ℤ) → pos 0 *ℤ d ≡ pos 0
     none = by-sub (λ d. pos 0 *ℤ d ≡ pos 0) (λ a b. sub-mul 0 a b ∙ sub-same (0 * a) (0 * b) 0 0 (omega arith) ∙ sym (pos-sub 0))
+
+-- on pass 0 a reading is its row's
+pub reading-on-pass-0 : (plan : List ℕ) (channel t : ℕ) → t < rows plan → readingAt plan channel t ≡ readingOf plan t channel
+unfolding readingAt readingOn rows
+reading-on-pass-0 plan channel t h =
+    ap₂ (λ (r p : ℕ). readingOf plan r channel +ℤ pos p *ℤ driftOf plan r channel) (row-start (startRows plan) (cycleRows plan) t h) (pass-start (startRows plan) (cycleRows plan) t h)
+    ∙ no-passes (readingOf plan t channel) (driftOf plan t channel)
 
 -- k passes more are k drifts more
 pub readingOn-later : (plan : List ℕ) (channel row pass k : ℕ) → readingOn plan channel row (pass + k) ≡ readingOn plan channel row pass +ℤ pos k *ℤ driftOf plan row channel

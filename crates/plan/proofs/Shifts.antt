@@ -7,13 +7,12 @@ use mathlib.Core.List.{List}
 use mathlib.Core.Logic.{by-cases}
 use native.Mathlib.Decide.{decLt}
 use borrow.Author.Tests.{le-leb, lt-leb}
-use lib.IntN.{ℤ, pos, subℕ, _+ℤ_, _*ℤ_}
+use lib.IntN.{ℤ, pos, subℕ, _+ℤ_}
 use Rattle.cltlb.specs.Run.{number, beforeRun}
 use Rattle.fields.proofs.Differences.{sub-pos, sub-neg, sub-same, sub-add, pos-sub}
-use Rattle.plan.specs.Layout.{startRows, cycleRows, leadRows, rows, storedReading, readingOf, driftOf}
-use Rattle.plan.specs.Run.{readingOn, readingAt, leadAt, runOf}
-use Rattle.plan.proofs.Lines.{no-passes}
-use Rattle.plan.proofs.Rows.{row-start, pass-start}
+use Rattle.plan.specs.Layout.{leadRows, rows, storedReading, readingOf}
+use Rattle.plan.specs.Run.{readingAt, leadAt, runOf}
+use Rattle.plan.proofs.Lines.{reading-on-pass-0}
 
 -- position t plus the shift that a code stands for
 pub shifted : (t code : ℕ) (shift : ℤ) → subℕ code 4 ≡ shift → pos t +ℤ shift ≡ subℕ (t + code) 4
@@ -44,13 +43,8 @@ module _ (plan : List ℕ) (channel ahead : ℕ) where
 
   -- In the lead-in and on pass 0 it is the reading that is stored there.
   pub as-stored : 4 ≤ leadRows plan + ahead → ahead < rows plan + 4 → runOf plan channel (subℕ ahead 4) ≡ number (storedReading plan (leadRows plan + ahead - 4) channel)
-  unfolding readingAt readingOn readingOf rows
-  as-stored low high = by-cases (decLt ahead 4) (λ h. sym (in-lead h low)) (λ h. sym (in-run (omega arith)) ∙ ap number (on-pass-0 (omega arith)))
+  unfolding readingOf
+  as-stored low high = by-cases (decLt ahead 4) (λ h. sym (in-lead h low)) (λ h. sym (in-run (omega arith)) ∙ ap number (behind (omega arith)))
     where
-      on-pass-0 : 4 ≤ ahead → readingAt plan channel (ahead - 4) ≡ storedReading plan (leadRows plan + ahead - 4) channel
-      on-pass-0 h =
-          ap₂ (λ (r p : ℕ). readingOf plan r channel +ℤ pos p *ℤ driftOf plan r channel)
-          (row-start (startRows plan) (cycleRows plan) (ahead - 4) (omega arith))
-          (pass-start (startRows plan) (cycleRows plan) (ahead - 4) (omega arith))
-          ∙ no-passes (readingOf plan (ahead - 4) channel) (driftOf plan (ahead - 4) channel)
-          ∙ ap (λ (k : ℕ). storedReading plan k channel) (omega arith)
+      behind : 4 ≤ ahead → readingAt plan channel (ahead - 4) ≡ storedReading plan (leadRows plan + ahead - 4) channel
+      behind h = reading-on-pass-0 plan channel (ahead - 4) (omega arith) ∙ ap (λ (k : ℕ). storedReading plan k channel) (omega arith)

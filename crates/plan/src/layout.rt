@@ -12,20 +12,13 @@ pub fn head_length() -> usize
     8
 }
 
-// The rows of an array: the lead-in rows, then the start rows and the cycle rows.
-pub fn stored_rows(sizes: Sizes) -> usize
-    requires { ⌜ allStored sizes ≤ mostStored ⌝ }
-    ensures { λ r. ⌜ r ≡ allStored sizes ⌝ }
-{
-    sizes.lead + (sizes.start + sizes.cycle)
-}
-
-// The bytes of one array.
+// The bytes of one array: of the lead-in rows, then of the start rows and the cycle rows.
 pub fn array_length(sizes: Sizes) -> usize
     requires { ⌜ (sizes .channels ≤ 8) × (allStored sizes ≤ mostStored) ⌝ }
     ensures { λ r. ⌜ (r ≡ arrayLength (sizes .channels) (allStored sizes)) × (r ≤ mostArray) ⌝ }
 {
-    4 * (sizes.channels * stored_rows(sizes))
+    let w = sizes.lead + (sizes.start + sizes.cycle);
+    4 * (sizes.channels * w)
 }
 
 // Where the drifts begin.

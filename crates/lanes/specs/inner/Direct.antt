@@ -4,7 +4,7 @@ use mathlib.Core.Bool.{Bool, Bool·beq}
 use mathlib.Core.List.{List}
 use lib.ListN.{length}
 use Rattle.plan.specs.Layout.{arrayLength}
-use Rattle.plan.specs.inner.Sizes.{allRows, mostArray}
+use Rattle.plan.specs.inner.Sizes.{allRows, allStored, mostArray}
 use Rattle.plan.specs.declared.sizes.Sizes.{Sizes}
 use Rattle.verdict.specs.Comparisons.{testOf, judgeLines}
 use Rattle.verdict.specs.Rows.{judgeRow}
@@ -19,27 +19,35 @@ use Rattle.lanes.specs.inner.Columns.{laneNumber, laneLine}
 abbrev pub agreesOn : List ℕ → List ℕ → ℕ → ℕ → Comparison → ℕ → Bool
 agreesOn plan table w i x row = verdictAgrees (judgeRow plan x row) (marked w table i row)
 
--- in lanes of w rows, left and right being the codes of its shifts
-module _ (values : List ℕ) (w : ℕ) (x : Comparison) (left right : ℕ) where
+-- at a position that is a row, which stands behind the lead-in in its lane, left and right being the codes of its shifts
+module _ (values : List ℕ) (z : Sizes) (x : Comparison) (left right : ℕ) where
   -- the mark says how the two numbers compare
   abbrev pub numbersSay : Bool → ℕ → Bool
-  numbersSay mark row = Bool·beq mark (testOf (x .relation) (laneNumber values w (x .left) left row) (laneNumber values w (x .right) right row))
+  numbersSay mark row =
+      Bool·beq mark (testOf (x .relation) (laneNumber values (allStored z) (x .left) left (z .lead + row)) (laneNumber values (allStored z) (x .right) right (z .lead + row)))
 
   -- the mark says on every pass how the two lines compare
   abbrev pub linesSay : List ℕ → Bool → ℕ → Bool
-  linesSay drifts mark row = verdictAgrees (judgeLines (x .relation) (laneLine values drifts w (x .left) left row) (laneLine values drifts w (x .right) right row)) mark
+  linesSay drifts mark row =
+      verdictAgrees (judgeLines (x .relation) (laneLine values drifts (allStored z) (x .left) left (z .lead + row)) (laneLine values drifts (allStored z) (x .right) right (z .lead + row))) mark
 
--- rows of part i of a table of n parts, on all of which shifts with these codes land in the run, on its first pass
-pub record DirectRows (table : List ℕ) (n : ℕ) (z : Sizes) (i : ℕ) (x : Comparison) (left right from to : ℕ) : Type 0 where
+-- part i of a table of n parts is this comparison, whose shifts have these codes
+pub record OfPart (table : List ℕ) (n : ℕ) (z : Sizes) (i : ℕ) (x : Comparison) (left right : ℕ) : Type 0 where
   pub few-channels : z .channels ≤ 8
+  pub a-cycle : 1 ≤ z .cycle
+  pub few-lead : z .lead ≤ 4
   pub sized : Sized table n (allRows z)
   pub present : i < n
   pub terms-fit : TermsFit z x
-  pub few-rows : to ≤ allRows z
-  pub left-in : from < to → (4 ≤ from + left) × (to + left ≤ allRows z + 4)
-  pub right-in : from < to → (4 ≤ from + right) × (to + right ≤ allRows z + 4)
   pub small : (left ≤ 8) × (right ≤ 8)
+
+-- its rows from one up to another, from all of which the shifts land in the lead-in or on the first pass
+pub record DirectRows (table : List ℕ) (n : ℕ) (z : Sizes) (i : ℕ) (x : Comparison) (left right from to : ℕ) : Type 0 where
+  pub part : OfPart table n z i x left right
+  pub few-rows : to ≤ allRows z
+  pub left-in : from < to → (4 ≤ z .lead + from + left) × (to + left ≤ allRows z + 4)
+  pub right-in : from < to → (4 ≤ z .lead + from + right) × (to + right ≤ allRows z + 4)
 
 -- lanes that are long enough
 abbrev pub LongLanes : Sizes → List ℕ → Type 0
-LongLanes z lanes = (arrayLength (z .channels) (allRows z) ≤ length lanes) × (length lanes ≤ mostArray)
+LongLanes z lanes = (arrayLength (z .channels) (allStored z) ≤ length lanes) × (length lanes ≤ mostArray)

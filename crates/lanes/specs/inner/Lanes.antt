@@ -7,13 +7,13 @@ use lib.ListN.{length}
 use Rattle.fields.specs.LittleEndian.{numberAt}
 use Rattle.plan.specs.Layout.{arrayLength, cell, readings, drifts}
 use Rattle.plan.specs.inner.Drifts.{Still}
-use Rattle.plan.specs.inner.Sizes.{allRows, mostArray}
+use Rattle.plan.specs.inner.Sizes.{allRows, allStored, mostStored, mostArray}
 use Rattle.plan.specs.declared.sizes.Sizes.{Sizes}
 
 -- an array of w rows of v numbers, and lanes with room for them
 pub record Room (array : List ℕ) (v w : ℕ) (lanes : List ℕ) : Type 0 where
   pub few-channels : v ≤ 8
-  pub few-rows : w ≤ 256
+  pub few-rows : w ≤ mostStored
   pub whole : length array ≡ arrayLength v w
   pub there : arrayLength v w ≤ length lanes
   pub few : length lanes ≤ mostArray
@@ -28,8 +28,8 @@ pub record Laid (array : List ℕ) (v w : ℕ) (lanes : List ℕ) : Type 0 where
   pub few : length lanes ≤ mostArray
   pub laid : LaidTo array v w lanes (v * w)
 
--- the lanes of a plan: its readings, and its drifts, unless nothing drifts in the cycle
+-- the lanes of a plan, each with the lead-in first: its readings, and its drifts, unless nothing drifts in the cycle
 pub record Lanes (plan : List ℕ) (z : Sizes) (values steps : List ℕ) (still : Bool) : Type 0 where
-  pub readings-laid : Laid (readings plan) (z .channels) (allRows z) values
-  pub drifts-laid : still ≡ false → Laid (drifts plan) (z .channels) (allRows z) steps
+  pub readings-laid : Laid (readings plan) (z .channels) (allStored z) values
+  pub drifts-laid : still ≡ false → Laid (drifts plan) (z .channels) (allStored z) steps
   pub no-drift : still ≡ true → Still plan (z .start) (allRows z)

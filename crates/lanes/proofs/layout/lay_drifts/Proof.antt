@@ -1,8 +1,10 @@
--- `lanes::layout::lay_drifts` meets its contract. Assumes nothing.
-use native.Mathlib.Omega.{arith}
 use Prim.Native.Nat.{_+_}
 use Rattle.plan.proofs.Arrays.{drifts-part}
 use Rattle.lanes.proofs.Laying as law
+use native.Mathlib.Omega.{arith}
+use Prim.Native.Nat.{ℕ, _+_, _-_, _*_, _≤_, _<_}
+use mathlib.Core.Path.{_≡_}
+use lib.ListN.{length}
 use borrow.Author.Needs.{needs}
 use Rattle.lanes.proofs.layout.lay_drifts.Statement.{statement}
 use Rattle.lanes.proofs.layout.lay_drifts.Tie as tie
@@ -12,60 +14,46 @@ use Rattle.lanes.proofs.layout.lay_out.Reads as lay-out-reads
 use Rattle.plan.proofs.layout.array_length.Reads as array-length-reads
 use Rattle.plan.proofs.layout.drifts_start.Reads as drifts-start-reads
 
--- src/layout.rt:63:13
-add-w : tie.Need-add-w
-add-w c = search needs
-
--- src/layout.rt:64:9
+-- src/layout.rt:61:9
 drifts-start-requires : tie.Need-drifts-start-requires
 drifts-start-requires c κs = search needs
 
--- src/layout.rt:65:17
+-- src/layout.rt:62:17
 array-length-requires : tie.Need-array-length-requires
 array-length-requires c κs = search needs
 
--- src/layout.rt:65:13
+-- src/layout.rt:62:13
 add-e : tie.Need-add-e
 add-e c = search needs
 
--- src/layout.rt:66:13
+-- src/layout.rt:63:13
 sub-lay-out : tie.Need-sub-lay-out
 sub-lay-out c = search needs
 
--- src/layout.rt:66:13
+-- src/layout.rt:63:13
 part-lay-out-start : tie.Need-part-lay-out-start
 part-lay-out-start c = search needs
 
--- src/layout.rt:66:13
+-- src/layout.rt:63:13
 part-lay-out-end : tie.Need-part-lay-out-end
 part-lay-out-end c = search needs
 
--- src/layout.rt:66:5
+-- src/layout.rt:63:5
 lay-out-requires : tie.Need-lay-out-requires
-lay-out-requires c κs =
-    let start = c .before .before .before .before .before .before .before in
-    let drifts-start = c .before .before .before .drifts-start in
-    let array-length = c .before .before .array-length in
-    law.drifts-room (start .pre .0) (start .pre .1) (drifts-start .result) (drifts-start .result + array-length .result) (drifts-start .ensures .0) (omega arith)
+lay-out-requires c κs = law.drifts-room (c .before .before .before .before .before .before .pre .0) (c .before .before .before .before .before .before .pre .1) (c .before .before .before .drifts-start .result) (c .before .before .before .drifts-start .result + c .before .before .array-length .result) (c .before .before .before .drifts-start .ensures .0) (omega arith)
 
--- src/layout.rt:58:1
+-- src/layout.rt:57:1
 same-length : tie.Need-same-length
 same-length c = search needs
 
--- src/layout.rt:58:1
+-- src/layout.rt:57:1
 returns : tie.Need-returns
-returns c =
-    let start = c .before .before .before .before .before .before .before .before .before .before in
-    let drifts-start = c .before .before .before .before .before .before .drifts-start in
-    let array-length = c .before .before .before .before .before .array-length in
-    let lay-out = c .before .before .lay-out in
-    law.laid-as (drifts-part (start .pre .0) (drifts-start .result) (drifts-start .result + array-length .result) (drifts-start .ensures .0) (omega arith)) (lay-out .ensures)
+returns c = law.laid-as (drifts-part (c .before .before .before .before .before .before .before .before .before .pre .0) (c .before .before .before .before .before .before .drifts-start .result) (c .before .before .before .before .before .before .drifts-start .result + c .before .before .before .before .before .array-length .result) (c .before .before .before .before .before .before .drifts-start .ensures .0) (omega arith)) (c .before .before .lay-out .ensures)
 
 pub lay-drifts-spec : {M : Type 1} → statement M
 lay-drifts-spec =
     tie.close
     (tie.spec
-    add-w
     drifts-start-requires
     array-length-requires
     add-e

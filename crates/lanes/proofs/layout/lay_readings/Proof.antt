@@ -1,6 +1,9 @@
--- `lanes::layout::lay_readings` meets its contract. Assumes nothing.
 use Rattle.plan.proofs.Arrays.{readings-part}
 use Rattle.lanes.proofs.Laying as law
+use native.Mathlib.Omega.{arith}
+use Prim.Native.Nat.{ℕ, _+_, _-_, _*_, _≤_, _<_}
+use mathlib.Core.Path.{_≡_}
+use lib.ListN.{length}
 use borrow.Author.Needs.{needs}
 use Rattle.lanes.proofs.layout.lay_readings.Statement.{statement}
 use Rattle.lanes.proofs.layout.lay_readings.Tie as tie
@@ -10,56 +13,42 @@ use Rattle.lanes.proofs.layout.lay_out.Reads as lay-out-reads
 use Rattle.plan.proofs.layout.drifts_start.Reads as drifts-start-reads
 use Rattle.plan.proofs.layout.head_length.Reads as head-length-reads
 
--- src/layout.rt:51:13
-add-w : tie.Need-add-w
-add-w c = search needs
-
--- src/layout.rt:52:9
+-- src/layout.rt:51:9
 head-length-requires : tie.Need-head-length-requires
 head-length-requires c κs = search needs
 
--- src/layout.rt:53:9
+-- src/layout.rt:52:9
 drifts-start-requires : tie.Need-drifts-start-requires
 drifts-start-requires c κs = search needs
 
--- src/layout.rt:54:13
+-- src/layout.rt:53:13
 sub-lay-out : tie.Need-sub-lay-out
 sub-lay-out c = search needs
 
--- src/layout.rt:54:13
+-- src/layout.rt:53:13
 part-lay-out-start : tie.Need-part-lay-out-start
 part-lay-out-start c = search needs
 
--- src/layout.rt:54:13
+-- src/layout.rt:53:13
 part-lay-out-end : tie.Need-part-lay-out-end
 part-lay-out-end c = search needs
 
--- src/layout.rt:54:5
+-- src/layout.rt:53:5
 lay-out-requires : tie.Need-lay-out-requires
-lay-out-requires c κs =
-    let start = c .before .before .before .before .before .before .before in
-    let head-length = c .before .before .before .head-length in
-    let drifts-start = c .before .before .drifts-start in
-    law.readings-room (start .pre .0) (start .pre .1) _ _ (head-length .ensures) (drifts-start .ensures .0)
+lay-out-requires c κs = law.readings-room (c .before .before .before .before .before .before .pre .0) (c .before .before .before .before .before .before .pre .1) _ _ (c .before .before .before .head-length .ensures) (c .before .before .drifts-start .ensures .0)
 
--- src/layout.rt:46:1
+-- src/layout.rt:47:1
 same-length : tie.Need-same-length
 same-length c = search needs
 
--- src/layout.rt:46:1
+-- src/layout.rt:47:1
 returns : tie.Need-returns
-returns c =
-    let start = c .before .before .before .before .before .before .before .before .before .before in
-    let head-length = c .before .before .before .before .before .before .head-length in
-    let drifts-start = c .before .before .before .before .before .drifts-start in
-    let lay-out = c .before .before .lay-out in
-    law.laid-as (readings-part (start .pre .0) _ _ (head-length .ensures) (drifts-start .ensures .0)) (lay-out .ensures)
+returns c = law.laid-as (readings-part (c .before .before .before .before .before .before .before .before .before .pre .0) _ _ (c .before .before .before .before .before .before .head-length .ensures) (c .before .before .before .before .before .drifts-start .ensures .0)) (c .before .before .lay-out .ensures)
 
 pub lay-readings-spec : {M : Type 1} → statement M
 lay-readings-spec =
     tie.close
     (tie.spec
-    add-w
     head-length-requires
     drifts-start-requires
     sub-lay-out

@@ -1,60 +1,60 @@
--- `lanes::ranges::ranges_of` meets its contract. Assumes nothing.
 use Prim.Native.Nat.{ℕ, _+_, _-_}
 use mathlib.Core.Path.{ap, _∙_}
 use Rattle.lanes.proofs.Dividing.{divides}
+use native.Mathlib.Omega.{arith}
+use Prim.Native.Nat.{ℕ, _+_, _-_, _*_, _≤_, _<_}
+use mathlib.Core.Path.{_≡_}
+use lib.ListN.{length}
 use borrow.Author.Needs.{needs}
 use Rattle.lanes.proofs.ranges.ranges_of.Statement.{statement}
 use Rattle.lanes.proofs.ranges.ranges_of.Tie as tie
 use Rattle.lanes.proofs.ranges.ranges_of.Reads as reads
 use Rattle.lanes.proofs.ranges.ranges_of.Lts as lts
-use Rattle.verdict.proofs.bounds.less_by.Reads as less-by-reads
-use Rattle.verdict.proofs.bounds.smaller.Reads as smaller-reads
 use Rattle.lanes.proofs.ranges.told_by_numbers.Reads as told-by-numbers-reads
 use Rattle.verdict.proofs.bounds.larger.Reads as larger-reads
+use Rattle.verdict.proofs.bounds.less_by.Reads as less-by-reads
+use Rattle.verdict.proofs.bounds.smaller.Reads as smaller-reads
 
--- src/ranges.rt:47:13
+-- src/ranges.rt:35:13
 add-w : tie.Need-add-w
 add-w c = search needs
 
--- src/ranges.rt:48:29
+-- src/ranges.rt:36:29
 less-by-requires : tie.Need-less-by-requires
 less-by-requires c κs = search needs
 
--- src/ranges.rt:48:9
+-- src/ranges.rt:36:9
 less-by-requires-2 : tie.Need-less-by-requires-2
 less-by-requires-2 c κs = search needs
 
--- src/ranges.rt:49:9
+-- src/ranges.rt:37:26
+less-by-requires-3 : tie.Need-less-by-requires-3
+less-by-requires-3 c κs = search needs
+
+-- src/ranges.rt:37:9
 smaller-requires : tie.Need-smaller-requires
 smaller-requires c κs = search needs
 
--- src/ranges.rt:50:57
+-- src/ranges.rt:38:57
 add-told-by-numbers : tie.Need-add-told-by-numbers
 add-told-by-numbers c = search needs
 
--- src/ranges.rt:50:34
+-- src/ranges.rt:38:34
 told-by-numbers-requires : tie.Need-told-by-numbers-requires
 told-by-numbers-requires c κs = search needs
 
--- src/ranges.rt:50:9
+-- src/ranges.rt:38:9
 larger-requires : tie.Need-larger-requires
 larger-requires c κs = search needs
 
--- src/ranges.rt:51:9
+-- src/ranges.rt:39:9
 larger-requires-2 : tie.Need-larger-requires-2
 larger-requires-2 c κs = search needs
 
--- src/ranges.rt:43:1
+-- src/ranges.rt:31:1
 returns : tie.Need-returns
-returns c =
-    let start = c .before .before .before .before .before .before .before .before in
-    let less-by = c .before .before .before .before .before .before .less-by in
-    let less-by2 = c .before .before .before .before .before .less-by2 in
-    let smaller = c .before .before .before .before .smaller in
-    let told = c .before .before .told-by-numbers in
-    let larger = c .before .larger in
-    divides (start .args .sizes) (start .args .back) (start .args .high) (start .args .still) _ _ _ _ _
-    (less-by2 .ensures ∙ ap (λ (n : ℕ). start .args .sizes .start + start .args .sizes .cycle - n) (less-by .ensures)) (smaller .ensures) (told .ensures) (larger .ensures) (c .larger2 .ensures)
+returns c = divides (c .before .before .before .before .before .before .before .before .before .args .sizes) (c .before .before .before .before .before .before .before .before .before .args .back) (c .before .before .before .before .before .before .before .before .before .args .high) (c .before .before .before .before .before .before .before .before .before .args .still) _ _ _ _ _ _
+    (c .before .before .before .before .before .less-by3 .ensures) (c .before .before .before .before .before .before .less-by2 .ensures ∙ ap (λ (n : ℕ). c .before .before .before .before .before .before .before .before .before .args .sizes .start + c .before .before .before .before .before .before .before .before .before .args .sizes .cycle - n) (c .before .before .before .before .before .before .before .less-by .ensures)) (c .before .before .before .before .smaller .ensures) (c .before .before .told-by-numbers .ensures) (c .before .larger .ensures) (c .larger2 .ensures)
 
 pub ranges-of-spec : {M : Type 1} → statement M
 ranges-of-spec =
@@ -63,6 +63,7 @@ ranges-of-spec =
     add-w
     less-by-requires
     less-by-requires-2
+    less-by-requires-3
     smaller-requires
     add-told-by-numbers
     told-by-numbers-requires
