@@ -2,7 +2,7 @@
 ghost use mathlib.Core.Path.{_≡_};
 ghost use lib.ListN.{length};
 ghost use Rattle.plan.specs.Layout.{readings};
-ghost use Rattle.plan.specs.inner.Sizes.{allRows, mostArray};
+ghost use Rattle.plan.specs.inner.Sizes.{allRows, allStored, mostArray};
 ghost use Rattle.plan.specs.inner.Drifts.{Still};
 ghost use Rattle.lanes.specs.inner.Lanes.{Laid, Lanes};
 ghost use Rattle.inputs.specs.inner.Read.{Ready};
@@ -85,7 +85,7 @@ fn check_still(
     n: usize,
     sizes: Sizes,
 ) -> Outcome
-    requires { ⌜ (Prepared (now rule) (now plan) (now table) n sizes) × (Laid (readings (now plan)) (sizes .channels) (allRows sizes) (now values)) × (Still (now plan) (sizes .start) (allRows sizes)) ⌝ }
+    requires { ⌜ (Prepared (now rule) (now plan) (now table) n sizes) × (Laid (readings (now plan)) (sizes .channels) (allStored sizes) (now values)) × (Still (now plan) (sizes .start) (allRows sizes)) ⌝ }
     ensures { λ r. ⌜ r ≡ partsOutcome (now (rule .entry)) (now (plan .entry)) (now (table .entry)) ⌝ }
 {
     check_parts(rule, plan, values, values, true, table, n, sizes)
@@ -101,7 +101,7 @@ fn check_drifting(
     n: usize,
     sizes: Sizes,
 ) -> Outcome
-    requires { ⌜ (Prepared (now rule) (now plan) (now table) n sizes) × (Laid (readings (now plan)) (sizes .channels) (allRows sizes) (now values)) × (length (now drifts) ≡ mostArray) ⌝ }
+    requires { ⌜ (Prepared (now rule) (now plan) (now table) n sizes) × (Laid (readings (now plan)) (sizes .channels) (allStored sizes) (now values)) × (length (now drifts) ≡ mostArray) ⌝ }
     ensures { λ r. ⌜ r ≡ partsOutcome (now (rule .entry)) (now (plan .entry)) (now (table .entry)) ⌝ }
 {
     lay_drifts(plan, sizes, drifts);
@@ -117,7 +117,7 @@ fn check_over(
     n: usize,
     sizes: Sizes,
 ) -> Outcome
-    requires { ⌜ (Prepared (now rule) (now plan) (now table) n sizes) × (Laid (readings (now plan)) (sizes .channels) (allRows sizes) (now values)) ⌝ }
+    requires { ⌜ (Prepared (now rule) (now plan) (now table) n sizes) × (Laid (readings (now plan)) (sizes .channels) (allStored sizes) (now values)) ⌝ }
     ensures { λ r. ⌜ r ≡ partsOutcome (now (rule .entry)) (now (plan .entry)) (now (table .entry)) ⌝ }
 {
     let w = sizes.start + sizes.cycle;

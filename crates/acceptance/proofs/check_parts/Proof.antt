@@ -159,7 +159,7 @@ enum-told-2 c = search needs
 
 -- src/lib.rt:55:9
 add-i : tie.Need-add-i Inv-loop μ-loop Inv-parts μ-parts
-add-i c = omega arith
+add-i c = omega (arith, c .before .before .before .before .before .before .before .before .before .before .before .before .parts-test .taken, c .before .before .before .before .before .before .before .before .before .before .before .before .before .before .before .before .before .before .before .before .pre .0 .sized .few-parts)
 
 -- src/lib.rt:33:5
 parts-less : tie.Need-parts-less Inv-loop μ-loop Inv-parts μ-parts
