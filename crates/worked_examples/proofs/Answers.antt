@@ -16,10 +16,10 @@ use Rattle.rule.specs.Operands.{allZero, bothTerms, operandAt}
 use Rattle.rule.specs.Kinds.{shapeOf, kindUnknown, partOf}
 use Rattle.rule.specs.Take.{takenOperand, takeOf, partTaken, partsOf, viewsOf}
 use Rattle.rule.specs.Sheet.{isRefused, untakeable, sheetOutcome}
-use Rattle.plan.specs.Layout.{channels, startRows, cycleRows, rows, arrayLength, readings, drifts, cell, entry, readingOf, driftOf}
+use Rattle.plan.specs.Layout.{channels, startRows, cycleRows, leadRows, rows, storedRows, arrayLength, readings, drifts, cell, entry, storedReading, storedDrift, readingOf, driftOf}
 use Rattle.plan.specs.Positions.{rowOf, passOf, last, after}
-use Rattle.plan.specs.Run.{readingOn, readingAt, runOf}
-use Rattle.plan.specs.Refusals.{isZero, anyBelow, driftsAt, drifting, planOutcome}
+use Rattle.plan.specs.Run.{readingOn, readingAt, leadAt, runOf}
+use Rattle.plan.specs.Refusals.{isZero, anyBelow, driftsAt, drifting, namedRow, planOutcome}
 use Rattle.verdict.specs.Lines.{judgeLess, meets, judgeEqual}
 use Rattle.verdict.specs.Comparisons.{ofNumber, tested}
 use Rattle.verdict.specs.Rows.{channelLine, termLine, joinFirst, testAt, judgeCycle, judgeRow, atomAt, verdictOf}
@@ -40,13 +40,13 @@ use Rattle.worked_examples.proofs.Unwitnessed.{unwitnessed}
 
 -- E10, marked 1: every other test is passed, so that the answer hangs on the witness alone, and none is in order
 unwitnessed-refused : (lo hi : ℕ) → checkOf ruleE10 planE10 (marksE10-1 lo hi) ≡ C.Refused (Witness 2)
-unfolding orAfter lowestFrom lowest _orElse_ unless refusedAt atLowest inTurnFrom inTurn numberAt signedOf signedAt valueAt partCount channelCount kindPlace operandPlace kindByte shiftOf shiftFits termFits atomFits namesLower viewFits termAt allZero bothTerms operandAt shapeOf kindUnknown partOf takenOperand takeOf partTaken partsOf viewsOf isRefused untakeable sheetOutcome channels startRows cycleRows rows arrayLength readings drifts cell entry readingOf driftOf rowOf passOf last after readingOn readingAt runOf isZero anyBelow driftsAt drifting planOutcome judgeLess meets judgeEqual ofNumber tested channelLine termLine joinFirst testAt judgeCycle judgeRow atomAt verdictOf verdictOn inputsOutcome judgeOutcome judgedAs judgeOf markByte marked witnessOf aboveOne bytesOutcome tableOutcome markBeside operatorMark expected isCycleRow names witnessTwo running closesBy closes witnessOfOperator witnessInOrder steadyOutcome breaks equationOutcome closingOutcome witnessOutcome partOutcome markOf witnessAt partsOutcome checkOutcome answered checkOf rule.sizesFit plan.sizesFit marks.sizesFit
+unfolding orAfter lowestFrom lowest _orElse_ unless refusedAt atLowest inTurnFrom inTurn numberAt signedOf signedAt valueAt partCount channelCount kindPlace operandPlace kindByte shiftOf shiftFits termFits atomFits namesLower viewFits termAt allZero bothTerms operandAt shapeOf kindUnknown partOf takenOperand takeOf partTaken partsOf viewsOf isRefused untakeable sheetOutcome channels startRows cycleRows leadRows rows storedRows arrayLength readings drifts cell entry storedReading storedDrift readingOf driftOf rowOf passOf last after readingOn readingAt leadAt runOf isZero anyBelow driftsAt drifting namedRow planOutcome judgeLess meets judgeEqual ofNumber tested channelLine termLine joinFirst testAt judgeCycle judgeRow atomAt verdictOf verdictOn inputsOutcome judgeOutcome judgedAs judgeOf markByte marked witnessOf aboveOne bytesOutcome tableOutcome markBeside operatorMark expected isCycleRow names witnessTwo running closesBy closes witnessOfOperator witnessInOrder steadyOutcome breaks equationOutcome closingOutcome witnessOutcome partOutcome markOf witnessAt partsOutcome checkOutcome answered checkOf rule.sizesFit plan.sizesFit marks.sizesFit
 unwitnessed-refused lo hi =
     ap (λ (b : Bool). answered ruleE10 planE10 (marksE10-1 lo hi) (unless b (Witness 2) orElse Clear))
     (unwitnessed lo hi (witnessAt ruleE10 planE10 (marksE10-1 lo hi) 2))
 
 pub answers : (lo hi : ℕ) → All Right (examples lo hi)
-unfolding All Right examples orAfter lowestFrom lowest _orElse_ unless refusedAt atLowest inTurnFrom inTurn numberAt signedOf signedAt valueAt partCount channelCount kindPlace operandPlace kindByte shiftOf shiftFits termFits atomFits namesLower viewFits termAt allZero bothTerms operandAt shapeOf kindUnknown partOf takenOperand takeOf partTaken partsOf viewsOf isRefused untakeable sheetOutcome channels startRows cycleRows rows arrayLength readings drifts cell entry readingOf driftOf rowOf passOf last after readingOn readingAt runOf isZero anyBelow driftsAt drifting planOutcome judgeLess meets judgeEqual ofNumber tested channelLine termLine joinFirst testAt judgeCycle judgeRow atomAt verdictOf verdictOn inputsOutcome judgeOutcome judgedAs judgeOf markByte marked witnessOf aboveOne bytesOutcome tableOutcome markBeside operatorMark expected isCycleRow names witnessTwo running closesBy closes witnessOfOperator witnessInOrder steadyOutcome breaks equationOutcome closingOutcome witnessOutcome partOutcome markOf witnessAt partsOutcome checkOutcome answered checkOf rule.sizesFit plan.sizesFit marks.sizesFit
+unfolding All Right examples orAfter lowestFrom lowest _orElse_ unless refusedAt atLowest inTurnFrom inTurn numberAt signedOf signedAt valueAt partCount channelCount kindPlace operandPlace kindByte shiftOf shiftFits termFits atomFits namesLower viewFits termAt allZero bothTerms operandAt shapeOf kindUnknown partOf takenOperand takeOf partTaken partsOf viewsOf isRefused untakeable sheetOutcome channels startRows cycleRows leadRows rows storedRows arrayLength readings drifts cell entry storedReading storedDrift readingOf driftOf rowOf passOf last after readingOn readingAt leadAt runOf isZero anyBelow driftsAt drifting namedRow planOutcome judgeLess meets judgeEqual ofNumber tested channelLine termLine joinFirst testAt judgeCycle judgeRow atomAt verdictOf verdictOn inputsOutcome judgeOutcome judgedAs judgeOf markByte marked witnessOf aboveOne bytesOutcome tableOutcome markBeside operatorMark expected isCycleRow names witnessTwo running closesBy closes witnessOfOperator witnessInOrder steadyOutcome breaks equationOutcome closingOutcome witnessOutcome partOutcome markOf witnessAt partsOutcome checkOutcome answered checkOf rule.sizesFit plan.sizesFit marks.sizesFit
 answers lo hi = (
   (record { sheet = refl; plan-clear = refl; table-clear = refl }, refl),
   (
@@ -74,10 +74,13 @@ answers lo hi = (
                         (
                           refl,
                           (
-                            (record { sheet = refl; plan-clear = refl; table-clear = refl }, sym (unwitnessed-refused lo hi)),
+                            refl,
                             (
-                              (record { sheet = refl; plan-clear = refl; table-clear = refl }, refl),
-                              tt,
+                              (record { sheet = refl; plan-clear = refl; table-clear = refl }, sym (unwitnessed-refused lo hi)),
+                              (
+                                (record { sheet = refl; plan-clear = refl; table-clear = refl }, refl),
+                                tt,
+                              ),
                             ),
                           ),
                         ),

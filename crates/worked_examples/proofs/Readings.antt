@@ -13,9 +13,9 @@ use Rattle.rule.specs.Terms.{shiftOf, termAt}
 use Rattle.rule.specs.Operands.{allZero, bothTerms, operandAt}
 use Rattle.rule.specs.Kinds.{shapeOf, kindUnknown, partOf}
 use Rattle.rule.specs.Take.{takenOperand, takeOf, partTaken, partsOf}
-use Rattle.plan.specs.Layout.{channels, startRows, cycleRows, rows, arrayLength, readings, drifts, cell, entry, readingOf, driftOf}
+use Rattle.plan.specs.Layout.{channels, startRows, cycleRows, leadRows, rows, storedRows, arrayLength, readings, drifts, cell, entry, storedReading, storedDrift, readingOf, driftOf}
 use Rattle.plan.specs.Positions.{rowOf, passOf}
-use Rattle.plan.specs.Run.{readingOn, readingAt, runOf}
+use Rattle.plan.specs.Run.{readingOn, readingAt, leadAt, runOf}
 use Rattle.worked_examples.specs.Rows.{All}
 use Rattle.worked_examples.specs.SheetsRead.{partsFrom, allParts, SheetRow, reads, ReadsAs, sheets}
 use Rattle.worked_examples.specs.PlansRead.{PlanRow, sized, SizedAs, plans, seenFrom, Sight, sees, SeesAs, sights}
@@ -39,18 +39,18 @@ sheets-computed = refl
 pub sheets-read : All ReadsAs sheets
 sheets-read = all-same sheetRead sheetStated ReadsAs sheet-read sheets sheets-computed
 
-unfoldable planRead : PlanRow → ℕ × ℕ × ℕ
-planRead (sized plan v p c) = (channels plan, startRows plan, cycleRows plan)
+unfoldable planRead : PlanRow → ℕ × ℕ × ℕ × ℕ
+planRead (sized plan v p c l) = (channels plan, startRows plan, cycleRows plan, leadRows plan)
 
-unfoldable planStated : PlanRow → ℕ × ℕ × ℕ
-planStated (sized plan v p c) = (v, p, c)
+unfoldable planStated : PlanRow → ℕ × ℕ × ℕ × ℕ
+planStated (sized plan v p c l) = (v, p, c, l)
 
 plan-read : (row : PlanRow) → planRead row ≡ planStated row → SizedAs row
 unfolding planRead planStated SizedAs
-plan-read (sized plan v p c) e = (ap (λ (r : ℕ × ℕ × ℕ). r .0) e, ap (λ (r : ℕ × ℕ × ℕ). r .1) e, ap (λ (r : ℕ × ℕ × ℕ). r .2) e)
+plan-read (sized plan v p c l) e = (ap (λ (r : ℕ × ℕ × ℕ × ℕ). r .0) e, ap (λ (r : ℕ × ℕ × ℕ × ℕ). r .1) e, ap (λ (r : ℕ × ℕ × ℕ × ℕ). r .2) e, ap (λ (r : ℕ × ℕ × ℕ × ℕ). r .3) e)
 
 plans-computed : map planRead plans ≡ map planStated plans
-unfolding planRead planStated plans numberAt channels startRows cycleRows
+unfolding planRead planStated plans numberAt channels startRows cycleRows leadRows
 plans-computed = refl
 
 pub plans-read : All SizedAs plans
@@ -67,7 +67,7 @@ unfolding sightSeen sightStated SeesAs
 sight-seen (sees plan position seen) e = e
 
 sights-computed : map sightSeen sights ≡ map sightStated sights
-unfolding sightSeen sightStated sights seenFrom numberAt signedOf signedAt channels startRows cycleRows rows arrayLength readings drifts cell entry readingOf driftOf rowOf passOf readingOn readingAt runOf
+unfolding sightSeen sightStated sights seenFrom numberAt signedOf signedAt channels startRows cycleRows leadRows rows storedRows arrayLength readings drifts cell entry storedReading storedDrift readingOf driftOf rowOf passOf readingOn readingAt leadAt runOf
 sights-computed = refl
 
 pub sights-seen : All SeesAs sights

@@ -15,10 +15,10 @@ use Rattle.rule.specs.Operands.{allZero, bothTerms, operandAt}
 use Rattle.rule.specs.Kinds.{shapeOf, kindUnknown, partOf}
 use Rattle.rule.specs.Take.{takenOperand, takeOf, partTaken, partsOf, viewsOf}
 use Rattle.rule.specs.Sheet.{isRefused, untakeable, sheetOutcome}
-use Rattle.plan.specs.Layout.{channels, startRows, cycleRows, rows, arrayLength, readings, drifts, cell, entry, readingOf, driftOf}
+use Rattle.plan.specs.Layout.{channels, startRows, cycleRows, leadRows, rows, storedRows, arrayLength, readings, drifts, cell, entry, storedReading, storedDrift, readingOf, driftOf}
 use Rattle.plan.specs.Positions.{rowOf, passOf, last, after}
-use Rattle.plan.specs.Run.{readingOn, readingAt, runOf}
-use Rattle.plan.specs.Refusals.{isZero, anyBelow, driftsAt, drifting, planOutcome}
+use Rattle.plan.specs.Run.{readingOn, readingAt, leadAt, runOf}
+use Rattle.plan.specs.Refusals.{isZero, anyBelow, driftsAt, drifting, namedRow, planOutcome}
 use Rattle.verdict.specs.Lines.{judgeLess, meets, judgeEqual}
 use Rattle.verdict.specs.Comparisons.{ofNumber, tested}
 use Rattle.verdict.specs.Rows.{channelLine, termLine, joinFirst, testAt, judgeCycle, judgeRow, atomAt, verdictOf}
@@ -70,7 +70,7 @@ given (makes rule plan before left word) e = make-word rule plan before left (sa
 given (judges rule plan part row word) e = judge-word rule plan part row (same-word e) (judge-promise rule plan part row refl)
 
 computed : map stated more ≡ map defined more
-unfolding stated defined more copies refusalWord checkWord makeWord judgeWord orAfter lowestFrom lowest _orElse_ unless refusedAt atLowest inTurnFrom inTurn numberAt signedOf signedAt valueAt partCount channelCount kindPlace operandPlace kindByte shiftOf shiftFits termFits atomFits namesLower viewFits termAt allZero bothTerms operandAt shapeOf kindUnknown partOf takenOperand takeOf partTaken partsOf viewsOf isRefused untakeable sheetOutcome channels startRows cycleRows rows arrayLength readings drifts cell entry readingOf driftOf rowOf passOf last after readingOn readingAt runOf isZero anyBelow driftsAt drifting planOutcome judgeLess meets judgeEqual ofNumber tested channelLine termLine joinFirst testAt judgeCycle judgeRow atomAt verdictOf verdictOn inputsOutcome judgeOutcome judgedAs judgeOf markByte marked witnessOf aboveOne bytesOutcome tableOutcome markBeside operatorMark expected isCycleRow names witnessTwo running closesBy closes witnessOfOperator witnessInOrder steadyOutcome breaks equationOutcome closingOutcome witnessOutcome partOutcome markOf witnessAt partsOutcome checkOutcome answered checkOf bytesOf pieces tableOf zeroed following labelBy operatorLabel labelOf orNone lowestWitness labelTo madeMark madeWitness madeTable asNoTable openOutcome closingsOutcome lentOutcome makeOutcome make.answered makeOf leftBy bytesAfter rule.sizesFit plan.sizesFit marks.sizesFit
+unfolding stated defined more copies refusalWord checkWord makeWord judgeWord orAfter lowestFrom lowest _orElse_ unless refusedAt atLowest inTurnFrom inTurn numberAt signedOf signedAt valueAt partCount channelCount kindPlace operandPlace kindByte shiftOf shiftFits termFits atomFits namesLower viewFits termAt allZero bothTerms operandAt shapeOf kindUnknown partOf takenOperand takeOf partTaken partsOf viewsOf isRefused untakeable sheetOutcome channels startRows cycleRows leadRows rows storedRows arrayLength readings drifts cell entry storedReading storedDrift readingOf driftOf rowOf passOf last after readingOn readingAt leadAt runOf isZero anyBelow driftsAt drifting namedRow planOutcome judgeLess meets judgeEqual ofNumber tested channelLine termLine joinFirst testAt judgeCycle judgeRow atomAt verdictOf verdictOn inputsOutcome judgeOutcome judgedAs judgeOf markByte marked witnessOf aboveOne bytesOutcome tableOutcome markBeside operatorMark expected isCycleRow names witnessTwo running closesBy closes witnessOfOperator witnessInOrder steadyOutcome breaks equationOutcome closingOutcome witnessOutcome partOutcome markOf witnessAt partsOutcome checkOutcome answered checkOf bytesOf pieces tableOf zeroed following labelBy operatorLabel labelOf orNone lowestWitness labelTo madeMark madeWitness madeTable asNoTable openOutcome closingsOutcome lentOutcome makeOutcome make.answered makeOf leftBy bytesAfter rule.sizesFit plan.sizesFit marks.sizesFit
 computed = refl
 
 pub words : All Gives more

@@ -8,10 +8,10 @@ use Rattle.worked_examples.specs.Calls.{Call, checks, makes, judges, Giv
 use Rattle.worked_examples.specs.SheetsRead.{sheets, ReadsAs}
 use Rattle.worked_examples.specs.PlansRead.{plans, sights, SizedAs, SeesAs}
 use Rattle.worked_examples.specs.Handed.{questionBytes, callBytes}
-use Rattle.worked_examples.specs.Table.{examples, ruleE1, ruleE2, ruleE4, planA, planB, planE10, marksE4-2}
+use Rattle.worked_examples.specs.Table.{examples, ruleE1, ruleE2, ruleE4, ruleE8, planA, planB, planE10, marksE4-2}
 use Rattle.worked_examples.specs.MoreSheets.{ruleKinds, ruleRelease, rulePast, ruleLimit, ruleMet, ruleReach, ruleEightChannels, ruleNoParts, ruleLong, ruleNineChannels, ruleKind0, ruleKind13, ruleShiftedConstant, ruleShiftCode9, ruleForm2, ruleChannel1, ruleNamesItself, ruleSpareByte, ruleMostParts, ruleTooManyParts}
-use Rattle.worked_examples.specs.MorePlans.{planThree, planStartDrift, planNoCycle, planLong, planMostRows, planTooManyRows, planMostChannels, planTooManyChannels}
-use Rattle.worked_examples.specs.MoreMarks.{marksKinds, marksRelease-1, marksRelease-0, marksRelease-spare, marksLong, marksByte2, marksBytes2, marksBroken, marksSpare, marksSpareBroken, marksPast, marksLimit, marksLimitBroken, marksLimitSpare, lentFull, lentSevens, zeros}
+use Rattle.worked_examples.specs.MorePlans.{planThree, planStartDrift, planNoCycle, planLong, planLead, planLeadDrift, planBehindLeadDrift, planSevenBytes, planMostLead, planTooMuchLead, planMostRows, planTooManyRows, planMostChannels, planTooManyChannels}
+use Rattle.worked_examples.specs.MoreMarks.{marksKinds, marksLead, marksLeadSeen, marksRelease-1, marksRelease-0, marksRelease-spare, marksLong, marksByte2, marksBytes2, marksBroken, marksSpare, marksSpareBroken, marksPast, marksLimit, marksLimitBroken, marksLimitSpare, lentFull, lentSevens, zeros}
 
 -- A refusal is number × 2^32 + part × 2^16 + row; beside it stand its number, part and row.
 unfoldable pub more : List Call
@@ -20,6 +20,8 @@ more =
     checks ruleKinds planThree marksKinds 0
     -- R marked 1 is true at position 0.
     ∷ checks ruleRelease planE10 marksRelease-1 1
+    -- Y does not see the lead-in.
+    ∷ checks ruleE2 planLead marksLead 0
     -- Refused. 1: no bytes, no parts, nine channels, a byte too many. It comes before all others.
     ∷ checks [] [] [] 4294967296  -- 1, 0, 0
     ∷ checks ruleNoParts [] [] 4294967296  -- 1, 0, 0
@@ -35,15 +37,20 @@ more =
     ∷ checks ruleChannel1 [] [] 12884901888  -- 3, 0, 0
     ∷ checks ruleNamesItself [] [] 12884967424  -- 3, 1, 0
     ∷ checks ruleSpareByte [] [] 12884967424  -- 3, 1, 0
-    -- 4: no bytes, no cycle row, a byte too many.
+    -- 4: no bytes, seven bytes, no cycle row, a byte too many, a lead-in of five rows. It comes before 5.
     ∷ checks ruleE1 [] [] 17179869184  -- 4, 0, 0
+    ∷ checks ruleE1 planSevenBytes [] 17179869184  -- 4, 0, 0
     ∷ checks ruleE1 planNoCycle [] 17179869184  -- 4, 0, 0
     ∷ checks ruleE1 planLong [] 17179869184  -- 4, 0, 0
+    ∷ checks ruleEightChannels planTooMuchLead [] 17179869184  -- 4, 0, 0
     -- 5: another V, 8 being allowed. It comes before 6.
     ∷ checks ruleEightChannels planA [] 21474836480  -- 5, 0, 0
     ∷ checks rulePast planStartDrift [] 21474836480  -- 5, 0, 0
-    -- 6: the lowest such row.
+    ∷ checks rulePast planLeadDrift [] 21474836480  -- 5, 0, 0
+    -- 6: the lowest such row; a lead-in row comes first and is named as row 0.
     ∷ checks ruleE1 planStartDrift [] 25769803777  -- 6, 0, 1
+    ∷ checks ruleE1 planLeadDrift [] 25769803776  -- 6, 0, 0
+    ∷ checks ruleE1 planBehindLeadDrift [] 25769803777  -- 6, 0, 1
     -- 7: no bytes, another N, a byte too many. It comes before 8.
     ∷ checks ruleE1 planA [] 30064771072  -- 7, 0, 0
     ∷ checks ruleE1 planA marksByte2 30064771072  -- 7, 0, 0
@@ -51,7 +58,8 @@ more =
     -- 8: the lowest part, then the lowest row. It comes before 9.
     ∷ checks ruleE2 planA marksByte2 34359803906  -- 8, 1, 2
     ∷ checks ruleE2 planA marksBytes2 34359738369  -- 8, 0, 1
-    -- 9: the lowest row. It comes before 10 of the same part.
+    -- 9: the lowest row. It comes before 10 of the same part. Y is false on row 0 though the lead-in has what it names.
+    ∷ checks ruleE2 planLead marksLeadSeen 38654771200  -- 9, 1, 0
     ∷ checks ruleE4 planA marksBroken 38654836737  -- 9, 2, 1
     ∷ checks ruleLimit planThree marksLimitBroken 38654771204  -- 9, 1, 4
     -- 10: of a past part row P, of a comparison the lowest changing row. It comes before 11 of the same part.
@@ -68,6 +76,8 @@ more =
     ∷ checks ruleTooManyParts [] [] 4294967296  -- 1, 0, 0
     ∷ checks ruleE1 planMostRows [] 30064771072  -- 7, 0, 0
     ∷ checks ruleE1 planTooManyRows [] 17179869184  -- 4, 0, 0
+    ∷ checks ruleE1 planMostLead [] 30064771072  -- 7, 0, 0
+    ∷ checks ruleE1 planTooMuchLead [] 17179869184  -- 4, 0, 0
     ∷ checks ruleEightChannels planMostChannels [] 30064771072  -- 7, 0, 0
     ∷ checks ruleEightChannels planTooManyChannels [] 17179869184  -- 4, 0, 0
     -- Made, whatever the buffer held. Every kind: the witnesses of U and R, rows 3 and 2, are the lowest that serve.
@@ -91,9 +101,13 @@ more =
     ∷ judges ruleLimit planThree 1 3 2
     ∷ judges ruleMet planThree 0 2 2
     ∷ judges ruleReach planB 0 0 2
-    -- 12: no such part, no such row, no comparison. It comes after 1 to 6.
+    -- Row 0 held against the lead-in.
+    ∷ judges ruleE8 planLead 0 0 1
+    ∷ judges ruleE8 planLead 0 1 0
+    -- 12: no such part, no such row, also where the lead-in is counted, no comparison. It comes after 1 to 6.
     ∷ judges ruleE1 planA 1 0 51539607552  -- 12, 0, 0
     ∷ judges ruleE1 planA 0 3 51539607552  -- 12, 0, 0
+    ∷ judges ruleE1 planLead 0 2 51539607552  -- 12, 0, 0
     ∷ judges ruleE2 planA 1 0 51539607552  -- 12, 0, 0
     ∷ judges ruleE1 planStartDrift 9 9 25769803777  -- 6, 0, 1
     ∷ []

@@ -32,6 +32,13 @@ marksKinds =
     ∷ 0xFF ∷ 0xFF
     ∷ 0xFF ∷ 0xFF ∷ []
 
+-- of ruleE2 on planLead: x < 25 is false on both rows, and so is Y of it, on row 0 too; and marked as if the lead-in were before it
+abbrev pub marksLead : List ℕ
+marksLead = 0x02 ∷ 0x00 ∷ 0x02 ∷ 0x00 ∷ 0x00 ∷ 0x00 ∷ 0x00 ∷ 0x00 ∷ 0xFF ∷ 0xFF ∷ 0xFF ∷ 0xFF ∷ []
+
+abbrev pub marksLeadSeen : List ℕ
+marksLeadSeen = 0x02 ∷ 0x00 ∷ 0x02 ∷ 0x00 ∷ 0x00 ∷ 0x00 ∷ 0x01 ∷ 0x00 ∷ 0xFF ∷ 0xFF ∷ 0xFF ∷ 0xFF ∷ []
+
 -- of ruleRelease on planE10: R is marked 1, with no witness
 abbrev pub marksRelease-1 : List ℕ
 marksRelease-1 =

@@ -4,28 +4,33 @@ use mathlib.Core.Path.{_≡_}
 use mathlib.Core.List.{List, [], _∷_}
 use lib.IntN.{ℤ, pos, negℤ}
 use Rattle.cltlb.specs.Run.{Seen, number, beforeRun}
-use Rattle.plan.specs.Layout.{channels, startRows, cycleRows}
+use Rattle.plan.specs.Layout.{channels, startRows, cycleRows, leadRows}
 use Rattle.plan.specs.Run.{runOf}
-use Rattle.worked_examples.specs.Table.{planA, planB, planE9, planE10}
-use Rattle.worked_examples.specs.MorePlans.{planThree, planStartDrift, planNoCycle, planLong}
+use Rattle.worked_examples.specs.Table.{planA, planB, planE8-lead, planE9, planE10}
+use Rattle.worked_examples.specs.MorePlans.{planThree, planStartDrift, planNoCycle, planLong, planLead, planLeadTwo, planLeadDrift, planBehindLeadDrift}
 
--- a plan with its V, P and C
+-- a plan with its V, P, C and L
 pub data PlanRow : Type 0 where
-  sized : (plan : List ℕ) (v p c : ℕ) → PlanRow
+  sized : (plan : List ℕ) (v p c l : ℕ) → PlanRow
 
 unfoldable pub SizedAs : PlanRow → Type 0
-SizedAs (sized plan v p c) = (channels plan ≡ v) × (startRows plan ≡ p) × (cycleRows plan ≡ c)
+SizedAs (sized plan v p c l) = (channels plan ≡ v) × (startRows plan ≡ p) × (cycleRows plan ≡ c) × (leadRows plan ≡ l)
 
 unfoldable pub plans : List PlanRow
 plans =
-    sized planA 1 1 2
-    ∷ sized planB 1 0 1
-    ∷ sized planE9 1 0 1
-    ∷ sized planE10 1 0 1
-    ∷ sized planThree 3 2 3
-    ∷ sized planStartDrift 1 3 1
-    ∷ sized planNoCycle 1 1 0
-    ∷ sized planLong 1 0 1
+    sized planA 1 1 2 0
+    ∷ sized planB 1 0 1 0
+    ∷ sized planE8-lead 1 0 1 1
+    ∷ sized planE9 1 0 1 0
+    ∷ sized planE10 1 0 1 0
+    ∷ sized planThree 3 2 3 0
+    ∷ sized planStartDrift 1 3 1 0
+    ∷ sized planNoCycle 1 1 0 0
+    ∷ sized planLong 1 0 1 0
+    ∷ sized planLead 1 1 1 2
+    ∷ sized planLeadTwo 2 0 1 2
+    ∷ sized planLeadDrift 1 2 1 2
+    ∷ sized planBehindLeadDrift 1 2 1 2
     ∷ []
 
 -- what is seen of n channels from channel k on, at a position
@@ -40,7 +45,8 @@ pub data Sight : Type 0 where
 unfoldable pub SeesAs : Sight → Type 0
 SeesAs (sees plan position seen) = seenFrom plan position 0 (channels plan) ≡ seen
 
--- planThree: before the run, the start rows, the cycle rows on passes 0 and 1, two of them on pass 2, and one on pass 100.
+-- planThree: before the run, the start rows, the cycle rows on passes 0 and 1, two of them on pass 2, and one on pass 100. The last
+-- three plans: before the lead-in, in it, and behind it.
 unfoldable pub sights : List Sight
 sights =
     sees planA (pos 0) (number (pos 10) ∷ [])
@@ -64,4 +70,16 @@ sights =
     ∷ sees planThree (pos 8) (number (negℤ (pos 70512)) ∷ number (negℤ (pos 513)) ∷ number (negℤ (pos 14)) ∷ [])
     ∷ sees planThree (pos 10) (number (pos 202) ∷ number (pos 203) ∷ number (pos 14) ∷ [])
     ∷ sees planThree (pos 302) (number (negℤ (pos 95600)) ∷ number (negℤ (pos 25601)) ∷ number (negℤ (pos 504)) ∷ [])
+    ∷ sees planE8-lead (negℤ (pos 2)) (beforeRun ∷ [])
+    ∷ sees planE8-lead (negℤ (pos 1)) (number (pos 4093) ∷ [])
+    ∷ sees planE8-lead (pos 2) (number (pos 4096) ∷ [])
+    ∷ sees planLead (negℤ (pos 3)) (beforeRun ∷ [])
+    ∷ sees planLead (negℤ (pos 2)) (number (pos 7) ∷ [])
+    ∷ sees planLead (negℤ (pos 1)) (number (pos 9) ∷ [])
+    ∷ sees planLead (pos 0) (number (pos 30) ∷ [])
+    ∷ sees planLeadTwo (negℤ (pos 3)) (beforeRun ∷ beforeRun ∷ [])
+    ∷ sees planLeadTwo (negℤ (pos 2)) (number (pos 1) ∷ number (pos 2) ∷ [])
+    ∷ sees planLeadTwo (negℤ (pos 1)) (number (pos 3) ∷ number (pos 4) ∷ [])
+    ∷ sees planLeadTwo (pos 0) (number (pos 5) ∷ number (pos 6) ∷ [])
+    ∷ sees planLeadTwo (pos 10) (number (pos 15) ∷ number (negℤ (pos 4)) ∷ [])
     ∷ []

@@ -49,10 +49,10 @@ entry-at-requires c κs = arrays.in-part (c .before .before .before .before .bef
 -- src/lookup.rt:69:1
 returns : tie.Need-returns
 returns c = (
-    arrays.drift-read (c .before .before .before .before .before .before .pre .0) (c .before .before .before .before .before .before .args .k) (c .before .before .before .before .before .before .args .channel) (c .before .before .before .before .drifts-start .result) (c .before .before .before .before .drifts-start .result + c .before .before .before .array-length .result) _
-    (c .before .before .before .before .drifts-start .ensures .0) (omega arith) (c .before .cell-of .ensures) (c .entry-at .ensures .0),
-    c .entry-at .ensures .1,
-    )
+  arrays.drift-read (c .before .before .before .before .before .before .pre .0) (c .before .before .before .before .before .before .args .k) (c .before .before .before .before .before .before .args .channel) (c .before .before .before .before .drifts-start .result) (c .before .before .before .before .drifts-start .result + c .before .before .before .array-length .result) _
+      (c .before .before .before .before .drifts-start .ensures .0) (omega arith) (c .before .cell-of .ensures) (c .entry-at .ensures .0),
+  c .entry-at .ensures .1,
+)
 
 pub stored-drift-spec : {M : Type 1} → statement M
 stored-drift-spec =

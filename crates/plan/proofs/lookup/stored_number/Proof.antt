@@ -61,18 +61,18 @@ cell-of-requires c κs = search needs
 -- src/lookup.rt:57:5
 number-on-requires : tie.Need-number-on-requires
 number-on-requires c κs = let inside = arrays.in-part (c .before .before .before .before .before .before .before .pre .0) (c .before .before .before .before .before .before .before .args .k) (c .before .before .before .before .before .before .before .args .channel) in (
-    inside (c .before .before .before .before .before .head-length .result) (c .before .before .before .before .drifts-start .result) _ (c .cell-of .ensures) (omega arith) (omega arith) (c .before .before .before .before .before .before .before .pre .2) (c .before .before .before .before .before .before .before .pre .1),
-    inside (c .before .before .before .before .drifts-start .result) (c .before .before .before .before .drifts-start .result + c .before .before .before .array-length .result) _ (c .cell-of .ensures) (omega arith) (omega arith) (c .before .before .before .before .before .before .before .pre .2) (c .before .before .before .before .before .before .before .pre .1),
-    c .before .before .before .before .before .before .before .pre .3,
-    )
+  inside (c .before .before .before .before .before .head-length .result) (c .before .before .before .before .drifts-start .result) _ (c .cell-of .ensures) (omega arith) (omega arith) (c .before .before .before .before .before .before .before .pre .2) (c .before .before .before .before .before .before .before .pre .1),
+  inside (c .before .before .before .before .drifts-start .result) (c .before .before .before .before .drifts-start .result + c .before .before .before .array-length .result) _ (c .cell-of .ensures) (omega arith) (omega arith) (c .before .before .before .before .before .before .before .pre .2) (c .before .before .before .before .before .before .before .pre .1),
+  c .before .before .before .before .before .before .before .pre .3,
+)
 
 -- src/lookup.rt:50:1
 returns : tie.Need-returns
 returns c = (
-    arrays.value-read (c .before .before .before .before .before .before .before .before .pre .0) (c .before .before .before .before .before .before .before .before .args .k) (c .before .before .before .before .before .before .before .before .args .channel) (c .before .before .before .before .before .drifts-start .result) (c .before .before .before .before .before .drifts-start .result + c .before .before .before .before .array-length .result) _
-    (c .before .before .before .before .before .drifts-start .ensures .0) (omega arith) (c .before .cell-of .ensures) _ (c .before .before .before .before .before .before .before .before .args .pass) (c .before .before .before .before .before .before .head-length .ensures) (c .number-on .ensures .0),
-    c .number-on .ensures .1,
-    )
+  arrays.value-read (c .before .before .before .before .before .before .before .before .pre .0) (c .before .before .before .before .before .before .before .before .args .k) (c .before .before .before .before .before .before .before .before .args .channel) (c .before .before .before .before .before .drifts-start .result) (c .before .before .before .before .before .drifts-start .result + c .before .before .before .before .array-length .result) _
+      (c .before .before .before .before .before .drifts-start .ensures .0) (omega arith) (c .before .cell-of .ensures) _ (c .before .before .before .before .before .before .before .before .args .pass) (c .before .before .before .before .before .before .head-length .ensures) (c .number-on .ensures .0),
+  c .number-on .ensures .1,
+)
 
 pub stored-number-spec : {M : Type 1} → statement M
 stored-number-spec =

@@ -93,17 +93,17 @@ returns-7 c = fits.other-length (now (c .before .before .before .before .before 
 returns-8 : tie.Need-returns-8
 unfolding channels startRows cycleRows leadRows
 returns-8 c = fits.counts (record {
-    v-is = sym (c .before .before .before .before .before .before .before .before .before .before .before .u16-at .ensures .0);
-    p-is = sym (c .before .before .before .before .before .before .before .before .before .before .u16-at2 .ensures .0);
-    c-is = sym (c .before .before .before .before .before .before .before .before .before .u16-at3 .ensures .0);
-    l-is = sym (c .before .before .before .before .before .before .before .before .u16-at4 .ensures .0);
-    a-channel = c .before .before .before .before .before .before .before .if2 .left;
-    few-channels = c .before .before .before .before .before .before .if3 .left;
-    a-cycle = c .before .before .before .before .before .if4 .left;
-    few-rows = c .before .before .before .before .if5 .left;
-    few-lead = c .before .before .before .if6 .left;
-    whole = omega arith;
-    })
+  v-is = sym (c .before .before .before .before .before .before .before .before .before .before .before .u16-at .ensures .0);
+  p-is = sym (c .before .before .before .before .before .before .before .before .before .before .u16-at2 .ensures .0);
+  c-is = sym (c .before .before .before .before .before .before .before .before .before .u16-at3 .ensures .0);
+  l-is = sym (c .before .before .before .before .before .before .before .before .u16-at4 .ensures .0);
+  a-channel = c .before .before .before .before .before .before .before .if2 .left;
+  few-channels = c .before .before .before .before .before .before .if3 .left;
+  a-cycle = c .before .before .before .before .before .if4 .left;
+  few-rows = c .before .before .before .before .if5 .left;
+  few-lead = c .before .before .before .if6 .left;
+  whole = omega arith;
+})
 
 pub read-sizes-spec : {M : Type 1} → statement M
 read-sizes-spec =
