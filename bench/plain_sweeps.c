@@ -5,8 +5,9 @@
  * how far its terms reach back at most. Where one reaches before the lead-in rows, the
  * mark must be 0. Below P + back the truth at each position must be the mark of its
  * row. From there on each term is a straight line in the pass, and each cycle row
- * comes once: there the truth must be the mark too, and no later pass may change it. All of this is 32-bit arithmetic, as the lanes hold the
- * positions after row W - 1 as well.
+ * comes once: there the truth must be the mark too, and no later pass may change it.
+ * All of this is 32-bit arithmetic, as the lanes hold the positions after row W - 1 as
+ * well.
  */
 #include "plain_sweeps.h"
 

@@ -192,9 +192,9 @@ static void cells(int lead)
 /* A lead-in reading and a reading at either end of 32 bits. */
 static void ends(void)
 {
-    static const int32_t numbers[] = { INT32_MIN, INT32_MIN + 1, -1, 0, 1, INT32_MAX - 1, INT32_MAX };
-    for (int i = 0; i < 7; i++)
-        for (int k = 0; k < 7; k++) {
+    static const int32_t numbers[] = { INT32_MIN, INT32_MIN + 1, -1, 0, INT32_MAX - 1, INT32_MAX };
+    for (int i = 0; i < 6; i++)
+        for (int k = 0; k < 6; k++) {
             start_plan_with_lead(&plan, 1, 1, 1, 1);
             write_reading(&plan, -1, 0, numbers[i]);
             write_reading(&plan, 0, 0, numbers[k]);
@@ -394,8 +394,8 @@ static void longest(int start, int period)
 {
     start_rule(&rule, 64, MOST_CHANNELS);
     for (int part = 0; part < 64; part++)
-        write_comparison(&rule, part, part % 2 ? EQUAL : LESS,
-                         reading(part % 8, part / 8 % 5 - 4), reading((part + 3) % 8, part % 9 - 4));
+        write_comparison(&rule, part, part % 2 ? EQUAL : LESS, reading(part % 8, part / 8 % 5 - 4),
+                         reading((part + 3) % 8, part % 9 - 4));
     start_plan_with_lead(&plan, MOST_CHANNELS, MOST_LEAD, start, MOST_ROWS - start);
     for (int row = -MOST_LEAD; row < MOST_ROWS; row++)
         for (int channel = 0; channel < MOST_CHANNELS; channel++)
