@@ -7,10 +7,11 @@
  * the slowest answer, as nothing is left out. The makers make that same table.
  *
  * The first figures are of eight cases of full size, 64 parts on 256 rows of 8
- * channels, the last of them with 4 lead-in rows. The others show how the time of the check grows with the rows and with
- * the parts, on rules of one mix throughout: where it grows as parts times rows and
- * no faster, the time for each part and row does not rise. At small sizes it is
- * larger by what is done once for each part or once for the plan.
+ * channels, the last of them with 4 lead-in rows. The others show how the time of the
+ * check grows with the rows and with the parts, on rules of one mix throughout: where
+ * it grows as parts times rows and no faster, the time for each part and row does not
+ * rise. At small sizes it is larger by what is done once for each part or once for the
+ * plan.
  *
  * The two functions of a pair are called on the same bytes, in turn, many times in
  * each round, and all pairs that are shown together have their turn in each round.

@@ -294,7 +294,7 @@ void make_case(void)
     int start, cycle, parts = some_parts(), lead = chance(40) ? 0 : between(1, 4);
     int channels = chance(80) ? between(1, 3) : between(1, 8);
     some_rows(&start, &cycle);
-    if (lead > 0 && chance(30))
+    if (lead > 0 && start > 1 && chance(30))
         start = below(2); /* so that cycle rows look back to the lead-in */
     if (chance(1)) {
         parts = 64;

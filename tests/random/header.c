@@ -253,11 +253,8 @@ static void maker(void)
 /* A word of each refusal's text. */
 enum { REFUSALS = 14 };
 static const char *const words[REFUSALS + 1] = {
-    "",         "rule's",     "kind",
-    "operand",  "plan's",     "channels",
-    "lead-in or start row",   "mark table",
-    "mark byte", "equation",  "passes",
-    "witness",  "comparison", "buffer",
+    "",           "rule's",    "kind",     "operand", "plan's",  "channels",   "lead-in or start",
+    "mark table", "mark byte", "equation", "passes",  "witness", "comparison", "buffer",
     "no mark table",
 };
 

@@ -8,7 +8,7 @@
  */
 #include "expect.h"
 
-#include "../../include/endless_run.h"
+#include <string.h>
 
 static struct sheet rule, plan, marks;
 
@@ -367,10 +367,10 @@ static void lead_sizes(void)
         start_plan_with_lead(&plan, 2, lead, 2, 2);
         resize(&plan, plan.len + 1);
         refuse_all("plan one byte long, L 0 to 4", refusal(4, 0, 0));
-        start_plan_with_lead(&plan, 2, lead, 2, 2);
-        resize(&plan, plan.len - 2);
-        refuse_all("plan two bytes short, as without L", refusal(4, 0, 0));
     }
+    memmove(plan.at + 6, plan.at + 8, plan.len - 8);
+    resize(&plan, plan.len - 2);
+    refuse_all("plan laid out without L", refusal(4, 0, 0));
     refuse_plan_with_lead("L 5", 2, 5, 2, 2);
     refuse_plan_with_lead("L 5, P 0 and C 1", 1, 5, 0, 1);
     refuse_plan_with_lead("L 5, W 256, V 8", 8, 5, 0, 256);
@@ -384,7 +384,6 @@ static void lead_sizes(void)
     /* W is held against 256 without the lead-in rows. */
     accept_plan_with_lead("W 253 and L 4", 1, 4, 1, 252);
     accept_plan_with_lead("largest plan", 8, 4, 256 - 16, 16);
-    expect("largest plan, length", ENDLESS_RUN_LONGEST_PLAN == 16648);
 
     /* A row that is counted as lead-in is none of W, and the other way round. */
     start_plan_with_lead(&plan, 2, 1, 1, 2);
@@ -471,8 +470,6 @@ static void lead_drifts_of(int lead)
     start_plan_with_lead(&plan, 2, lead, 2, 2);
     write_drift(&plan, 2, 0, 1);
     write_drift(&plan, 3, 1, -1);
-    expect("drifts in cycle rows after lead-in rows",
-           second_judge(slice_of(&rule), slice_of(&plan), 0, 0) == ALWAYS_TRUE);
     judge("drifts in cycle rows after lead-in rows", 0, 0, ALWAYS_TRUE);
 }
 
