@@ -44,9 +44,9 @@
  * Parts and rows are numbered from 0. The last part is the whole rule. Row 0
  * is position 0 of the run. The lead-in rows lie before it, at positions -L to
  * -1 in this order, so that the last of them comes just before row 0. Shifted
- * terms read them; Y, Z, S and T begin at position 0 and do not look behind it.
- * They have no row number: marks, witnesses, judge and refusals speak of rows 0
- * to W - 1.
+ * terms read them; Y, Z, S and T begin at position 0 and look no further back.
+ * Lead-in rows have no number: marks, witnesses, judge and refusals speak of
+ * rows 0 to W - 1.
  *
  *
  * WHAT HOLDS FOR ALL THREE FUNCTIONS

@@ -123,35 +123,25 @@ static void constants(int lead)
     expect_comparison(lead, LESS, reading(X, 1), constant(INT32_MAX));
 }
 
-/* The edge by itself: on row t a shift reaches position -L, and the reading there
-   decides both ways; from one lead-in row fewer it is not seen. */
-static void edge(int lead, int row)
+/* Every reading is 6, and a comparison that holds of 6 is true just where it is seen:
+   exactly to -L, and not one position before. */
+static void edge(int lead, int row, int shift)
 {
-    int shift = -lead - row;
-    if (shift < -MOST_BACK || shift > -1)
-        return;
-    for (int holds = 0; holds < 2; holds++) {
-        start_plan_with_lead(&plan, 1, lead, 5, 1);
-        write_reading(&plan, -lead, 0, holds ? 6 : 7);
-        uint64_t always = holds ? ALWAYS_TRUE : ALWAYS_FALSE;
-        write_rule(1, EQUAL, reading(0, shift), constant(6));
-        expect_judge("exactly to -L, equal", &rule, &plan, 0, (uint64_t)row, always);
-        write_rule(1, EQUAL, constant(6), reading(0, shift));
-        expect_judge("exactly to -L, equal, right", &rule, &plan, 0, (uint64_t)row, always);
-        write_rule(1, LESS, reading(0, shift), constant(7));
-        expect_judge("exactly to -L, less", &rule, &plan, 0, (uint64_t)row, always);
-        write_rule(1, LESS, constant(holds ? 5 : 7), reading(0, shift));
-        expect_judge("exactly to -L, less, right", &rule, &plan, 0, (uint64_t)row, always);
-        if (lead == 0)
-            continue;
-        start_plan_with_lead(&plan, 1, lead - 1, 5, 1);
-        write_rule(1, EQUAL, reading(0, shift), constant(0));
-        expect_judge("one before -L, equal", &rule, &plan, 0, (uint64_t)row, ALWAYS_FALSE);
-        write_rule(1, LESS, reading(0, shift), constant(1));
-        expect_judge("one before -L, less", &rule, &plan, 0, (uint64_t)row, ALWAYS_FALSE);
-        write_rule(1, LESS, constant(-1), reading(0, shift));
-        expect_judge("one before -L, less, right", &rule, &plan, 0, (uint64_t)row, ALWAYS_FALSE);
-    }
+    uint64_t judged = row + shift >= -lead ? ALWAYS_TRUE : ALWAYS_FALSE;
+    struct term x = reading(0, shift);
+    start_plan_with_lead(&plan, 1, lead, 5, 1);
+    for (int at = -lead; at < 6; at++)
+        write_reading(&plan, at, 0, 6);
+    write_rule(1, EQUAL, x, constant(6));
+    expect_judge("seen from -L on, equal", &rule, &plan, 0, (uint64_t)row, judged);
+    write_rule(1, EQUAL, constant(6), x);
+    expect_judge("seen from -L on, equal, right", &rule, &plan, 0, (uint64_t)row, judged);
+    write_rule(1, LESS, x, constant(7));
+    expect_judge("seen from -L on, less", &rule, &plan, 0, (uint64_t)row, judged);
+    write_rule(1, LESS, constant(5), x);
+    expect_judge("seen from -L on, less, right", &rule, &plan, 0, (uint64_t)row, judged);
+    write_rule(1, EQUAL, x, x);
+    expect_judge("seen from -L on, both", &rule, &plan, 0, (uint64_t)row, judged);
 }
 
 static void positions(void)
@@ -162,7 +152,8 @@ static void positions(void)
         two_terms(lead);
         constants(lead);
         for (int row = 0; row < 4; row++)
-            edge(lead, row);
+            for (int shift = -MOST_BACK; shift <= -1; shift++)
+                edge(lead, row, shift);
     }
 }
 
