@@ -133,10 +133,9 @@ static inline uint64_t check_plan(const uint8_t *bytes, size_t len, unsigned cha
     if (v != channels)
         return refuse(5, 0, 0);
     const uint8_t *readings = bytes + 8 + 4 * (size_t)v * lead;
-    *plan = (struct plan){ readings,   readings + 4 * (size_t)v * (lead + rows),
-                           (int)v,     (int)start,
-                           (int)cycle, (int)rows,
-                           (int)lead };
+    const uint8_t *drifts = readings + 4 * (size_t)v * (lead + rows);
+    *plan = (struct plan){ readings,   drifts,    (int)v,   (int)start,
+                           (int)cycle, (int)rows, (int)lead };
     return check_start_drifts(plan);
 }
 

@@ -22,13 +22,13 @@ static struct {
     unsigned long full_size;       /* accepted with 64 parts and 256 rows */
     unsigned long kinds[13];       /* accepted with a part of the kind */
     unsigned long open[13];        /* refused 10 for a part of the kind */
-    unsigned long lead[MOST_LEAD + 1]; /* accepted with so many lead-in rows */
-    unsigned long led;             /* accepted with a mark of 1 that reads a lead-in row */
-    unsigned long unseen;          /* accepted where a term reaches before lead-in rows */
-    unsigned long led_always;      /* judged 1 where pass 0 reads a lead-in row */
-    unsigned long led_once;        /* judged 2 where pass 0 does and is alone true */
+    unsigned long lead[5];         /* accepted with so many lead-in rows */
+    unsigned long led;             /* accepted, a comparison true by a lead-in row */
+    unsigned long unseen;          /* accepted, one that reaches before all lead-in rows */
+    unsigned long led_always;      /* judged 1 on a cycle row, pass 0 reads a lead-in row */
+    unsigned long led_once;        /* judged 2 on one, only pass 0 differs */
     unsigned long lead_drifts;     /* refused 6 for a lead-in row */
-    unsigned long both_drifts;     /* refused 6 for a lead-in row, and row 0 has no drift */
+    unsigned long both_drifts;     /* refused 6 for one, and a start row above 0 has one too */
     unsigned long late;            /* "changes" on a late pass only */
     unsigned long stepped_over;    /* an equality whose gap narrows and is never 0 */
 } counts;
@@ -188,7 +188,7 @@ static void print_counts(unsigned long cases)
     hold_to_floor("accepted, true by a lead-in row", counts.led, cases, 100);
     hold_to_floor("accepted, false before the lead-in rows", counts.unseen, cases, 100);
     hold_to_floor("judged 1, true by a lead-in row", counts.led_always, cases, 50);
-    hold_to_floor("judged 2, true by a lead-in row alone", counts.led_once, cases, 20);
+    hold_to_floor("judged 2, other by a lead-in row alone", counts.led_once, cases, 20);
     hold_to_floor("refused 6 for a lead-in row", counts.lead_drifts, cases, 10);
     hold_to_floor("refused 6, a later start row has a drift too", counts.both_drifts, cases, 2);
     for (int kind = LESS; kind <= TRIGGER; kind++) {
