@@ -6,11 +6,12 @@
  * maker beside plain C (plain_make.c). All tables are accepted ones: acceptance is
  * the slowest answer, as nothing is left out. The makers make that same table.
  *
- * The first figures are of seven cases of full size, 64 parts on 256 rows of 8
- * channels. The others show how the time of the check grows with the rows and with
- * the parts, on rules of one mix throughout: where it grows as parts times rows and
- * no faster, the time for each part and row does not rise. At small sizes it is
- * larger by what is done once for each part or once for the plan.
+ * The first figures are of eight cases of full size, 64 parts on 256 rows of 8
+ * channels, the last of them with 4 lead-in rows. The others show how the time of the
+ * check grows with the rows and with the parts, on rules of one mix throughout: where
+ * it grows as parts times rows and no faster, the time for each part and row does not
+ * rise. At small sizes it is larger by what is done once for each part or once for the
+ * plan.
  *
  * The two functions of a pair are called on the same bytes, in turn, many times in
  * each round, and all pairs that are shown together have their turn in each round.
@@ -216,6 +217,7 @@ static bool run_cases(void)
     right &= run_case("e  all temporal", all_temporal);
     right &= run_case("f  255 start rows", many_start_rows);
     right &= run_case("g  all kinds", all_kinds);
+    right &= run_case("h  all shifts, 4 lead-in rows", after_lead_in);
     return right;
 }
 

@@ -20,13 +20,13 @@ static int below(int n)
 
 /* ---- Plans ---- */
 
-/* Readings from 0 to 9. The start rows are as the last rows of the cycle, so that
-   what looks back from the cycle sees the same on every pass. */
-static void steady_plan(int rows, int start)
+/* Readings from 0 to 9. The lead-in and start rows are as the last rows of the cycle,
+   so that what looks back from the cycle sees the same on every pass. */
+static void steady_plan_after(int lead, int rows, int start)
 {
     int cycle = rows - start;
-    start_plan(&plan, CHANNELS, start, cycle);
-    for (int row = rows - 1; row >= 0; row--)
+    start_plan_with_lead(&plan, CHANNELS, lead, start, cycle);
+    for (int row = rows - 1; row >= -lead; row--)
         for (int channel = 0; channel < CHANNELS; channel++) {
             const uint8_t *later = reading_bytes(&plan, row + cycle, channel);
             if (row < start)
@@ -34,6 +34,11 @@ static void steady_plan(int rows, int start)
             else
                 write_reading(&plan, row, channel, below(10));
         }
+}
+
+static void steady_plan(int rows, int start)
+{
+    steady_plan_after(0, rows, start);
 }
 
 /* Even channels lie above 0 and rise, odd ones lie below 0 and fall. */
@@ -177,6 +182,16 @@ void all_kinds(int parts, int rows)
             write_shifted(part, part % 8 ? LESS : EQUAL);
         else
             write_closing_operator(part, (enum kind)(NOT + part % 10));
+}
+
+/* As all_shifts, but the cycle begins at position 0, and every shift back from its
+   first rows reads the lead-in. */
+void after_lead_in(int parts, int rows)
+{
+    steady_plan_after(MOST_LEAD, rows, 0);
+    begin_rule(parts);
+    for (int part = 0; part < parts; part++)
+        write_shifted(part, part % 2 ? EQUAL : LESS);
 }
 
 /* The shifts of the two sides in another order: nine parts have all of each, and so

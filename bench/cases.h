@@ -25,6 +25,7 @@ builder stepped_over;    /* equalities with a gap that narrows and is never 0 */
 builder all_temporal;    /* two comparisons, and temporal operators over them */
 builder many_start_rows; /* a cycle of one row */
 builder all_kinds;       /* operators of all kinds over a third of comparisons */
+builder after_lead_in;   /* comparisons with all shifts, and 4 lead-in rows */
 
 /* Of one mix throughout, so that few parts have the same as many. */
 builder mixed_comparisons; /* less and equal in turn, with all shifts */

@@ -2,6 +2,9 @@
  * plain.h: what the check in C and the maker in C share: fields, refusals 1 to 6,
  * and comparisons row by row.
  *
+ * The lead-in rows are rows -L to -1, as are their positions: both arrays of a plan
+ * are looked at from row 0 on, and the lead-in rows lie before.
+ *
  * How a comparison is judged on a cycle row. From some pass on each side is a
  * straight line in the pass: a number, and a step for each pass more. That
  * pass is 0 unless a shift reaches back before row P; then it is 4, and the
@@ -20,7 +23,7 @@
 enum {
     LESS = 1, EQUAL, NOT, AND, OR, NEXT, UNTIL, RELEASE, YESTERDAY, WEAK_YESTERDAY, SINCE, TRIGGER
 };
-enum { MOST_CHANNELS = 8, MOST_ROWS = 256, MOST_SHIFT = 4, NO_WITNESS = 65535 };
+enum { MOST_CHANNELS = 8, MOST_ROWS = 256, MOST_LEAD = 4, MOST_SHIFT = 4, NO_WITNESS = 65535 };
 enum { ALWAYS_FALSE, ALWAYS_TRUE, CHANGES };
 
 struct term {
@@ -30,8 +33,8 @@ struct term {
 };
 
 struct plan {
-    const uint8_t *readings, *drifts;
-    int channels, start, cycle, rows;
+    const uint8_t *readings, *drifts; /* of row 0 */
+    int channels, start, cycle, rows, lead;
 };
 
 struct line {
@@ -104,30 +107,35 @@ static inline uint64_t check_rule(const uint8_t *rule, size_t len)
    time. */
 static inline uint64_t check_start_drifts(const struct plan *plan)
 {
-    size_t row_bytes = 4 * (size_t)plan->channels, end = row_bytes * (size_t)plan->start;
+    size_t row_bytes = 4 * (size_t)plan->channels, lead = row_bytes * (size_t)plan->lead;
+    size_t end = lead + row_bytes * (size_t)plan->start;
+    const uint8_t *drifts = plan->drifts - lead;
     uint8_t seen = 0;
     for (size_t i = 0; i < end; i++)
-        seen |= plan->drifts[i];
+        seen |= drifts[i];
     if (seen != 0)
         for (size_t i = 0; i < end; i++)
-            if (plan->drifts[i] != 0)
-                return refuse(6, 0, i / row_bytes);
+            if (drifts[i] != 0)
+                return refuse(6, 0, i < lead ? 0 : (i - lead) / row_bytes);
     return 0;
 }
 
 static inline uint64_t check_plan(const uint8_t *bytes, size_t len, unsigned channels,
                                   struct plan *plan)
 {
-    if (len < 6)
+    if (len < 8)
         return refuse(4, 0, 0);
     unsigned v = get16(bytes), start = get16(bytes + 2), cycle = get16(bytes + 4);
-    unsigned rows = start + cycle;
-    if (v < 1 || v > 8 || cycle < 1 || rows > MOST_ROWS || len != 6 + 8 * (size_t)v * rows)
+    unsigned rows = start + cycle, lead = get16(bytes + 6);
+    if (v < 1 || v > 8 || cycle < 1 || rows > MOST_ROWS || lead > MOST_LEAD ||
+        len != 8 + 8 * (size_t)v * (lead + rows))
         return refuse(4, 0, 0);
     if (v != channels)
         return refuse(5, 0, 0);
-    *plan = (struct plan){ bytes + 6, bytes + 6 + 4 * (size_t)v * rows, (int)v, (int)start,
-                           (int)cycle, (int)rows };
+    const uint8_t *readings = bytes + 8 + 4 * (size_t)v * lead;
+    const uint8_t *drifts = readings + 4 * (size_t)v * (lead + rows);
+    *plan = (struct plan){ readings,   drifts,    (int)v,   (int)start,
+                           (int)cycle, (int)rows, (int)lead };
     return check_start_drifts(plan);
 }
 
@@ -143,8 +151,14 @@ static inline struct term get_term(const uint8_t *at)
     return term;
 }
 
-/* The line of a term on a row: its number at position row + shift, which is 0
-   or more, and the drift of the row that this position is on. */
+/* Where a cell is in the readings and in the drifts: before row 0 for a lead-in row. */
+static inline ptrdiff_t cell_of(const struct plan *plan, int row, int channel)
+{
+    return 4 * ((ptrdiff_t)row * plan->channels + channel);
+}
+
+/* The line of a term at a position: its number at this position plus its shift,
+   which is -L or more, and the drift of the row that it is read on. */
 static inline struct line line_at(const struct plan *plan, const struct term *term, int position)
 {
     if (!term->is_reading)
@@ -155,7 +169,7 @@ static inline struct line line_at(const struct plan *plan, const struct term *te
         pass = (position - plan->start) / plan->cycle;
         row = plan->start + (position - plan->start) % plan->cycle;
     }
-    size_t cell = 4 * ((size_t)row * (size_t)plan->channels + (size_t)term->channel);
+    ptrdiff_t cell = cell_of(plan, row, term->channel);
     int64_t drift = get32(plan->drifts + cell);
     return (struct line){ get32(plan->readings + cell) + pass * drift, drift };
 }
@@ -173,10 +187,18 @@ static inline int reach_back(const struct term *left, const struct term *right)
     return least < 0 ? -least : 0;
 }
 
+/* The first position from 0 on from which no term reaches before position -L. */
+static inline int first_seen(const struct plan *plan, const struct term *left,
+                             const struct term *right)
+{
+    int back = reach_back(left, right);
+    return back > plan->lead ? back - plan->lead : 0;
+}
+
 static inline bool truth_at(const struct plan *plan, int kind, const struct term *left,
                             const struct term *right, int position)
 {
-    if (position < reach_back(left, right))
+    if (position < first_seen(plan, left, right))
         return false;
     return compare(kind, line_at(plan, left, position).number,
                    line_at(plan, right, position).number);

@@ -27,14 +27,11 @@ static void get_lines(const struct plan *plan, const struct term *term, int firs
 {
     int direct = term->is_reading && term->shift > 0 ? plan->rows - term->shift : plan->rows;
     int row = first;
-    if (term->is_reading) {
-        size_t stride = 4 * (size_t)plan->channels;
-        size_t cell = 4 * (size_t)term->channel;
+    if (term->is_reading)
         for (; row < direct; row++) {
-            size_t at = (size_t)(row + term->shift) * stride + cell;
+            ptrdiff_t at = cell_of(plan, row + term->shift, term->channel);
             lines[row] = (struct line){ get32(plan->readings + at), get32(plan->drifts + at) };
         }
-    }
     for (; row < plan->rows; row++)
         lines[row] = line_at(plan, term, row);
 }
@@ -45,9 +42,9 @@ static int make_comparison(const struct plan *plan, int kind, const uint8_t *ope
 {
     struct term left = get_term(operand), right = get_term(operand + 6);
     struct line lefts[MOST_ROWS], rights[MOST_ROWS];
-    int back = reach_back(&left, &right);
+    int back = reach_back(&left, &right), seen = first_seen(plan, &left, &right);
     int row = 0;
-    for (; row < back && row < plan->rows; row++)
+    for (; row < seen && row < plan->rows; row++)
         m[row] = 0;
     get_lines(plan, &left, row, lefts);
     get_lines(plan, &right, row, rights);

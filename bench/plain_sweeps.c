@@ -2,11 +2,12 @@
  * plain_sweeps.c: whole parts held against their marks at once.
  *
  * A comparison is looked at on the positions from 0 to W + back - 1, where back is
- * how far its terms reach back at most. Below P + back the truth at each position
- * must be the mark of its row. From there on each term is a straight line in the
- * pass, and each cycle row comes once: there the truth must be the mark too, and no
- * later pass may change it. All of this is 32-bit arithmetic, as the lanes hold the
- * positions after row W - 1 as well.
+ * how far its terms reach back at most. Where one reaches before the lead-in rows, the
+ * mark must be 0. Below P + back the truth at each position must be the mark of its
+ * row. From there on each term is a straight line in the pass, and each cycle row
+ * comes once: there the truth must be the mark too, and no later pass may change it.
+ * All of this is 32-bit arithmetic, as the lanes hold the positions after row W - 1 as
+ * well.
  */
 #include "plain_sweeps.h"
 
@@ -55,7 +56,7 @@ static void lay_out_numbers(const struct plan *plan, const uint8_t *numbers, int
                             int32_t *to)
 {
     size_t stride = 4 * (size_t)plan->channels;
-    const uint8_t *at = numbers + stride * (size_t)row + 4 * (size_t)channel;
+    const uint8_t *at = numbers + cell_of(plan, row, channel);
     for (; row + 4 <= plan->rows; row += 4, at += 4 * stride) {
         int32_t four[] = { get32(at), get32(at + stride), get32(at + 2 * stride),
                            get32(at + 3 * stride) };
@@ -67,13 +68,14 @@ static void lay_out_numbers(const struct plan *plan, const uint8_t *numbers, int
 
 static void lay_out_after(const struct plan *plan, bool still, struct lane *lane)
 {
+    int32_t *readings = lane->readings + MOST_LEAD, *drifts = lane->drifts + MOST_LEAD;
     for (int k = 0; k < ROWS_AFTER; k++) {
         int row = plan->start + k % plan->cycle, pass = 1 + k / plan->cycle;
-        int32_t drift = still ? 0 : lane->drifts[row];
-        int64_t reading = lane->readings[row] + pass * (int64_t)drift;
+        int32_t drift = still ? 0 : drifts[row];
+        int64_t reading = readings[row] + pass * (int64_t)drift;
         lane->fits &= reading >= INT32_MIN && reading <= INT32_MAX;
-        lane->readings[plan->rows + k] = (int32_t)reading;
-        lane->drifts[plan->rows + k] = drift;
+        readings[plan->rows + k] = (int32_t)reading;
+        drifts[plan->rows + k] = drift;
     }
 }
 
@@ -83,9 +85,9 @@ static const struct lane *get_lane(struct lanes *lanes, int channel)
     struct lane *lane = &lanes->of[channel];
     if (lane->laid_out)
         return lane;
-    lay_out_numbers(plan, plan->readings, channel, 0, lane->readings);
+    lay_out_numbers(plan, plan->readings, channel, -plan->lead, lane->readings + MOST_LEAD);
     if (!lanes->still)
-        lay_out_numbers(plan, plan->drifts, channel, plan->start, lane->drifts);
+        lay_out_numbers(plan, plan->drifts, channel, plan->start, lane->drifts + MOST_LEAD);
     lane->laid_out = true;
     lane->fits = true;
     lay_out_after(plan, lanes->still, lane);
@@ -114,8 +116,8 @@ static bool get_side(struct lanes *lanes, const struct term *term, struct side *
         return true;
     }
     const struct lane *lane = get_lane(lanes, term->channel);
-    side->readings = lane->readings;
-    side->drifts = lane->drifts;
+    side->readings = lane->readings + MOST_LEAD;
+    side->drifts = lane->drifts + MOST_LEAD;
     side->shift = term->shift;
     side->step = 1;
     return lane->fits;
@@ -207,14 +209,14 @@ static bool is_always_as_marked(int kind, const struct stretch *s)
     return BY_STEPS(equal_as_marked, s) && BY_STEPS(never_meet, s);
 }
 
-/* The positions from back to W - 1. */
+/* The positions from the first that is seen to W - 1. */
 static bool rows_are_clear(const struct lanes *lanes, int kind, const struct side *left,
-                           const struct side *right, const uint8_t *m, int back)
+                           const struct side *right, const uint8_t *m, int seen, int back)
 {
     int rows = lanes->plan->rows, lines = lanes->plan->start + back;
     if (lanes->still || lines > rows)
         lines = rows;
-    struct stretch before = get_stretch(left, right, back, m + back, lines - back);
+    struct stretch before = get_stretch(left, right, seen, m + seen, lines - seen);
     struct stretch from = get_stretch(left, right, lines, m + lines, rows - lines);
     return is_as_marked(kind, &before) && is_always_as_marked(kind, &from);
 }
@@ -241,11 +243,13 @@ bool comparison_is_clear(struct lanes *lanes, int kind, const struct term *left,
                          const struct term *right, const uint8_t *m)
 {
     int rows = lanes->plan->rows, back = reach_back(left, right);
+    int seen = first_seen(lanes->plan, left, right);
     struct side x, y;
     if (!left->is_reading && !right->is_reading)
         return all_bytes_are(compare(kind, left->constant, right->constant), m, (size_t)rows);
-    return back <= rows && get_side(lanes, left, &x) && get_side(lanes, right, &y) &&
-           all_bytes_are(0, m, (size_t)back) && rows_are_clear(lanes, kind, &x, &y, m, back) &&
+    return seen <= rows && get_side(lanes, left, &x) && get_side(lanes, right, &y) &&
+           all_bytes_are(0, m, (size_t)seen) &&
+           rows_are_clear(lanes, kind, &x, &y, m, seen, back) &&
            rows_after_are_clear(lanes, kind, &x, &y, m, back);
 }
 

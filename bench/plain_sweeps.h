@@ -17,10 +17,10 @@
 
 /* A comparison is looked at on some positions after row W - 1, and reads ahead of
    them: so many in all. */
-enum { ROWS_AFTER = 2 * MOST_SHIFT, LANE_LONGEST = MOST_ROWS + ROWS_AFTER };
+enum { ROWS_AFTER = 2 * MOST_SHIFT, LANE_LONGEST = MOST_LEAD + MOST_ROWS + ROWS_AFTER };
 
-/* The readings of one channel, and its drifts from row P on, in the order of the
-   positions, from 0 to W + ROWS_AFTER - 1. */
+/* The readings of one channel from row -L on, and its drifts from row P on, in the
+   order of the positions, to W + ROWS_AFTER - 1. That of position 0 is at MOST_LEAD. */
 struct lane {
     bool laid_out;
     bool fits; /* every reading fits 32 bits */

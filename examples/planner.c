@@ -2,25 +2,31 @@
  * planner.c: a small planner that has its mark tables checked, and then has them
  * made.
  *
- * The rule: a pinned count is never averaged until a lower one has come. A
- * count is pinned at 4095, the most that its converter gives. Channel 0 is the
- * count, channel 1 is 1 on rows that are averaged and 0 on others. As parts:
+ * The rule: a pinned count is never averaged until a lower one has come, and
+ * the plan begins on the count that was read last before it. A count is pinned
+ * at 4095, the most that its converter gives. Channel 0 is the count, channel 1
+ * is 1 on rows that are averaged and 0 on others. As parts:
  *
  *   0  count < 4095                     a lower one
  *   1  averaged = 1
  *   2  not 1
  *   3  2 U 0                            not averaged until a lower one
  *   4  1 < 0                            never
- *   5  4 R 3                            part 3, always: the whole rule
+ *   5  4 R 3                            part 3, always
+ *   6  count before = count             the count has stayed
+ *   7  5 and 6                          the whole rule
  *
  * Where the count is lower, part 3 holds at once, so it need not be said apart
- * that it speaks of pinned counts. U also asks that a lower one does come.
+ * that it speaks of pinned counts. U also asks that a lower one does come. Part
+ * 6 compares each row with the one before it. On row 0 that is the lead-in row,
+ * with the count read last before the plan starts; without a lead-in row part 6
+ * is false there.
  *
  * The program writes rule.bin, plan.bin and marks.bin of its first plan into
- * the current folder, has the same bytes checked, and then shows three tables
+ * the current folder, has the same bytes checked, and then shows four tables
  * that are answered otherwise. These marks are the planner's own. A planner
  * that has none needs the rule and the plan only: at the end the program has
- * the tables of the same three plans made. Build and run, from the repository's
+ * the tables of the same four plans made. Build and run, from the repository's
  * root:
  *
  *   cc -std=c11 -Wall -Wextra -o planner examples/planner.c target/staticlib/libendless_run.a
@@ -31,8 +37,8 @@
 #include <stdio.h>
 #include <string.h>
 
-enum { LIMIT = 4095, PARTS = 6, CHANNELS = 2, MOST_ROWS = 8 };
-enum { LOWER, AVERAGED, NOT_AVERAGED, UNTIL_LOWER, NEVER, WHOLE };
+enum { LIMIT = 4095, PARTS = 8, CHANNELS = 2, MOST_ROWS = 8 };
+enum { LOWER, AVERAGED, NOT_AVERAGED, UNTIL_LOWER, NEVER, ALWAYS, STAYED, WHOLE };
 
 /* What the planner decides: rows of counts, some of them averaged. */
 struct row {
@@ -41,14 +47,16 @@ struct row {
 };
 
 struct plan {
-    int start, cycle; /* start rows, then cycle rows */
-    struct row row[MOST_ROWS];
+    int lead, start, cycle;
+    struct row before[ENDLESS_RUN_MOST_LEAD]; /* lead-in rows, the latest last */
+    struct row row[MOST_ROWS];                /* start rows, then cycle rows */
 };
 
-/* A rule, a plan or a mark table, of up to the largest sizes. */
+/* A rule, a plan or a mark table, of up to the largest sizes: no rule and no mark
+   table is longer than the longest plan. */
 struct bytes {
     size_t len;
-    uint8_t at[ENDLESS_RUN_LONGEST_MARKS];
+    uint8_t at[ENDLESS_RUN_LONGEST_PLAN];
 };
 
 /* ---- Writing fields ---- */
@@ -79,10 +87,10 @@ static void put_constant(struct bytes *b, int32_t number)
     put4(b, number);
 }
 
-static void put_channel(struct bytes *b, int channel)
+static void put_channel(struct bytes *b, int channel, int shift)
 {
     put1(b, ENDLESS_RUN_FORM_READING);
-    put1(b, ENDLESS_RUN_NO_SHIFT);
+    put1(b, (unsigned)(ENDLESS_RUN_NO_SHIFT + shift));
     put4(b, channel);
 }
 
@@ -99,26 +107,46 @@ static struct bytes make_rule(void)
     static const uint8_t kinds[PARTS] = {
         [LOWER] = ENDLESS_RUN_KIND_LESS,       [AVERAGED] = ENDLESS_RUN_KIND_EQUAL,
         [NOT_AVERAGED] = ENDLESS_RUN_KIND_NOT, [UNTIL_LOWER] = ENDLESS_RUN_KIND_UNTIL,
-        [NEVER] = ENDLESS_RUN_KIND_LESS,       [WHOLE] = ENDLESS_RUN_KIND_RELEASE,
+        [NEVER] = ENDLESS_RUN_KIND_LESS,       [ALWAYS] = ENDLESS_RUN_KIND_RELEASE,
+        [STAYED] = ENDLESS_RUN_KIND_EQUAL,     [WHOLE] = ENDLESS_RUN_KIND_AND,
     };
     struct bytes b = { 0, { 0 } };
     put2(&b, PARTS);
     put2(&b, CHANNELS);
     for (int part = 0; part < PARTS; part++)
         put1(&b, kinds[part]);
-    put_channel(&b, 0); /* LOWER */
+    put_channel(&b, 0, 0); /* LOWER */
     put_constant(&b, LIMIT);
-    put_channel(&b, 1); /* AVERAGED */
+    put_channel(&b, 1, 0); /* AVERAGED */
     put_constant(&b, 1);
     put_names(&b, AVERAGED, 0); /* NOT_AVERAGED names one part */
     put_names(&b, NOT_AVERAGED, LOWER);
     put_constant(&b, 1); /* NEVER */
     put_constant(&b, 0);
     put_names(&b, NEVER, UNTIL_LOWER);
+    put_channel(&b, 0, -1); /* STAYED */
+    put_channel(&b, 0, 0);
+    put_names(&b, ALWAYS, STAYED);
     return b;
 }
 
 /* ---- The plan ---- */
+
+static void put_readings(struct bytes *b, const struct row *row, int rows)
+{
+    for (int i = 0; i < rows; i++) {
+        put4(b, row[i].count);
+        put4(b, row[i].averaged);
+    }
+}
+
+static void put_drifts(struct bytes *b, const struct row *row, int rows)
+{
+    for (int i = 0; i < rows; i++) {
+        put4(b, row[i].drift);
+        put4(b, 0);
+    }
+}
 
 static struct bytes make_plan(const struct plan *plan)
 {
@@ -127,14 +155,11 @@ static struct bytes make_plan(const struct plan *plan)
     put2(&b, CHANNELS);
     put2(&b, (unsigned)plan->start);
     put2(&b, (unsigned)plan->cycle);
-    for (int i = 0; i < rows; i++) {
-        put4(&b, plan->row[i].count);
-        put4(&b, plan->row[i].averaged);
-    }
-    for (int i = 0; i < rows; i++) {
-        put4(&b, plan->row[i].drift);
-        put4(&b, 0);
-    }
+    put2(&b, (unsigned)plan->lead);
+    put_readings(&b, plan->before, plan->lead);
+    put_readings(&b, plan->row, rows);
+    put_drifts(&b, plan->before, plan->lead);
+    put_drifts(&b, plan->row, rows);
     return b;
 }
 
@@ -145,7 +170,7 @@ static struct bytes make_plan(const struct plan *plan)
 static void sweep(int mark[PARTS][MOST_ROWS], const struct plan *plan)
 {
     int rows = plan->start + plan->cycle;
-    int until = 0, whole = 1; /* U begins with false, R with true */
+    int until = 0, always = 1; /* U begins with false, R with true */
     for (int round = 0; round < 2; round++) {
         for (int i = rows - 1; i >= 0; i--) {
             until = mark[LOWER][i] || (mark[NOT_AVERAGED][i] && until);
@@ -155,11 +180,20 @@ static void sweep(int mark[PARTS][MOST_ROWS], const struct plan *plan)
     }
     for (int round = 0; round < 2; round++) {
         for (int i = rows - 1; i >= 0; i--) {
-            whole = mark[UNTIL_LOWER][i] && (mark[NEVER][i] || whole);
-            mark[WHOLE][i] = whole;
+            always = mark[UNTIL_LOWER][i] && (mark[NEVER][i] || always);
+            mark[ALWAYS][i] = always;
         }
-        whole = mark[WHOLE][plan->start];
+        always = mark[ALWAYS][plan->start];
     }
+}
+
+/* Has the count stayed since the row before? It has not where nothing was read. */
+static int has_stayed(const struct plan *plan, int row)
+{
+    if (row == 0 && plan->lead == 0)
+        return 0;
+    const struct row *before = row == 0 ? &plan->before[plan->lead - 1] : &plan->row[row - 1];
+    return before->count == plan->row[row].count;
 }
 
 /* A cycle row where a part is marked so. */
@@ -181,8 +215,11 @@ static struct bytes own_marks(const struct plan *plan)
         mark[AVERAGED][i] = plan->row[i].averaged == 1;
         mark[NOT_AVERAGED][i] = !mark[AVERAGED][i];
         mark[NEVER][i] = 0;
+        mark[STAYED][i] = has_stayed(plan, i);
     }
     sweep(mark, plan);
+    for (int i = 0; i < rows; i++)
+        mark[WHOLE][i] = mark[ALWAYS][i] && mark[STAYED][i];
 
     put2(&b, PARTS);
     put2(&b, (unsigned)rows);
@@ -192,7 +229,7 @@ static struct bytes own_marks(const struct plan *plan)
     for (int part = 0; part < PARTS; part++)
         if (part == UNTIL_LOWER && mark[part][rows - 1] == 1)
             put2(&b, witness(mark, plan, LOWER, 1));
-        else if (part == WHOLE && mark[part][rows - 1] == 0)
+        else if (part == ALWAYS && mark[part][rows - 1] == 0)
             put2(&b, witness(mark, plan, UNTIL_LOWER, 0));
         else
             put2(&b, ENDLESS_RUN_NO_WITNESS);
@@ -243,12 +280,23 @@ static int write_file(const char *name, const struct bytes *b)
 
 /* ---- The plans ---- */
 
-/* One start row, then a cycle of four: pinned twice, lower, lower. */
+/* One row read before the start. One start row, then a cycle of four: pinned twice,
+   lower, lower. */
 static const struct plan patient = {
-    1, 4, { { 3000, 1, 0 }, { 4095, 0, 0 }, { 4095, 0, 0 }, { 3900, 1, 0 }, { 3800, 1, 0 } }
+    1, 1, 4,
+    { { 3000, 0, 0 } },
+    { { 3000, 1, 0 }, { 4095, 0, 0 }, { 4095, 0, 0 }, { 3900, 1, 0 }, { 3800, 1, 0 } }
 };
 
-/* The same, but row 2 averages a pinned count; the same, but row 3 drifts. */
+/* The same, but with nothing read before the start; the same, but row 2 averages a
+   pinned count; the same, but row 3 drifts. */
+static struct plan unled(void)
+{
+    struct plan plan = patient;
+    plan.lead = 0;
+    return plan;
+}
+
 static struct plan hasty(void)
 {
     struct plan plan = patient;
@@ -279,8 +327,14 @@ static int check_own_marks(const struct bytes *rule)
     marks.at[4 + 5 * LOWER + 1] = 1;
     check(rule, &plan, &marks);
 
+    printf("As the first, but with no lead-in row, with right marks:\n");
+    struct plan next = unled();
+    plan = make_plan(&next);
+    marks = own_marks(&next);
+    check(rule, &plan, &marks);
+
     printf("Averages a pinned count on row 2, with right marks:\n");
-    struct plan next = hasty();
+    next = hasty();
     plan = make_plan(&next);
     marks = own_marks(&next);
     check(rule, &plan, &marks);
@@ -301,9 +355,10 @@ static int check_own_marks(const struct bytes *rule)
    is accepted is promised, and the check here only shows it. */
 static void have_marks_made(const struct bytes *rule)
 {
-    static const char *const names[] = { "the first plan", "the hasty plan", "the rising plan" };
-    const struct plan plans[] = { patient, hasty(), rising() };
-    for (int i = 0; i < 3; i++) {
+    static const char *const names[] = { "the first plan", "the plan with no lead-in row",
+                                         "the hasty plan", "the rising plan" };
+    const struct plan plans[] = { patient, unled(), hasty(), rising() };
+    for (int i = 0; i < 4; i++) {
         struct bytes plan = make_plan(&plans[i]), own = own_marks(&plans[i]), made;
         printf("No marks of its own, %s:\n", names[i]);
         if (!have_made(rule, &plan, plans[i].start + plans[i].cycle, &made))

@@ -5,8 +5,10 @@
  * of linear temporal logic over comparisons of readings (CLTLB over the
  * integers with < and =). A plan is a finite description of an endless run:
  * start rows, then cycle rows that come again for ever, where each coming
- * again ("pass") adds a drift to every reading. A mark table claims the truth
- * of every part of the rule on every row of the plan.
+ * again ("pass") adds a drift to every reading. It may have lead-in rows as
+ * well: readings taken before the run begins, for comparisons that look back.
+ * A mark table claims the truth of every part of the rule on every row of the
+ * plan, from the run's beginning on.
  *
  * endless_run_check() tells whether a mark table is right, on the whole of the
  * endless run. endless_run_judge() tells whether one comparison of the rule
@@ -24,19 +26,27 @@
  *          operands         N times 12 bytes
  *          length           4 + 13 * N
  *
- *   plan   V, P, C          2 bytes each: channels (1 to 8), start rows (0 or
- *                           more), cycle rows (1 or more); the number of rows
- *                           W = P + C is at most 256
- *          readings         W * V signed 4-byte numbers, row after row
- *          drifts           W * V signed 4-byte numbers, 0 in start rows
- *          length           6 + 8 * V * W
+ *   plan   V, P, C, L       2 bytes each: channels (1 to 8), start rows (0 or
+ *                           more), cycle rows (1 or more), lead-in rows (0 to
+ *                           4); the number of rows W = P + C, which does not
+ *                           count L, is at most 256
+ *          readings         (L + W) * V signed 4-byte numbers, row after row:
+ *                           the L lead-in rows, then rows 0 to W - 1
+ *          drifts           (L + W) * V signed 4-byte numbers, in the same
+ *                           order, 0 in lead-in rows and start rows
+ *          length           8 + 8 * V * (L + W)
  *
  *   marks  N, W             2 bytes each: as in the rule and in the plan
  *          marks            N * W bytes, part after part: 1 true, 0 false
  *          witnesses        N times 2 bytes: a row, or 65535 for none
  *          length           4 + N * W + 2 * N
  *
- * Parts and rows are numbered from 0. The last part is the whole rule.
+ * Parts and rows are numbered from 0. The last part is the whole rule. Row 0
+ * is position 0 of the run. The lead-in rows lie before it, at positions -L to
+ * -1 in this order, so that the last of them comes just before row 0. Shifted
+ * terms read them; Y, Z, S and T begin at position 0 and look no further back.
+ * Lead-in rows have no number: marks, witnesses, judge and refusals speak of
+ * rows 0 to W - 1.
  *
  *
  * WHAT HOLDS FOR ALL THREE FUNCTIONS
@@ -61,7 +71,7 @@
  * same time, also on the same bytes, as long as nobody writes to them during a
  * call. So each call of endless_run_make() needs a buffer of its own.
  *
- * Time. Every call returns. The time is bounded by the sizes N, V and W, and
+ * Time. Every call returns. The time is bounded by the sizes N, V, L and W, and
  * does not grow with the pass on which a comparison changes.
  *
  * Platform. The library is compiled for x86-64 Linux, with the usual calling
@@ -92,7 +102,7 @@ extern "C" {
  * declared here. It is raised by 1 with each change of a layout, of the meaning
  * of an answer or of the interface that a caller could notice.
  */
-#define ENDLESS_RUN_VERSION 2
+#define ENDLESS_RUN_VERSION 3
 
 /* The kind byte of a part. The comments give its operand: two terms, one part,
    or two parts a and b in this order. */
@@ -124,22 +134,25 @@ enum endless_run_form {
 /* The witness of a part that is asked for none. */
 #define ENDLESS_RUN_NO_WITNESS 65535
 
-/* The largest sizes: N, V, and W = P + C. */
+/* The largest sizes: N, V, L, and W = P + C. */
 #define ENDLESS_RUN_MOST_PARTS 64
 #define ENDLESS_RUN_MOST_CHANNELS 8
+#define ENDLESS_RUN_MOST_LEAD 4
 #define ENDLESS_RUN_MOST_ROWS 256
 
 /* The length in bytes, of type size_t, that a rule, a plan or a mark table has
-   by its sizes N, V and W = P + C. A constant expression where the sizes are.
+   by its sizes N, V, L and W = P + C. A constant expression where the sizes are.
    Each size is evaluated once, and is not held against its range. */
 #define ENDLESS_RUN_RULE_LENGTH(parts) (4 + 13 * (size_t)(parts))
-#define ENDLESS_RUN_PLAN_LENGTH(channels, rows) (6 + 8 * (size_t)(channels) * (size_t)(rows))
+#define ENDLESS_RUN_PLAN_LENGTH(channels, lead, rows) \
+    (8 + 8 * (size_t)(channels) * ((size_t)(lead) + (size_t)(rows)))
 #define ENDLESS_RUN_MARKS_LENGTH(parts, rows) (4 + (size_t)(parts) * ((size_t)(rows) + 2))
 
-/* The largest lengths in bytes: 836, 16390 and 16516. A longer rule, plan, mark
+/* The largest lengths in bytes: 836, 16648 and 16516. A longer rule, plan, mark
    table or buffer for one is always refused. */
 #define ENDLESS_RUN_LONGEST_RULE (4 + 13 * ENDLESS_RUN_MOST_PARTS)
-#define ENDLESS_RUN_LONGEST_PLAN (6 + 8 * ENDLESS_RUN_MOST_CHANNELS * ENDLESS_RUN_MOST_ROWS)
+#define ENDLESS_RUN_LONGEST_PLAN \
+    (8 + 8 * ENDLESS_RUN_MOST_CHANNELS * (ENDLESS_RUN_MOST_LEAD + ENDLESS_RUN_MOST_ROWS))
 #define ENDLESS_RUN_LONGEST_MARKS \
     (4 + ENDLESS_RUN_MOST_PARTS * ENDLESS_RUN_MOST_ROWS + 2 * ENDLESS_RUN_MOST_PARTS)
 
@@ -167,14 +180,16 @@ enum endless_run_refusal {
        the lowest such part. */
     ENDLESS_RUN_OPERAND = 3,
 
-    /* The plan has fewer than 6 bytes, V, C or W is outside its range, or the
-       length is not the one that its sizes give. */
+    /* The plan has fewer than 8 bytes, V, C, L or W is outside its range, or
+       the length is not the one that its sizes give. */
     ENDLESS_RUN_PLAN_SIZES = 4,
 
     /* The plan's V differs from the rule's. */
     ENDLESS_RUN_CHANNELS = 5,
 
-    /* A start row has a drift other than 0. Row: the lowest such row. */
+    /* A lead-in row or a start row has a drift other than 0. Row: 0 if a
+       lead-in row has one, whatever the start rows have; else the lowest such
+       start row. So row 0 may also stand for a lead-in row. */
     ENDLESS_RUN_START_DRIFT = 6,
 
     /* The mark table has fewer than 4 bytes, another N than the rule, another
@@ -273,7 +288,10 @@ uint64_t endless_run_check(const uint8_t *rule, size_t rule_len,
  *
  * A start row comes once, so there the answer is never "changes". Readings are
  * whole numbers without limit: they never wrap, on however late a pass. Where
- * a shifted reading lies before position 0 the comparison is false.
+ * a shifted reading lies before position 0 it is that of a lead-in row, and
+ * where it lies before position -L, before all lead-in rows, the comparison is
+ * false. A lead-in row cannot be judged: row W and every row above is absent,
+ * however many lead-in rows the plan has.
  */
 uint64_t endless_run_judge(const uint8_t *rule, size_t rule_len,
                            const uint8_t *plan, size_t plan_len,
@@ -375,7 +393,7 @@ static inline const char *endless_run_refusal_message(unsigned number)
     case ENDLESS_RUN_CHANNELS:
         return "the plan's number of channels is not the rule's";
     case ENDLESS_RUN_START_DRIFT:
-        return "a start row of the plan has a drift";
+        return "a lead-in or start row of the plan has a drift";
     case ENDLESS_RUN_MARK_SIZES:
         return "the mark table's sizes or its length are wrong";
     case ENDLESS_RUN_MARK_BYTE:

@@ -3,10 +3,13 @@
  *
  *   corpus FOLDER
  *
- * One input for each worked example. For each kind of part and some sizes of plan
- * the true table of a rule with all kinds up to that one. For Y, Z, S and T the
- * true table on each plan of three rows of 0 and 1, whether it closes or not, and
- * the same with a part above that does not name it.
+ * One input for each worked example. For each kind of part and some sizes of plan,
+ * with and without lead-in rows, the true table of a rule with all kinds up to that
+ * one. For Y, Z, S and T the true table on each plan of three rows of 0 and 1, whether
+ * it closes or not, and the same with a part above that does not name it. For each L
+ * and each shift back the true table of comparisons that look back, on a lead-in that
+ * goes on as the cycle does, on one that does not, and on one that has a drift; and
+ * plans with a wrong L.
  */
 #include "../support/examples.h"
 
@@ -69,29 +72,73 @@ static void all_kinds(enum kind last)
     }
 }
 
-static void steady_plan(int start, int cycle)
+/* The lead-in and start rows have the readings of the first pass of the cycle. */
+static void steady_plan(int lead, int start, int cycle)
 {
-    start_plan(&plan, 2, start, cycle);
-    for (int row = 0; row < start + cycle; row++) {
-        write_reading(&plan, row, 0, (row + cycle - start % cycle) % cycle % 2 ? 6 : 5);
-        write_reading(&plan, row, 1, (row + cycle - start % cycle) % cycle == 0 ? 30 : 20);
+    start_plan_with_lead(&plan, 2, lead, start, cycle);
+    for (int row = -lead; row < start + cycle; row++) {
+        int of_cycle = ((row - start) % cycle + cycle) % cycle;
+        write_reading(&plan, row, 0, of_cycle % 2 ? 6 : 5);
+        write_reading(&plan, row, 1, of_cycle == 0 ? 30 : 20);
         if (row >= start)
-            write_drift(&plan, row, 1, (row - start) % cycle == 0 ? 3 : -2);
+            write_drift(&plan, row, 1, of_cycle == 0 ? 3 : -2);
     }
 }
 
 static void write_kinds(void)
 {
-    static const int sizes[][2] = { { 0, 1 }, { 0, 2 }, { 2, 2 }, { 4, 4 }, { 7, 1 }, { 1, 5 } };
+    static const int sizes[][3] = { { 0, 0, 1 }, { 0, 0, 2 }, { 0, 2, 2 }, { 0, 4, 4 },
+                                    { 0, 7, 1 }, { 0, 1, 5 }, { 1, 0, 2 }, { 2, 1, 3 },
+                                    { 3, 2, 2 }, { 4, 0, 1 } };
     char name[64];
     for (int kind = LESS; kind <= TRIGGER; kind++)
-        for (int i = 0; i < 6; i++) {
+        for (int i = 0; i < 10; i++) {
             all_kinds((enum kind)kind);
-            steady_plan(sizes[i][0], sizes[i][1]);
+            steady_plan(sizes[i][0], sizes[i][1], sizes[i][2]);
             write_true_marks_of(&marks, &space, &rule, &plan);
             snprintf(name, sizeof name, "kinds-%d-plan-%d", kind, i);
-            write_input(name, (unsigned)kind % 2, (unsigned)sizes[i][0]);
+            write_input(name, (unsigned)kind % 2, (unsigned)sizes[i][1]);
         }
+}
+
+/* Comparisons with a shift back, and an operator over them, on a plan that begins
+   with its cycle or with start rows. */
+static void write_looking_back(int lead, int start, int shift)
+{
+    char name[64];
+    start_rule(&rule, 3, 2);
+    write_comparison(&rule, 0, LESS, reading(0, shift), reading(1, 0));
+    write_comparison(&rule, 1, EQUAL, constant(5), reading(0, shift));
+    write_binary(&rule, 2, SINCE, 0, 1);
+    steady_plan(lead, start, 2);
+    write_true_marks_of(&marks, &space, &rule, &plan);
+    snprintf(name, sizeof name, "back-%d-lead-%d-start-%d", -shift, lead, start);
+    write_input(name, 1, 0);
+    if (lead == 0)
+        return;
+    write_reading(&plan, -1, 0, 7);
+    write_true_marks_of(&marks, &space, &rule, &plan);
+    snprintf(name, sizeof name, "back-%d-lead-%d-start-%d-other", -shift, lead, start);
+    write_input(name, 1, 0);
+    write_drift(&plan, -lead, 1, 1);
+    snprintf(name, sizeof name, "back-%d-lead-%d-start-%d-drift", -shift, lead, start);
+    write_input(name, 1, 0);
+}
+
+/* Too many lead-in rows in a plan of the length for them, and an L whose low byte
+   alone is right. */
+static void write_wrong_leads(void)
+{
+    static const unsigned said[] = { 5, 256, 65535 };
+    char name[64];
+    all_kinds(EQUAL);
+    for (int i = 0; i < 3; i++) {
+        steady_plan(i == 0 ? 5 : 0, 1, 1);
+        put2(plan.at + 6, said[i]);
+        start_marks(&marks, 2, 2);
+        snprintf(name, sizeof name, "lead-%u", said[i]);
+        write_input(name, 0, 0);
+    }
 }
 
 /* A part of this kind over x = 1 and y = 1, on rows that the bits give, as the last
@@ -122,6 +169,11 @@ int main(int argc, char **argv)
     folder = argv[1];
     write_examples();
     write_kinds();
+    for (int lead = 0; lead <= MOST_LEAD; lead++)
+        for (int start = 0; start < 4; start++)
+            for (int shift = -4; shift <= -1; shift++)
+                write_looking_back(lead, start, shift);
+    write_wrong_leads();
     for (int kind = YESTERDAY; kind <= TRIGGER; kind++)
         for (int start = 0; start < 3; start++)
             for (int bits = 0; bits < 64; bits++) {

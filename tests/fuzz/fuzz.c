@@ -58,7 +58,7 @@ static struct question cut(const uint8_t *data, size_t len)
 /* Few enough parts and rows for the second evaluator to be quick. */
 static bool is_cheap(const struct question *q)
 {
-    if (q->rule.len < 4 || q->plan.len < 6)
+    if (q->rule.len < 4 || q->plan.len < 8)
         return true;
     unsigned rows = field2(q->plan.at + 2) + field2(q->plan.at + 4);
     return rows > MOST_ROWS || field2(q->rule.at) * rows <= MOST_CELLS;
@@ -164,7 +164,7 @@ static void try_make(const struct question *q, size_t len)
    and right. */
 static size_t right_length(const struct question *q)
 {
-    if (q->rule.len < 4 || q->plan.len < 6)
+    if (q->rule.len < 4 || q->plan.len < 8)
         return 0;
     unsigned parts = field2(q->rule.at), rows = field2(q->plan.at + 2) + field2(q->plan.at + 4);
     return parts > MOST_PARTS || rows > MOST_ROWS ? 0 : table_length((int)parts, (int)rows);

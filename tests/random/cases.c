@@ -5,8 +5,6 @@
 
 #include "dice.h"
 
-#include <string.h>
-
 struct sheet case_rule, case_plan, case_marks;
 struct truth case_truth;
 const char *const kind_names[TRIGGER + 1] = { "",  "less", "equal", "not", "and", "or", "X",
@@ -66,47 +64,74 @@ static int32_t some_drift(enum plan_style style, int channel, int32_t of_plan, i
     }
 }
 
-/* In a steady plan the start rows are as if the cycle had come before. */
-static void steady_start(int channels, int start, int cycle)
+/* What the rows before the cycle are like: as they come; or as if the cycle had come
+   before, with the readings of its first pass, or with those of passes before it. */
+enum before_style { ANY_BEFORE, SAME_BEFORE, DRIFTED_BEFORE };
+
+static enum before_style some_before(enum plan_style style)
 {
-    for (int row = start - 1; row >= 0; row--)
-        for (int channel = 0; channel < channels; channel++)
-            memcpy(reading_bytes(&case_plan, row, channel),
-                   reading_bytes(&case_plan, row + cycle, channel), 4);
+    if (style == STEADY)
+        return SAME_BEFORE;
+    if (style == STILL || chance(40))
+        return ANY_BEFORE;
+    return chance(50) ? SAME_BEFORE : DRIFTED_BEFORE;
 }
 
-static void make_plan(enum plan_style style, int channels, int start, int cycle)
+/* The start rows and the lead-in rows, each from the cycle row that lies some cycles
+   later. */
+static void write_rows_before(enum before_style style)
+{
+    const struct plan *p = &case_truth.plan;
+    int last = p->rows - 1;
+    for (int row = p->start - 1; row >= -p->lead; row--) {
+        int cycles = (last - row) / p->cycle, of_cycle = row + cycles * p->cycle;
+        for (int channel = 0; channel < p->channels; channel++) {
+            int64_t drift = style == DRIFTED_BEFORE ? p->drift[of_cycle][channel] : 0;
+            write_reading(&case_plan, row, channel,
+                          clamp(p->reading[of_cycle][channel] - cycles * drift));
+        }
+    }
+}
+
+static void make_plan(enum plan_style style, int channels, int lead, int start, int cycle)
 {
     int32_t of_plan = between(-3, 3);
-    start_plan(&case_plan, channels, start, cycle);
+    start_plan_with_lead(&case_plan, channels, lead, start, cycle);
     for (int channel = 0; channel < channels; channel++) {
         int32_t of_channel = style == EXTREME ? extreme_drift() : between(-3, 3);
-        for (int row = 0; row < start + cycle; row++) {
+        for (int row = -lead; row < start + cycle; row++) {
             write_reading(&case_plan, row, channel, some_reading(style, channel));
             if (row >= start)
                 write_drift(&case_plan, row, channel,
                             some_drift(style, channel, of_plan, of_channel));
         }
     }
-    if (style == STEADY || (style != STILL && chance(30)))
-        steady_start(channels, start, cycle);
     decode_plan(slice_of(&case_plan), channels, &case_truth.plan);
+    enum before_style before = some_before(style);
+    if (before != ANY_BEFORE) {
+        write_rows_before(before);
+        decode_plan(slice_of(&case_plan), channels, &case_truth.plan);
+    }
 }
 
 void make_still_plan(int channels)
 {
-    make_plan(STILL, channels, case_truth.plan.start, case_truth.plan.cycle);
+    const struct plan *p = &case_truth.plan;
+    make_plan(STILL, channels, p->lead, p->start, p->cycle);
 }
 
 /* ---- Rules ---- */
 
-/* A constant: some reading of the plan on an early pass, or one beside it. */
+/* A constant: some reading of the plan on an early pass or in the lead-in, or one
+   beside it. */
 static struct term some_constant(void)
 {
     const struct plan *p = &case_truth.plan;
     int row = below(p->rows), channel = below(p->channels);
     int64_t pass = row < p->start ? 0 : chance(50) ? below(3) : below(40);
     int64_t number = p->reading[row][channel] + pass * p->drift[row][channel];
+    if (p->lead > 0 && chance(20))
+        number = p->lead_in[below(p->lead)][channel];
     if (chance(3))
         return constant(extreme_number());
     return constant(clamp(number + between(-1, 1)));
@@ -117,13 +142,14 @@ static struct term some_term(int shifted_percent)
     if (chance(30))
         return some_constant();
     int channel = below(case_truth.plan.channels);
-    return reading(channel, chance(shifted_percent) ? between(-4, 4) : 0);
+    int least = -4, most = case_truth.plan.lead > 0 && chance(40) ? -1 : 4;
+    return reading(channel, chance(shifted_percent) ? between(least, most) : 0);
 }
 
 struct formula some_comparison(void)
 {
     struct formula f = { .kind = chance(50) ? LESS : EQUAL };
-    int shifted_percent = chance(50) ? 0 : 70;
+    int shifted_percent = chance(case_truth.plan.lead > 0 ? 30 : 50) ? 0 : 70;
     f.left = some_term(shifted_percent);
     f.right = chance(50) ? some_constant() : some_term(shifted_percent);
     if (chance(8)) {
@@ -265,9 +291,11 @@ static void some_rows(int *start, int *cycle)
 
 void make_case(void)
 {
-    int start, cycle, parts = some_parts();
+    int start, cycle, parts = some_parts(), lead = chance(40) ? 0 : between(1, 4);
     int channels = chance(80) ? between(1, 3) : between(1, 8);
     some_rows(&start, &cycle);
+    if (lead > 0 && start > 1 && chance(30))
+        start = below(2); /* so that cycle rows look back to the lead-in */
     if (chance(1)) {
         parts = 64;
         channels = 8;
@@ -278,7 +306,7 @@ void make_case(void)
     int open = chance(60) ? parts : chance(20) ? -1 : between(parts / 2, parts - 1);
     if (open >= 2 && open < parts && chance(70))
         style = STILL; /* where comparisons close, and S and T over them may not */
-    make_plan(style, channels, start, cycle);
+    make_plan(style, channels, lead, start, cycle);
     make_rule(parts, open);
     make_table();
 }

@@ -15,7 +15,8 @@ static struct sheet rule, plan, marks;
 /* Part 2 of a rule whose part 0 is x < 5 and whose part 1 is y = 7, on a plan of
    five start rows and one cycle row. It closes whatever its kind, and no two
    kinds have the same marks. */
-enum { PARTS = 3, CHANNELS = 2, START = 5, CYCLE = 1, ROWS = START + CYCLE, OPERATORS = 10 };
+enum { PARTS = 3, CHANNELS = 2, LEAD = 1, START = 5, CYCLE = 1, ROWS = START + CYCLE };
+enum { OPERATORS = 10 };
 static const int32_t x[ROWS] = { 9, 9, 1, 9, 1, 1 }, y[ROWS] = { 7, 0, 0, 7, 7, 0 };
 static const char *const less_marks = "001011", *const equal_marks = "100110";
 
@@ -65,13 +66,18 @@ static void put_operator(const struct operator *o)
         put2(operand_bytes(&rule, 2) + 2, 1);
 }
 
-static void put_readings(void)
+static void put_readings_after(int lead)
 {
-    start_plan(&plan, CHANNELS, START, CYCLE);
+    start_plan_with_lead(&plan, CHANNELS, lead, START, CYCLE);
     for (int row = 0; row < ROWS; row++) {
         write_reading(&plan, row, 0, x[row]);
         write_reading(&plan, row, 1, y[row]);
     }
+}
+
+static void put_readings(void)
+{
+    put_readings_after(0);
 }
 
 static void put_marks(int part, const char *of_rows, unsigned witness)
@@ -111,18 +117,29 @@ static void kinds(void)
 
 /* ---- Shifts and findings ---- */
 
-/* x < 5 read one position back, judged on each row: before the run on row 0. */
+static int finding_on(int row)
+{
+    return endless_run_finding(
+        endless_run_judge(rule.at, rule.len, plan.at, plan.len, 0, (uint64_t)row));
+}
+
+/* x < 5 read one position back, judged on each row: before the run on row 0. With a
+   lead-in row its reading decides there. */
 static void shifts(void)
 {
     static const int shifted[ROWS] = { 0, 0, 0, 1, 0, 1 };
-    put_readings();
     start_rule(&rule, 1, CHANNELS);
     put_comparison(0, ENDLESS_RUN_KIND_LESS, 0, -1, 5);
-    for (int row = 0; row < ROWS; row++) {
-        uint64_t answer =
-            endless_run_judge(rule.at, rule.len, plan.at, plan.len, 0, (uint64_t)row);
-        expect("finding on a row", endless_run_finding(answer) == shifted[row]);
+    for (int lead_in = 5; lead_in >= 4; lead_in--) {
+        put_readings_after(LEAD);
+        write_reading(&plan, -1, 0, lead_in);
+        for (int row = 0; row < ROWS; row++)
+            expect("finding on a row after a lead-in row",
+                   finding_on(row) == (row == 0 ? lead_in < 5 : shifted[row]));
     }
+    put_readings();
+    for (int row = 0; row < ROWS; row++)
+        expect("finding on a row", finding_on(row) == shifted[row]);
     write_drift(&plan, ROWS - 1, 0, 1);
     uint64_t changes = endless_run_judge(rule.at, rule.len, plan.at, plan.len, 0, ROWS - 1);
     expect("finding: changes", endless_run_finding(changes) == ENDLESS_RUN_CHANGES);
@@ -136,10 +153,10 @@ static void shifts(void)
 
 /* ---- Sizes and lengths ---- */
 
-static void start_all(int parts, int channels, int rows)
+static void start_all(int parts, int channels, int lead, int rows)
 {
     start_rule(&rule, parts, channels);
-    start_plan(&plan, channels, 0, rows);
+    start_plan_with_lead(&plan, channels, lead, 0, rows);
     start_marks(&marks, parts, rows);
 }
 
@@ -148,27 +165,32 @@ static void start_all(int parts, int channels, int rows)
 static void largest(void)
 {
     static const int parts = ENDLESS_RUN_MOST_PARTS, channels = ENDLESS_RUN_MOST_CHANNELS;
-    static const int rows = ENDLESS_RUN_MOST_ROWS;
-    start_all(parts, channels, rows);
+    static const int lead = ENDLESS_RUN_MOST_LEAD, rows = ENDLESS_RUN_MOST_ROWS;
+    start_all(parts, channels, lead, rows);
     expect("longest rule", rule.len == ENDLESS_RUN_LONGEST_RULE);
     expect("longest plan", plan.len == ENDLESS_RUN_LONGEST_PLAN);
     expect("longest marks", marks.len == ENDLESS_RUN_LONGEST_MARKS);
     expect_check("largest sizes", &rule, &plan, &marks, 0);
-    start_all(parts + 1, channels, rows);
+    start_all(parts + 1, channels, lead, rows);
     expect_check("one part more", &rule, &plan, &marks, refusal(1, 0, 0));
-    start_all(parts, channels + 1, rows);
+    start_all(parts, channels + 1, lead, rows);
     expect_check("one channel more", &rule, &plan, &marks, refusal(1, 0, 0));
-    start_all(parts, channels, rows + 1);
+    start_all(parts, channels, lead, rows + 1);
     expect_check("one row more", &rule, &plan, &marks, refusal(4, 0, 0));
+    start_all(parts, channels, lead + 1, rows);
+    expect_check("one lead-in row more", &rule, &plan, &marks, refusal(4, 0, 0));
+    start_all(parts, channels, lead + 1, 1);
+    expect_check("one lead-in row more, one row", &rule, &plan, &marks, refusal(4, 0, 0));
 }
 
-static void length_off_by(int more)
+static void length_off_by(int lead, int more)
 {
     int rows = ROWS;
-    start_all(PARTS, CHANNELS, ROWS);
+    start_all(PARTS, CHANNELS, lead, ROWS);
     resize(&marks, ENDLESS_RUN_MARKS_LENGTH(1 + 2, rows > 0 ? rows : 1) + (size_t)more);
     expect_check("length of marks", &rule, &plan, &marks, more ? refusal(7, 0, 0) : 0);
-    resize(&plan, ENDLESS_RUN_PLAN_LENGTH(1 + 1, START + CYCLE) + (size_t)more);
+    size_t of_plan = ENDLESS_RUN_PLAN_LENGTH(1 + 1, lead > 0 ? lead : 0, START + CYCLE);
+    resize(&plan, of_plan + (size_t)more);
     expect_check("length of a plan", &rule, &plan, &marks, more ? refusal(4, 0, 0) : 0);
     resize(&rule, ENDLESS_RUN_RULE_LENGTH(1 + 2) + (size_t)more);
     expect_check("length of a rule", &rule, &plan, &marks, more ? refusal(1, 0, 0) : 0);
@@ -176,14 +198,15 @@ static void length_off_by(int more)
 
 static void evaluated_once(void)
 {
-    int parts = PARTS, channels = CHANNELS, rows = ROWS;
+    int parts = PARTS, channels = CHANNELS, lead = LEAD, rows = ROWS;
     size_t of_rule = ENDLESS_RUN_RULE_LENGTH(parts++);
-    size_t of_plan = ENDLESS_RUN_PLAN_LENGTH(channels++, rows++);
+    size_t of_plan = ENDLESS_RUN_PLAN_LENGTH(channels++, lead++, rows++);
     size_t of_marks = ENDLESS_RUN_MARKS_LENGTH(parts++, rows++);
-    expect("each size of a length is evaluated once",
-           parts == PARTS + 2 && channels == CHANNELS + 1 && rows == ROWS + 2);
+    expect("each size of a length is evaluated once", parts == PARTS + 2 &&
+                                                          channels == CHANNELS + 1 &&
+                                                          lead == LEAD + 1 && rows == ROWS + 2);
     expect("lengths of sizes counted up", of_rule == ENDLESS_RUN_RULE_LENGTH(PARTS) &&
-                                       of_plan == ENDLESS_RUN_PLAN_LENGTH(CHANNELS, ROWS) &&
+                                       of_plan == ENDLESS_RUN_PLAN_LENGTH(CHANNELS, LEAD, ROWS) &&
                                        of_marks == ENDLESS_RUN_MARKS_LENGTH(PARTS + 1, ROWS + 1));
 }
 
@@ -191,9 +214,11 @@ static void sizes(void)
 {
     largest();
     evaluated_once();
-    length_off_by(0);
-    length_off_by(1);
-    length_off_by(-1);
+    for (int lead = 0; lead <= ENDLESS_RUN_MOST_LEAD; lead++) {
+        length_off_by(lead, 0);
+        length_off_by(lead, 1);
+        length_off_by(lead, -1);
+    }
 }
 
 /* ---- Make ---- */
@@ -228,7 +253,7 @@ static void maker(void)
 /* A word of each refusal's text. */
 enum { REFUSALS = 14 };
 static const char *const words[REFUSALS + 1] = {
-    "",           "rule's",    "kind",     "operand", "plan's",  "channels",   "start row",
+    "",           "rule's",    "kind",     "operand", "plan's",  "channels",   "lead-in or start",
     "mark table", "mark byte", "equation", "passes",  "witness", "comparison", "buffer",
     "no mark table",
 };

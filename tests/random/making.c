@@ -119,13 +119,19 @@ static void lengths(void)
     length_that_wraps(19);
 
     start_rule(&rule, 64, 8);
-    start_plan(&plan, 8, 255, 1);
+    start_plan_with_lead(&plan, 8, 4, 255, 1);
     make_in("largest sizes", ENDLESS_RUN_LONGEST_MARKS, 0);
     other_lengths("other length, largest sizes", ENDLESS_RUN_LONGEST_MARKS);
+    start_plan(&plan, 8, 255, 1);
+    make_in("largest sizes but L", ENDLESS_RUN_LONGEST_MARKS, 0);
     start_rule(&rule, 1, 1);
     start_plan(&plan, 1, 0, 1);
     make_in("smallest sizes", 7, 0);
     other_lengths("other length, smallest sizes", 7);
+    start_plan_with_lead(&plan, 1, 4, 0, 1);
+    make_in("one row and four lead-in rows", 7, 0);
+    other_lengths("other length, lead-in rows have no marks", 7);
+    make_in("room for marks of lead-in rows", 11, refusal(13, 0, 0));
 }
 
 /* ---- Witnesses ---- */
@@ -255,7 +261,7 @@ static void order(void)
     right_rule = rule;
     right_plan = plan;
     resize(&rule, 3);
-    resize(&plan, 5);
+    resize(&plan, 7);
     make_in(name, 18, refusal(1, 0, 0));
     rule = right_rule;
     *kind_byte(&rule, 2) = 0;
@@ -265,9 +271,12 @@ static void order(void)
     make_in(name, 18, refusal(3, 1, 0));
     rule = right_rule;
     make_in(name, 18, refusal(4, 0, 0));
-    start_plan(&plan, 1, 1, 2);
-    write_drift(&plan, 0, 0, 1);
+    start_plan_with_lead(&plan, 1, 2, 1, 2);
+    write_drift(&plan, -2, 0, 1);
     make_in(name, 18, refusal(5, 0, 0));
+    start_plan_with_lead(&plan, 2, 2, 1, 2);
+    write_drift(&plan, -2, 0, 1);
+    make_in(name, 18, refusal(6, 0, 0));
     plan = right_plan;
     write_drift(&plan, 0, 0, 1);
     make_in(name, 18, refusal(6, 0, 0));

@@ -8,6 +8,8 @@
  */
 #include "expect.h"
 
+#include <string.h>
+
 static struct sheet rule, plan, marks;
 
 /* ---- The base ---- */
@@ -268,33 +270,44 @@ static void operands(void)
 
 /* ---- Refusal 4 ---- */
 
-static void accept_plan_of(const char *name, int channels, int start, int cycle)
+static void accept_plan_with_lead(const char *name, int channels, int lead, int start, int cycle)
 {
     start_rule(&rule, 1, channels);
-    start_plan(&plan, channels, start, cycle);
+    start_plan_with_lead(&plan, channels, lead, start, cycle);
     accept_with_true_marks(name);
+}
+
+static void accept_plan_of(const char *name, int channels, int start, int cycle)
+{
+    accept_plan_with_lead(name, channels, 0, start, cycle);
 }
 
 /* Sizes that are wrong, in a plan of the length that they give if that is
    short enough to write. */
-static void refuse_plan_of(const char *name, int channels, int start, int cycle)
+static void refuse_plan_with_lead(const char *name, int channels, int lead, int start, int cycle)
 {
-    size_t len = 6 + 8 * (size_t)channels * (size_t)(start + cycle);
+    size_t len = 8 + 8 * (size_t)channels * (size_t)(lead + start + cycle);
     start_plan(&plan, 1, 0, 1);
     put2(plan.at, (unsigned)channels);
     put2(plan.at + 2, (unsigned)start);
     put2(plan.at + 4, (unsigned)cycle);
-    resize(&plan, len < SHEET_LONGEST ? len : 14);
+    put2(plan.at + 6, (unsigned)lead);
+    resize(&plan, len < SHEET_LONGEST ? len : 16);
     refuse_all(name, refusal(4, 0, 0));
+}
+
+static void refuse_plan_of(const char *name, int channels, int start, int cycle)
+{
+    refuse_plan_with_lead(name, channels, 0, start, cycle);
 }
 
 static void plan_sizes(void)
 {
-    for (size_t len = 0; len < 6; len++) {
+    for (size_t len = 0; len < 8; len++) {
         resize(&plan, len);
-        refuse_all("plan of fewer than 6 bytes", refusal(4, 0, 0));
+        refuse_all("plan of fewer than 8 bytes", refusal(4, 0, 0));
     }
-    resize(&plan, 6);
+    resize(&plan, 8);
     refuse_all("plan of sizes only", refusal(4, 0, 0));
     resize(&plan, plan.len - 1);
     refuse_all("plan one byte short", refusal(4, 0, 0));
@@ -325,6 +338,61 @@ static void plan_sizes(void)
     refuse_all("W that wraps to 2", refusal(4, 0, 0));
 }
 
+/* L in a plan that is as long as with another number of lead-in rows. */
+static void refuse_lead_of(const char *name, unsigned said, int lead)
+{
+    start_plan_with_lead(&plan, 2, lead, 2, 2);
+    put2(plan.at + 6, said);
+    refuse_all(name, refusal(4, 0, 0));
+}
+
+static void lead_sizes(void)
+{
+    for (int lead = 0; lead <= 4; lead++) {
+        accept_plan_with_lead("L 0 to 4", 2, lead, 2, 2);
+        accept_plan_with_lead("L 0 to 4, P 0 and C 1", 1, lead, 0, 1);
+        accept_plan_with_lead("L 0 to 4, W 256", 1, lead, 255, 1);
+        accept_plan_with_lead("L 0 to 4, W 256, V 8", 8, lead, 128, 128);
+        refuse_plan_with_lead("L 0 to 4, W 257", 1, lead, 256, 1);
+        refuse_plan_with_lead("L 0 to 4, C 0", 2, lead, 2, 0);
+        for (unsigned said = 0; said <= 8; said++)
+            if (said != (unsigned)lead)
+                refuse_lead_of("L other than the length gives", said, lead);
+        refuse_lead_of("L 256 and more, its low byte right", 256 + (unsigned)lead, lead);
+        refuse_lead_of("L 256", 256, lead);
+        refuse_lead_of("L 65535", 65535, lead);
+        start_plan_with_lead(&plan, 2, lead, 2, 2);
+        resize(&plan, plan.len - 1);
+        refuse_all("plan one byte short, L 0 to 4", refusal(4, 0, 0));
+        start_plan_with_lead(&plan, 2, lead, 2, 2);
+        resize(&plan, plan.len + 1);
+        refuse_all("plan one byte long, L 0 to 4", refusal(4, 0, 0));
+    }
+    memmove(plan.at + 6, plan.at + 8, plan.len - 8);
+    resize(&plan, plan.len - 2);
+    refuse_all("plan laid out without L", refusal(4, 0, 0));
+    refuse_plan_with_lead("L 5", 2, 5, 2, 2);
+    refuse_plan_with_lead("L 5, P 0 and C 1", 1, 5, 0, 1);
+    refuse_plan_with_lead("L 5, W 256, V 8", 8, 5, 0, 256);
+    refuse_plan_with_lead("L 6, W 2", 1, 6, 1, 1);
+    refuse_plan_with_lead("L 8", 2, 8, 2, 2);
+    refuse_plan_with_lead("L 256", 1, 256, 1, 1);
+    refuse_plan_with_lead("L 257", 1, 257, 1, 1);
+    refuse_plan_with_lead("L 65535", 1, 65535, 1, 1);
+    refuse_plan_with_lead("L 65535, V 8", 8, 65535, 1, 1);
+
+    /* W is held against 256 without the lead-in rows. */
+    accept_plan_with_lead("W 253 and L 4", 1, 4, 1, 252);
+    accept_plan_with_lead("largest plan", 8, 4, 256 - 16, 16);
+
+    /* A row that is counted as lead-in is none of W, and the other way round. */
+    start_plan_with_lead(&plan, 2, 1, 1, 2);
+    check("three rows and a lead-in row, table of four rows", refusal(7, 0, 0));
+    start_plan_with_lead(&plan, 2, 1, 2, 2);
+    start_marks(&marks, 12, 5);
+    check("four rows and a lead-in row, table of five rows", refusal(7, 0, 0));
+}
+
 /* ---- Refusals 5 and 6 ---- */
 
 static void channels(void)
@@ -339,6 +407,15 @@ static void channels(void)
     start_plan(&plan, 3, 2, 2);
     resize(&plan, plan.len - 1);
     refuse_all("plan sizes before channels", refusal(4, 0, 0));
+    start_plan_with_lead(&plan, 3, 2, 2, 2);
+    write_drift(&plan, -2, 0, 1);
+    refuse_all("channels before lead-in drifts", refusal(5, 0, 0));
+    start_plan_with_lead(&plan, 3, 5, 2, 2);
+    write_drift(&plan, -5, 0, 1);
+    refuse_all("L before channels and lead-in drifts", refusal(4, 0, 0));
+    start_plan_with_lead(&plan, 2, 5, 2, 2);
+    write_drift(&plan, -1, 0, 1);
+    refuse_all("L before lead-in drifts", refusal(4, 0, 0));
 }
 
 static void start_drifts(void)
@@ -368,6 +445,56 @@ static void start_drifts(void)
     start_plan(&plan, 1, 255, 1);
     write_drift(&plan, 254, 0, 1);
     refuse_all("drift in start row 254", refusal(6, 0, 254));
+}
+
+/* Lead-in rows are counted first and named as row 0; start rows keep their numbers. */
+static void lead_drifts_of(int lead)
+{
+    for (int row = -lead; row < 0; row++)
+        for (int channel = 0; channel < 2; channel++)
+            for (int i = 0; i < 4; i++) {
+                start_plan_with_lead(&plan, 2, lead, 2, 2);
+                drift_bytes(&plan, row, channel)[i] = i % 2 ? 1 : 128;
+                refuse_all("drift in a lead-in row", refusal(6, 0, 0));
+                start_plan_with_lead(&plan, 2, lead, 2, 2);
+                drift_bytes(&plan, row, channel)[i] = i % 2 ? 1 : 128;
+                write_drift(&plan, 1, 1 - channel, 1);
+                refuse_all("drift in a lead-in row before a start row's", refusal(6, 0, 0));
+            }
+    for (int row = 0; row < 2; row++)
+        for (int channel = 0; channel < 2; channel++) {
+            start_plan_with_lead(&plan, 2, lead, 2, 2);
+            write_drift(&plan, row, channel, -1);
+            refuse_all("drift in a start row after lead-in rows", refusal(6, 0, row));
+        }
+    start_plan_with_lead(&plan, 2, lead, 2, 2);
+    write_drift(&plan, 2, 0, 1);
+    write_drift(&plan, 3, 1, -1);
+    judge("drifts in cycle rows after lead-in rows", 0, 0, ALWAYS_TRUE);
+}
+
+static void lead_drifts(void)
+{
+    for (int lead = 0; lead <= 4; lead++)
+        lead_drifts_of(lead);
+
+    start_rule(&rule, 1, 1);
+    start_plan_with_lead(&plan, 1, 1, 0, 1);
+    write_drift(&plan, -1, 0, 1);
+    refuse_all("drift in the lead-in row, P 0", refusal(6, 0, 0));
+    start_rule(&rule, 1, 8);
+    start_plan_with_lead(&plan, 8, 4, 255, 1);
+    write_drift(&plan, 254, 7, 1);
+    refuse_all("drift in start row 254, L 4", refusal(6, 0, 254));
+    start_rule(&rule, 1, 8);
+    start_plan_with_lead(&plan, 8, 4, 255, 1);
+    write_drift(&plan, -1, 7, 1);
+    write_drift(&plan, 254, 7, 1);
+    refuse_all("drift in the last lead-in row and in start row 254", refusal(6, 0, 0));
+    start_plan_with_lead(&plan, 2, 3, 2, 2);
+    write_drift(&plan, -1, 1, INT32_MIN);
+    resize(&marks, 0);
+    refuse_all("a lead-in drift before the table", refusal(6, 0, 0));
 }
 
 /* ---- Refusals 7 and 8 ---- */
@@ -582,6 +709,19 @@ static void absent(void)
     expect_judge("part 63, row 255", &rule, &plan, 63, 255, ALWAYS_FALSE);
     expect_judge("part 64, row 255", &rule, &plan, 64, 255, twelve);
     judge("part 63, row 256", 63, 256, twelve);
+
+    /* Lead-in rows are no rows that can be judged. */
+    for (int lead = 1; lead <= 4; lead++) {
+        start_plan_with_lead(&plan, 2, lead, 2, 2);
+        for (int row = 4; row <= 4 + lead; row++)
+            expect_judge("row W and above with lead-in rows", &rule, &plan, 0, (uint64_t)row,
+                         twelve);
+        for (int back = 1; back <= lead; back++)
+            expect_judge("row -1 and below", &rule, &plan, 0, 0 - (uint64_t)back, twelve);
+        expect_judge("row W - 1 with lead-in rows", &rule, &plan, 0, 3, ALWAYS_TRUE);
+        write_drift(&plan, -lead, 0, 1);
+        judge("a lead-in drift before an absent row", 0, 4, refusal(6, 0, 0));
+    }
 }
 
 /* Everything wrong at once, then put right one after the other. */
@@ -590,7 +730,7 @@ static void order(void)
     static const char *const name = "order of the refusals";
     struct sheet right_rule = rule, right_plan = plan, right_marks = marks;
     resize(&rule, 3);
-    resize(&plan, 5);
+    resize(&plan, 7);
     resize(&marks, 3);
     expect_check(name, &rule, &plan, &marks, refusal(1, 0, 0));
     rule = right_rule;
@@ -601,9 +741,17 @@ static void order(void)
     expect_check(name, &rule, &plan, &marks, refusal(3, 1, 0));
     rule = right_rule;
     expect_check(name, &rule, &plan, &marks, refusal(4, 0, 0));
-    start_plan(&plan, 1, 2, 2);
+    start_plan_with_lead(&plan, 1, 5, 2, 2);
+    write_drift(&plan, -1, 0, 1);
+    expect_check(name, &rule, &plan, &marks, refusal(4, 0, 0));
+    start_plan_with_lead(&plan, 1, 4, 2, 2);
+    write_drift(&plan, -1, 0, 1);
     write_drift(&plan, 1, 0, 1);
     expect_check(name, &rule, &plan, &marks, refusal(5, 0, 0));
+    start_plan_with_lead(&plan, 2, 4, 2, 2);
+    write_drift(&plan, -1, 0, 1);
+    write_drift(&plan, 1, 0, 1);
+    expect_check(name, &rule, &plan, &marks, refusal(6, 0, 0));
     plan = right_plan;
     write_drift(&plan, 1, 0, 1);
     expect_check(name, &rule, &plan, &marks, refusal(6, 0, 1));
@@ -633,8 +781,10 @@ void test_neighbours(void)
     kinds();
     operands();
     plan_sizes();
+    lead_sizes();
     channels();
     start_drifts();
+    lead_drifts();
     mark_sizes();
     mark_bytes();
     equations();

@@ -22,16 +22,78 @@ static struct {
     unsigned long full_size;       /* accepted with 64 parts and 256 rows */
     unsigned long kinds[13];       /* accepted with a part of the kind */
     unsigned long open[13];        /* refused 10 for a part of the kind */
+    unsigned long lead[5];         /* accepted with so many lead-in rows */
+    unsigned long led;             /* accepted, a comparison true by a lead-in row */
+    unsigned long unseen;          /* accepted, one that reaches before all lead-in rows */
+    unsigned long led_always;      /* judged 1 on a cycle row, pass 0 reads a lead-in row */
+    unsigned long led_once;        /* judged 2 on one, only pass 0 differs */
+    unsigned long lead_drifts;     /* refused 6 for a lead-in row */
+    unsigned long both_drifts;     /* refused 6 for one, and a start row above 0 has one too */
     unsigned long late;            /* "changes" on a late pass only */
     unsigned long stepped_over;    /* an equality whose gap narrows and is never 0 */
 } counts;
 
 enum { LATE_PASS = 1000 };
 
+/* ---- Lead-in rows ---- */
+
+/* The earliest position that a comparison reads from. */
+static int earliest_read(const struct formula *f, int position)
+{
+    int left = f->left.is_reading ? f->left.shift : 0;
+    int right = f->right.is_reading ? f->right.shift : 0;
+    int least = left < right ? left : right;
+    return position + (least < 0 ? least : 0);
+}
+
+static bool reads_lead_in(const struct plan *p, const struct formula *f, int position)
+{
+    int earliest = earliest_read(f, position);
+    return earliest < 0 && earliest >= -p->lead;
+}
+
+static void count_lead(const struct rule *r, const struct plan *p)
+{
+    bool led = false, unseen = false;
+    for (int part = 0; part < r->parts; part++)
+        for (int row = 0; is_comparison(r->part[part].kind) && row < p->rows; row++) {
+            const struct formula *f = &r->part[part];
+            led |= reads_lead_in(p, f, row) && comparison_holds(p, f, row);
+            unseen |= p->lead > 0 && earliest_read(f, row) < -p->lead;
+        }
+    counts.lead[p->lead]++;
+    counts.led += led;
+    counts.unseen += unseen;
+}
+
+static bool has_drift(int first, int end, int channels)
+{
+    for (int row = first; row < end; row++)
+        for (int i = 0; i < 4 * channels; i++)
+            if (drift_bytes(&case_plan, row, 0)[i] != 0)
+                return true;
+    return false;
+}
+
+/* The plan was refused with 6, so its sizes are right. */
+static void count_drifts(void)
+{
+    struct plan p;
+    decode_plan(slice_of(&case_plan), case_truth.rule.channels, &p);
+    if (!has_drift(-p.lead, 0, p.channels))
+        return;
+    counts.lead_drifts++;
+    counts.both_drifts += p.start > 0 && !has_drift(0, 1, p.channels) &&
+                          has_drift(1, p.start, p.channels);
+}
+
+/* ---- Answers ---- */
+
 static void count_accepted(uint64_t verdict)
 {
     bool seen[13] = { false };
     counts.accepted[verdict]++;
+    count_lead(&case_truth.rule, &case_truth.plan);
     counts.full_size += case_truth.rule.parts == 64 && case_truth.plan.rows == 256;
     for (int part = 0; part < case_truth.rule.parts; part++)
         seen[case_truth.rule.part[part].kind] = true;
@@ -47,6 +109,8 @@ static void count_check(uint64_t answer)
         return;
     }
     counts.refused[number]++;
+    if (number == ENDLESS_RUN_START_DRIFT)
+        count_drifts();
     struct rule r;
     struct plan p;
     if (decode_rule(slice_of(&case_rule), &r) != 0 ||
@@ -84,11 +148,17 @@ static void count_judge(uint64_t answer, uint64_t part, uint64_t row)
     decode_rule(slice_of(&case_rule), &r);
     decode_plan(slice_of(&case_plan), r.channels, &p);
     const struct formula *f = &r.part[part];
+    if (row >= (uint64_t)p.start && reads_lead_in(&p, f, (int)row)) {
+        counts.led_always += answer == ALWAYS_TRUE;
+        counts.led_once += answer == CHANGES && !changes_from(&p, f, (int)row, 1);
+    }
     if (answer == CHANGES)
         counts.late += changes_late(&p, f, (int)row);
     else if (f->kind == EQUAL && row >= (uint64_t)p.start)
         counts.stepped_over += settled_pass(&p, f, (int)row) > LINES_FROM + 1;
 }
+
+/* ---- Floors ---- */
 
 static void print_counts(unsigned long cases)
 {
@@ -111,6 +181,16 @@ static void print_counts(unsigned long cases)
     hold_to_floor("judged 0, an equality stepped over", counts.stepped_over, cases, 50);
     hold_to_floor("refused 11, and no witness would serve", counts.false_fixpoints, cases, 50);
     hold_to_floor("accepted, 64 parts on 256 rows", counts.full_size, cases, 5);
+    for (int lead = 0; lead <= MOST_LEAD; lead++) {
+        snprintf(name, sizeof name, "accepted with L %d", lead);
+        hold_to_floor(name, counts.lead[lead], cases, 200);
+    }
+    hold_to_floor("accepted, true by a lead-in row", counts.led, cases, 100);
+    hold_to_floor("accepted, false before the lead-in rows", counts.unseen, cases, 100);
+    hold_to_floor("judged 1, true by a lead-in row", counts.led_always, cases, 50);
+    hold_to_floor("judged 2, other by a lead-in row alone", counts.led_once, cases, 20);
+    hold_to_floor("refused 6 for a lead-in row", counts.lead_drifts, cases, 10);
+    hold_to_floor("refused 6, a later start row has a drift too", counts.both_drifts, cases, 2);
     for (int kind = LESS; kind <= TRIGGER; kind++) {
         snprintf(name, sizeof name, "accepted with a part of kind %s", kind_names[kind]);
         hold_to_floor(name, counts.kinds[kind], cases, 200);
@@ -152,6 +232,8 @@ static void ask_about_part(const char *name, uint64_t part)
     uint64_t row = some_index(case_truth.plan.rows);
     if (chance(60) && row < (uint64_t)case_truth.plan.start)
         row = (uint64_t)between(case_truth.plan.start, case_truth.plan.rows - 1);
+    if (case_truth.plan.lead > 0 && chance(40))
+        row %= MOST_LEAD; /* where a shift may reach the lead-in */
     uint64_t answer = second_judge(slice_of(&case_rule), slice_of(&case_plan), part, row);
     count_judge(answer, part, row);
     if (!expect_judge(name, &case_rule, &case_plan, part, row, answer) && failed <= 3) {

@@ -208,11 +208,32 @@ static void damage_rule(void)
     }
 }
 
+/* Another L in the same bytes; or too many lead-in rows, in a plan of the length for
+   them. */
+static void damage_lead(void)
+{
+    const struct plan *p = &case_truth.plan;
+    int said[] = { below(5), 5, 256, 256 + p->lead, 65535 };
+    if (chance(50))
+        put2(case_plan.at + 6, (unsigned)said[below(5)]);
+    else
+        start_plan_with_lead(&case_plan, p->channels, chance(70) ? 5 : between(6, 12), p->start,
+                             p->cycle);
+}
+
+/* A drift in one of these rows, if there are any. */
+static void drift_in_rows(int first, int end)
+{
+    int channel = below(case_truth.plan.channels);
+    if (first < end)
+        write_drift(&case_plan, between(first, end - 1), channel, extreme_drift());
+}
+
 static void damage_plan(void)
 {
     const struct plan *p = &case_truth.plan;
-    int row = below(p->start + 1), channel = below(p->channels), size = below(3);
-    switch (below(5)) {
+    int size = below(4);
+    switch (below(7)) {
     case 0:
         put2(case_plan.at + 2 * size, (unsigned)between(0, 300));
         break;
@@ -222,9 +243,18 @@ static void damage_plan(void)
     case 2:
         resize(&case_plan, case_plan.len + (size_t)between(1, 4) - 2);
         break;
+    case 3:
+        damage_lead();
+        break;
+    case 4:
+        drift_in_rows(0, p->start);
+        break;
+    case 5:
+        drift_in_rows(-p->lead, 0);
+        break;
     default:
-        if (row < p->start)
-            write_drift(&case_plan, row, channel, extreme_drift());
+        drift_in_rows(-p->lead, p->start);
+        drift_in_rows(-p->lead, p->start);
     }
 }
 
@@ -242,7 +272,7 @@ static void damage_byte(void)
 static void cut_sheet(void)
 {
     struct sheet *sheet = some_sheet();
-    resize(sheet, (size_t)below(chance(50) ? 8 : (int)sheet->len + 20));
+    resize(sheet, (size_t)below(chance(50) ? 9 : (int)sheet->len + 20));
 }
 
 /* How many times in 100 a fault is put in. */
@@ -250,7 +280,7 @@ static const struct {
     int percent;
     void (*put_in)(void);
 } faults[] = {
-    { 34, no_fault },
+    { 32, no_fault },
     { 10, flip_mark },
     { 4, flip_mark_where_not_closing },
     { 12, damage_witness },
@@ -259,7 +289,7 @@ static const struct {
     { 3, damage_mark_bytes },
     { 3, damage_mark_sizes },
     { 6, damage_rule },
-    { 4, damage_plan },
+    { 6, damage_plan },
     { 3, damage_byte },
     { 3, cut_sheet },
 };

@@ -50,16 +50,20 @@ int64_t position_of(const struct plan *plan, int row, int64_t pass)
     return row + pass * plan->cycle;
 }
 
+/* A position from -L on. */
 static whole reading_at(const struct plan *plan, int channel, int64_t position)
 {
+    if (position < 0)
+        return plan->lead_in[plan->lead + position][channel];
     int row = row_at(plan, position);
     return plan->reading[row][channel] +
            (whole)pass_at(plan, position) * plan->drift[row][channel];
 }
 
-static bool is_before_run(const struct term *term, int64_t position)
+/* Does the term reach before position -L, where nothing is seen? */
+static bool is_unseen(const struct plan *plan, const struct term *term, int64_t position)
 {
-    return term->is_reading && position + term->shift < 0;
+    return term->is_reading && position + term->shift < -plan->lead;
 }
 
 static whole number_at(const struct plan *plan, const struct term *term, int64_t position)
@@ -78,7 +82,7 @@ static whole gap_at(const struct plan *plan, const struct formula *f, int64_t po
 
 bool comparison_holds(const struct plan *plan, const struct formula *f, int64_t position)
 {
-    if (is_before_run(&f->left, position) || is_before_run(&f->right, position))
+    if (is_unseen(plan, &f->left, position) || is_unseen(plan, &f->right, position))
         return false;
     whole gap = gap_at(plan, f, position);
     return f->kind == LESS ? gap < 0 : gap == 0;

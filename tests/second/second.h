@@ -21,7 +21,13 @@
 #include <stddef.h>
 #include <stdint.h>
 
-enum { MOST_PARTS = 64, MOST_CHANNELS = 8, MOST_ROWS = 256, NO_WITNESS = 65535 };
+enum {
+    MOST_PARTS = 64,
+    MOST_CHANNELS = 8,
+    MOST_LEAD = 4,
+    MOST_ROWS = 256,
+    NO_WITNESS = 65535
+};
 
 /* Bytes lent by the caller. */
 struct slice {
@@ -66,9 +72,11 @@ struct rule {
     struct formula part[MOST_PARTS];
 };
 
-/* A stem of start rows, then a loop of cycle rows. */
+/* A stem of start rows, then a loop of cycle rows; and the readings of the lead-in
+   rows before them, the earliest first. */
 struct plan {
-    int channels, start, cycle, rows;
+    int channels, start, cycle, rows, lead;
+    int32_t lead_in[MOST_LEAD][MOST_CHANNELS];
     int32_t reading[MOST_ROWS][MOST_CHANNELS];
     int32_t drift[MOST_ROWS][MOST_CHANNELS];
 };
@@ -106,7 +114,8 @@ int64_t position_of(const struct plan *plan, int row, int64_t pass);
    row. It may be as late as 2^37. */
 int64_t settled_pass(const struct plan *plan, const struct formula *f, int row);
 
-/* From this pass on no shift reaches a start row or lies before the run. */
+/* From this pass on no shift reaches a start row, a lead-in row or what lies before
+   them. */
 enum { LINES_FROM = 4 };
 
 /* Do two passes of a cycle row, from this pass on, differ? */

@@ -98,18 +98,45 @@ uint64_t decode_rule(struct slice bytes, struct rule *rule)
 
 static uint64_t decode_plan_sizes(struct slice bytes, struct plan *plan)
 {
-    if (bytes.len < 6)
+    if (bytes.len < 8)
         return refusal(4, 0, 0);
     plan->channels = field2(bytes.at);
     plan->start = field2(bytes.at + 2);
     plan->cycle = field2(bytes.at + 4);
+    plan->lead = field2(bytes.at + 6);
     plan->rows = plan->start + plan->cycle;
     if (plan->channels < 1 || plan->channels > MOST_CHANNELS)
         return refusal(4, 0, 0);
-    if (plan->cycle < 1 || plan->rows > MOST_ROWS)
+    if (plan->cycle < 1 || plan->rows > MOST_ROWS || plan->lead > MOST_LEAD)
         return refusal(4, 0, 0);
-    if (bytes.len != 6 + 8 * (size_t)plan->channels * (size_t)plan->rows)
+    if (bytes.len != 8 + 8 * (size_t)plan->channels * (size_t)(plan->lead + plan->rows))
         return refusal(4, 0, 0);
+    return 0;
+}
+
+/* Both arrays have the lead-in rows first. */
+static void decode_numbers(const uint8_t *readings, const uint8_t *drifts, struct plan *plan)
+{
+    for (int channel = 0; channel < plan->channels; channel++) {
+        for (int row = 0; row < plan->lead; row++)
+            plan->lead_in[row][channel] = field4(readings + 4 * (row * plan->channels + channel));
+        for (int row = 0; row < plan->rows; row++) {
+            int cell = 4 * ((plan->lead + row) * plan->channels + channel);
+            plan->reading[row][channel] = field4(readings + cell);
+            plan->drift[row][channel] = field4(drifts + cell);
+        }
+    }
+}
+
+/* Only cycle rows drift. The lead-in rows are looked at first, and named as row 0. */
+static uint64_t refuse_drifts(const uint8_t *drifts, const struct plan *plan)
+{
+    if (!all_zero(drifts, 4 * plan->lead * plan->channels))
+        return refusal(6, 0, 0);
+    for (int row = 0; row < plan->start; row++)
+        for (int channel = 0; channel < plan->channels; channel++)
+            if (plan->drift[row][channel] != 0)
+                return refusal(6, 0, row);
     return 0;
 }
 
@@ -121,19 +148,10 @@ uint64_t decode_plan(struct slice bytes, int channels, struct plan *plan)
     if (plan->channels != channels)
         return refusal(5, 0, 0);
 
-    const uint8_t *readings = bytes.at + 6;
-    const uint8_t *drifts = readings + 4 * plan->rows * plan->channels;
-    for (int row = 0; row < plan->rows; row++)
-        for (int channel = 0; channel < plan->channels; channel++) {
-            int cell = 4 * (row * plan->channels + channel);
-            plan->reading[row][channel] = field4(readings + cell);
-            plan->drift[row][channel] = field4(drifts + cell);
-        }
-    for (int row = 0; row < plan->start; row++)
-        for (int channel = 0; channel < plan->channels; channel++)
-            if (plan->drift[row][channel] != 0)
-                return refusal(6, 0, row);
-    return 0;
+    const uint8_t *readings = bytes.at + 8;
+    const uint8_t *drifts = readings + 4 * (plan->lead + plan->rows) * plan->channels;
+    decode_numbers(readings, drifts, plan);
+    return refuse_drifts(drifts, plan);
 }
 
 /* ---- The mark table ---- */

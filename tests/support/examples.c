@@ -1,5 +1,5 @@
 /*
- * examples.c: the worked examples E1 to E11, and the worked tables of
+ * examples.c: the worked examples E1 to E11, E8 also with a lead-in row, and the worked tables of
  * docs/FORMATS.md in its order. E12 is about full sizes, and is tried where sizes
  * are (neighbours.c).
  */
@@ -49,21 +49,23 @@
 #define NAMES_3_1 "03 00 01 00 00 00 00 00 00 00 00 00 "
 #define BELOW_9_UNTIL_BELOW_3 "03 00 01 00 01 01 07 " X C_9 X C_3 NAMES_0_1
 
-/* ---- Plans: V, P, C, readings, drifts ---- */
+/* ---- Plans: V, P, C, L, readings, drifts ---- */
 
 #define PLAN_A                                                                                     \
-    "01 00 01 00 02 00 0A 00 00 00 14 00 00 00 1E 00 00 00 "                                       \
+    "01 00 01 00 02 00 00 00 0A 00 00 00 14 00 00 00 1E 00 00 00 "                                 \
     "00 00 00 00 00 00 00 00 00 00 00 00"
 #define PLAN_L                                                                                     \
-    "01 00 03 00 02 00 0A 00 00 00 14 00 00 00 1E 00 00 00 14 00 00 00 1E 00 00 00 "               \
+    "01 00 03 00 02 00 00 00 0A 00 00 00 14 00 00 00 1E 00 00 00 14 00 00 00 1E 00 00 00 "         \
     "00 00 00 00 00 00 00 00 00 00 00 00 00 00 00 00 00 00 00 00"
-#define PLAN_M "01 00 00 00 02 00 14 00 00 00 1E 00 00 00 00 00 00 00 00 00 00 00"
+#define PLAN_M "01 00 00 00 02 00 00 00 14 00 00 00 1E 00 00 00 00 00 00 00 00 00 00 00"
 #define PLAN_D_BY(drift)                                                                           \
-    "01 00 01 00 04 00 14 00 00 00 14 00 00 00 0A 00 00 00 14 00 00 00 1E 00 00 00 "               \
+    "01 00 01 00 04 00 00 00 14 00 00 00 14 00 00 00 0A 00 00 00 14 00 00 00 1E 00 00 00 "         \
     "00 00 00 00 00 00 00 00 00 00 00 00 00 00 00 00 " drift
 #define PLAN_D PLAN_D_BY("05 00 00 00")
-#define ONE_ROW "01 00 00 00 01 00 "
+#define ONE_ROW "01 00 00 00 01 00 00 00 "
 #define PLAN_B ONE_ROW "FE 0F 00 00 01 00 00 00"
+#define PLAN_B_AFTER(lead_in)                                                                      \
+    "01 00 00 00 01 00 01 00 " lead_in "FE 0F 00 00 00 00 00 00 01 00 00 00"
 #define FROM_0_BY_3 ONE_ROW "00 00 00 00 03 00 00 00"
 #define ALWAYS_5 ONE_ROW "05 00 00 00 00 00 00 00"
 #define FROM_TOP_BY_1 ONE_ROW "FF FF FF 7F 01 00 00 00"
@@ -94,6 +96,12 @@ const struct example examples[] = {
     { "E7 x < X x", ONE_PART "01 " X NEXT_X, PLAN_B, 0, 0, ALWAYS_TRUE },
     { "E7 checked", ONE_PART "01 " X NEXT_X, PLAN_B, "01 00 01 00 01 FF FF", 0, 1 },
     { "E8 Y x < x", ONE_PART "01 " YESTERDAY_X X, PLAN_B, 0, 0, CHANGES },
+    { "E8, lead-in", ONE_PART "01 " YESTERDAY_X X, PLAN_B_AFTER("FD 0F 00 00 "), 0, 0,
+      ALWAYS_TRUE },
+    { "E8, lead-in, checked", ONE_PART "01 " YESTERDAY_X X, PLAN_B_AFTER("FD 0F 00 00 "),
+      "01 00 01 00 01 FF FF", 0, 1 },
+    { "E8, lead-in as high", ONE_PART "01 " YESTERDAY_X X, PLAN_B_AFTER("FE 0F 00 00 "), 0, 0,
+      CHANGES },
     { "E9 x = 10", ONE_PART "02 " X C_10, FROM_0_BY_3, 0, 0, ALWAYS_FALSE },
     { "E9 x = 9", ONE_PART "02 " X C_9, FROM_0_BY_3, 0, 0, CHANGES },
     { "E9 x = 0", ONE_PART "02 " X C_0, FROM_0_BY_3, 0, 0, CHANGES },

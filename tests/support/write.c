@@ -125,21 +125,28 @@ void write_formula(struct sheet *rule, int part, const struct formula *f)
 
 void start_plan(struct sheet *plan, int channels, int start, int cycle)
 {
-    clear(plan, 6 + 8 * channels * (start + cycle));
+    start_plan_with_lead(plan, channels, 0, start, cycle);
+}
+
+void start_plan_with_lead(struct sheet *plan, int channels, int lead, int start, int cycle)
+{
+    clear(plan, 8 + 8 * channels * (lead + start + cycle));
     put2(plan->at, (unsigned)channels);
     put2(plan->at + 2, (unsigned)start);
     put2(plan->at + 4, (unsigned)cycle);
+    put2(plan->at + 6, (unsigned)lead);
 }
 
 uint8_t *reading_bytes(struct sheet *plan, int row, int channel)
 {
-    return plan->at + 6 + 4 * (row * get2(plan->at) + channel);
+    int lead = get2(plan->at + 6);
+    return plan->at + 8 + 4 * ((lead + row) * get2(plan->at) + channel);
 }
 
 uint8_t *drift_bytes(struct sheet *plan, int row, int channel)
 {
-    int rows = get2(plan->at + 2) + get2(plan->at + 4);
-    return reading_bytes(plan, rows + row, channel);
+    int rows = get2(plan->at + 2) + get2(plan->at + 4), lead = get2(plan->at + 6);
+    return reading_bytes(plan, lead + rows + row, channel);
 }
 
 void write_reading(struct sheet *plan, int row, int channel, int32_t reading)

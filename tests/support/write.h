@@ -48,8 +48,10 @@ uint8_t *operand_bytes(struct sheet *rule, int part);
 
 /* ---- The plan ---- */
 
-/* All readings and drifts are 0 until they are written. */
+/* All readings and drifts are 0 until they are written. A plan has no lead-in rows
+   unless they are asked for; they are rows -L to -1 here, as are their positions. */
 void start_plan(struct sheet *plan, int channels, int start, int cycle);
+void start_plan_with_lead(struct sheet *plan, int channels, int lead, int start, int cycle);
 uint8_t *reading_bytes(struct sheet *plan, int row, int channel);
 uint8_t *drift_bytes(struct sheet *plan, int row, int channel);
 void write_reading(struct sheet *plan, int row, int channel, int32_t reading);
