@@ -2,18 +2,19 @@
 use Prim.Native.Nat.{ℕ, _+_, _*_, _-_, _≤_, _<_}
 use native.Mathlib.Nat.{mul-le-mul, mul-le-mul-right}
 use native.Mathlib.Omega.{arith}
-use mathlib.Core.Path.{_≡_, refl, ap, _∙_}
+use mathlib.Core.Path.{_≡_, refl, sym, ap, _∙_}
 use mathlib.Core.List.{List}
 use lib.ListN.{length, take, drop, length-take, length-drop}
 use lib.IntN.{ℤ, pos, subℕ, _+ℤ_, _*ℤ_}
 use Rattle.cltlb.specs.Run.{number, beforeRun}
 use Rattle.plan.specs.Layout.{rows, storedRows, headLength, arrayLength, readings, drifts, cell, entry, storedReading, storedDrift, readingOf, driftOf}
-use Rattle.plan.specs.inner.Sizes.{allStored, mostStored, Fitting}
+use Rattle.plan.specs.inner.Sizes.{allRows, allStored, mostStored, Fitting}
 use Rattle.plan.specs.declared.sizes.Sizes.{Sizes}
 use Rattle.plan.specs.Positions.{rowOf, passOf}
 use Rattle.plan.specs.Run.{readingOn, readingAt, runOf}
+use Rattle.plan.proofs.Fits.{rows-are}
 use Rattle.plan.proofs.Lines.{no-passes}
-use Rattle.plan.proofs.Shifts.{before-run, in-lead}
+use Rattle.plan.proofs.Shifts.{before-run, as-stored}
 
 pub array-le : (v w : ℕ) → v ≤ 8 → w ≤ mostStored → v * w ≤ 2080
 array-le v w h k = mul-le-mul h k
@@ -69,12 +70,13 @@ module _ {plan : List ℕ} {z : Sizes} (fits : Fitting plan z) where
   unfolding readingAt
   value-at channel t e g = rw (e, g, fits .p-is, fits .c-is) refl
 
-  -- before the lead-in, and in it
+  -- before the lead-in, and in it or on pass 0
   pub before-lead : (channel ahead : ℕ) → z .lead + ahead < 4 → beforeRun ≡ runOf plan channel (subℕ ahead 4)
   before-lead channel ahead h = before-run plan channel ahead (rw (fits .l-is) h)
 
-  pub lead-value : (channel ahead : ℕ) → ahead < 4 → 4 ≤ z .lead + ahead → {x : ℤ}
+  pub stored-value : (channel ahead : ℕ) → 4 ≤ z .lead + ahead → ahead < allRows z + 4 → {x : ℤ}
       → x ≡ storedReading plan (z .lead + ahead - 4) channel +ℤ pos 0 *ℤ storedDrift plan (z .lead + ahead - 4) channel → number x ≡ runOf plan channel (subℕ ahead 4)
-  lead-value channel ahead h l e =
+  stored-value channel ahead l h e =
+      let few : ahead < rows plan + 4 = rw (rows-are fits) h in
       ap number (e ∙ no-passes (storedReading plan (z .lead + ahead - 4) channel) (storedDrift plan (z .lead + ahead - 4) channel))
-      ∙ (rw (fits .l-is) at (in-lead plan channel ahead h (rw (fits .l-is) l)))
+      ∙ sym (rw (fits .l-is) at (as-stored plan channel ahead (rw (fits .l-is) l) few))

@@ -84,16 +84,17 @@ pub fn drift_at(plan: &[u8], sizes: Sizes, channel: usize, row: usize) -> u64
 }
 
 // What is seen of a channel at the position `ahead` - 4: a term at position t whose shift has the code k, which is the shift
-// + 4, is seen at t + k. Below position 0 it is the lead-in, whose first row lies farthest back.
+// + 4, is seen at t + k. In the lead-in, whose first row lies farthest back, and on pass 0 it is what is stored there.
 pub fn seen_at(plan: &[u8], sizes: Sizes, channel: usize, ahead: usize) -> Seen
     requires { ⌜ (Fitting (now plan) sizes) × (channel < sizes .channels) × (ahead ≤ farthest sizes) ⌝ }
     ensures { λ r. ⌜ (seenOf r ≡ runOf (now (plan .entry)) channel (subℕ ahead 4)) × Small r ⌝ }
 {
-    if sizes.lead + ahead < 4 {
+    let at = sizes.lead + ahead;
+    if at < 4 {
         return Seen::BeforeRun;
     }
-    if ahead < 4 {
-        return Seen::Number(stored_number(plan, sizes, channel, sizes.lead + ahead - 4, 0));
+    if ahead < sizes.start + sizes.cycle + 4 {
+        return Seen::Number(stored_number(plan, sizes, channel, at - 4, 0));
     }
     let t = ahead - 4;
     Seen::Number(number_at(plan, sizes, channel, row_of(sizes, t), pass_of(sizes, t)))
