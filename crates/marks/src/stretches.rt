@@ -1,6 +1,6 @@
 // The equations of operators on all rows of a table of `n` parts, many rows at once. The operator is opened once; below that
-// only numbers are handed on: `p` start rows, `c` cycle rows, and `m`, `a` and `b`, the places of the marks on row 0 of the part
-// and of the parts that it names. Marks on other rows lie as many places on.
+// only numbers are handed on beside the plan's sizes: `m`, `a` and `b`, the places of the marks on row 0 of the part and of the
+// parts that it names. Marks on other rows lie as many places on.
 ghost use mathlib.Core.Path.{_≡_};
 ghost use mathlib.Core.Bool.{true, false, cond};
 ghost use Prim.Native.Nat.{_+_, _≤_, _<_};
@@ -31,56 +31,44 @@ pub fn choose(first: bool, x: usize, y: usize) -> usize
 }
 
 // Each mark is a's on the row after.
-fn copies_ahead(table: &[u8], p: usize, c: usize, m: usize, a: usize) -> bool
-    requires { ⌜ (1 ≤ c) × (MarkBytes (now table) m (p + c)) × (MarkBytes (now table) a (p + c)) × (length (now table) ≤ mostBytes) ⌝ }
-    ensures { λ r. ⌜ r ≡ aheadOf p c (copyTest (now (table .entry)) m a) ⌝ }
+fn copies_ahead(table: &[u8], sizes: Sizes, m: usize, a: usize) -> bool
+    requires { ⌜ (1 ≤ sizes .cycle) × (MarkBytes (now table) m (allRows sizes)) × (MarkBytes (now table) a (allRows sizes)) × (length (now table) ≤ mostBytes) ⌝ }
+    ensures { λ r. ⌜ r ≡ aheadOf (sizes .start) (sizes .cycle) (copyTest (now (table .entry)) m a) ⌝ }
 {
-    let last = p + c - 1;
+    let p = sizes.start;
+    let last = p + sizes.cycle - 1;
     copies(table, m, a + 1, last) & copied(table, m + last, a + p)
 }
 
 // Each mark is a's on the row before, that on row 0 is `first`, and row P is so after row W - 1 too.
-fn copies_behind(table: &[u8], p: usize, c: usize, m: usize, a: usize, first: bool) -> bool
-    requires { ⌜ (1 ≤ c) × (MarkBytes (now table) m (p + c)) × (MarkBytes (now table) a (p + c)) × (length (now table) ≤ mostBytes) ⌝ }
-    ensures { λ r. ⌜ r ≡ behindOf p c (copyOf false (markIn (now (table .entry)) m) first) (copyTest (now (table .entry)) m a) ⌝ }
+fn copies_behind(table: &[u8], sizes: Sizes, m: usize, a: usize, first: bool) -> bool
+    requires { ⌜ (1 ≤ sizes .cycle) × (MarkBytes (now table) m (allRows sizes)) × (MarkBytes (now table) a (allRows sizes)) × (length (now table) ≤ mostBytes) ⌝ }
+    ensures { λ r. ⌜ r ≡ behindOf (sizes .start) (sizes .cycle) (copyOf false (markIn (now (table .entry)) m) first) (copyTest (now (table .entry)) m a) ⌝ }
 {
-    let last = p + c - 1;
+    let p = sizes.start;
+    let last = p + sizes.cycle - 1;
     agree(table[m] == 1, first) & copies(table, m + 1, a, last) & copied(table, m + p, a + last)
 }
 
 // Each mark is b, or a and the mark on the row after; or it is so of the opposites.
-fn steps_ahead(
-    table: &[u8],
-    p: usize,
-    c: usize,
-    m: usize,
-    a: usize,
-    b: usize,
-    opposite: bool,
-) -> bool
-    requires { ⌜ (1 ≤ c) × (MarkBytes (now table) m (p + c)) × (MarkBytes (now table) a (p + c)) × (MarkBytes (now table) b (p + c)) × (length (now table) ≤ mostBytes) ⌝ }
-    ensures { λ r. ⌜ r ≡ aheadOf p c (stepTest opposite (now (table .entry)) m a b) ⌝ }
+fn steps_ahead(table: &[u8], sizes: Sizes, m: usize, a: usize, b: usize, opposite: bool) -> bool
+    requires { ⌜ (1 ≤ sizes .cycle) × (MarkBytes (now table) m (allRows sizes)) × (MarkBytes (now table) a (allRows sizes)) × (MarkBytes (now table) b (allRows sizes)) × (length (now table) ≤ mostBytes) ⌝ }
+    ensures { λ r. ⌜ r ≡ aheadOf (sizes .start) (sizes .cycle) (stepTest opposite (now (table .entry)) m a b) ⌝ }
 {
-    let last = p + c - 1;
+    let p = sizes.start;
+    let last = p + sizes.cycle - 1;
     steps(table, m, a, b, m + 1, last, opposite)
         & stepped(table, m + last, a + last, b + last, m + p, opposite)
 }
 
 // Each mark is b, or a and the mark on the row before, that on row 0 is b, and row P is so after row W - 1 too; or it is so of
 // the opposites.
-fn steps_behind(
-    table: &[u8],
-    p: usize,
-    c: usize,
-    m: usize,
-    a: usize,
-    b: usize,
-    opposite: bool,
-) -> bool
-    requires { ⌜ (1 ≤ c) × (MarkBytes (now table) m (p + c)) × (MarkBytes (now table) a (p + c)) × (MarkBytes (now table) b (p + c)) × (length (now table) ≤ mostBytes) ⌝ }
-    ensures { λ r. ⌜ r ≡ behindOf p c (copyOf false (markIn (now (table .entry)) m) (markIn (now (table .entry)) b)) (stepTest opposite (now (table .entry)) m a b) ⌝ }
+fn steps_behind(table: &[u8], sizes: Sizes, m: usize, a: usize, b: usize, opposite: bool) -> bool
+    requires { ⌜ (1 ≤ sizes .cycle) × (MarkBytes (now table) m (allRows sizes)) × (MarkBytes (now table) a (allRows sizes)) × (MarkBytes (now table) b (allRows sizes)) × (length (now table) ≤ mostBytes) ⌝ }
+    ensures { λ r. ⌜ r ≡ behindOf (sizes .start) (sizes .cycle) (copyOf false (markIn (now (table .entry)) m) (markIn (now (table .entry)) b)) (stepTest opposite (now (table .entry)) m a b) ⌝ }
 {
-    let last = p + c - 1;
+    let p = sizes.start;
+    let last = p + sizes.cycle - 1;
     copied(table, m, b)
         & steps(table, m + 1, a + 1, b + 1, m, last, opposite)
         & stepped(table, m + p, a + p, b + p, m + last, opposite)
@@ -91,15 +79,14 @@ fn one_clear(table: &[u8], n: usize, sizes: Sizes, operator: Unary, i: usize, a:
     requires { ⌜ (MarkTable (now table) n sizes) × (i < n) × (a < n) ⌝ }
     ensures { λ r. ⌜ r ≡ clearOf (sizes .start) (sizes .cycle) (marked (allRows sizes) (now (table .entry))) (One operator a) i ⌝ }
 {
-    let p = sizes.start;
-    let c = sizes.cycle;
-    let own = place(p + c, i, 0);
-    let other = place(p + c, a, 0);
+    let w = sizes.start + sizes.cycle;
+    let own = place(w, i, 0);
+    let other = place(w, a, 0);
     match operator {
-        Unary::Not => opposites(table, own, other, p + c),
-        Unary::Next => copies_ahead(table, p, c, own, other),
-        Unary::Yesterday => copies_behind(table, p, c, own, other, false),
-        Unary::WeakYesterday => copies_behind(table, p, c, own, other, true),
+        Unary::Not => opposites(table, own, other, w),
+        Unary::Next => copies_ahead(table, sizes, own, other),
+        Unary::Yesterday => copies_behind(table, sizes, own, other, false),
+        Unary::WeakYesterday => copies_behind(table, sizes, own, other, true),
     }
 }
 
@@ -117,18 +104,17 @@ fn two_clear(
     requires { ⌜ (MarkTable (now table) n sizes) × (i < n) × (a < n) × (b < n) ⌝ }
     ensures { λ r. ⌜ r ≡ clearOf (sizes .start) (sizes .cycle) (marked (allRows sizes) (now (table .entry))) (Two operator a b) i ⌝ }
 {
-    let p = sizes.start;
-    let c = sizes.cycle;
-    let own = place(p + c, i, 0);
-    let left = place(p + c, a, 0);
-    let right = place(p + c, b, 0);
+    let w = sizes.start + sizes.cycle;
+    let own = place(w, i, 0);
+    let left = place(w, a, 0);
+    let right = place(w, b, 0);
     match operator {
-        Binary::And => steps(table, own, left, right, left, p + c, true),
-        Binary::Or => steps(table, own, left, right, left, p + c, false),
-        Binary::Until => steps_ahead(table, p, c, own, left, right, false),
-        Binary::Release => steps_ahead(table, p, c, own, left, right, true),
-        Binary::Since => steps_behind(table, p, c, own, left, right, false),
-        Binary::Trigger => steps_behind(table, p, c, own, left, right, true),
+        Binary::And => steps(table, own, left, right, left, w, true),
+        Binary::Or => steps(table, own, left, right, left, w, false),
+        Binary::Until => steps_ahead(table, sizes, own, left, right, false),
+        Binary::Release => steps_ahead(table, sizes, own, left, right, true),
+        Binary::Since => steps_behind(table, sizes, own, left, right, false),
+        Binary::Trigger => steps_behind(table, sizes, own, left, right, true),
     }
 }
 

@@ -1,3 +1,4 @@
+-- `lanes::layout::lay_channel` meets its contract. Assumes nothing.
 use Rattle.plan.specs.inner.Sizes.{allStored}
 use Prim.Native.Nat.{_+_, _*_, _-_, _≤_}
 use mathlib.Core.Path.{_≡_, refl, _∙_}
@@ -8,10 +9,7 @@ use Rattle.table.proofs.Stores.{stored-lent}
 use Rattle.lanes.specs.inner.Lanes.{LaidTo}
 use Rattle.lanes.proofs.Laying as law
 use native.Mathlib.Omega.{arith}
-use Prim.Native.Nat.{ℕ, _+_, _-_, _*_, _≤_, _<_}
-use mathlib.Core.Path.{_≡_}
 use lib.ListN.{length}
-use borrow.Author.Needs.{needs}
 use Rattle.lanes.proofs.layout.lay_channel.Statement.{statement}
 use Rattle.lanes.proofs.layout.lay_channel.Tie as tie
 use Rattle.lanes.proofs.layout.lay_channel.Reads as reads
@@ -28,73 +26,113 @@ abbrev μ-loop : tie.MeasureT-loop
 
 -- src/layout.rt:24:27
 add-w : tie.Need-add-w Inv-loop μ-loop
-add-w c = omega (arith, c .before .before .before .pre .0 .few-rows)
+add-w c =
+    let start = c .before .before .before in
+    omega (arith, start .pre .0 .few-rows)
 
 -- src/layout.rt:24:13
 add-w-2 : tie.Need-add-w-2 Inv-loop μ-loop
-add-w-2 c = omega (arith, c .before .before .before .before .pre .0 .few-rows)
+add-w-2 c =
+    let start = c .before .before .before .before in
+    omega (arith, start .pre .0 .few-rows)
 
 -- src/layout.rt:26:5
 loop-holds : tie.Need-loop-holds Inv-loop μ-loop
-loop-holds c = (omega arith, refl, law.laid-same _ _ _ _ _ _ (omega arith) (c .before .before .before .before .pre .2))
+loop-holds c =
+    let start = c .before .before .before .before in
+    (omega arith, refl, law.laid-same _ _ _ _ _ _ (omega arith) (start .pre .2))
 
 -- src/layout.rt:27:23
 mul-to : tie.Need-mul-to Inv-loop μ-loop
-mul-to c = let few = law.few-places _ _ _ (c .before .before .before .before .before .before .pre .0) (c .before .before .before .before .before .before .args .channel) (c .before .before .before .before .before .before .pre .1) in
+mul-to c =
+    let start = c .before .before .before .before .before .before in
+    let few = law.few-places _ _ _ (start .pre .0) (start .args .channel) (start .pre .1) in
     omega arith
 
 -- src/layout.rt:27:23
 add-to : tie.Need-add-to Inv-loop μ-loop
-add-to c = let few = law.few-places _ _ _ (c .before .before .before .before .before .before .pre .0) (c .before .before .before .before .before .before .args .channel) (c .before .before .before .before .before .before .pre .1) in
+add-to c =
+    let start = c .before .before .before .before .before .before in
+    let few = law.few-places _ _ _ (start .pre .0) (start .args .channel) (start .pre .1) in
     omega arith
 
 -- src/layout.rt:27:18
 mul-to-2 : tie.Need-mul-to-2 Inv-loop μ-loop
-mul-to-2 c = let few = law.few-places _ _ _ (c .before .before .before .before .before .before .pre .0) (c .before .before .before .before .before .before .args .channel) (c .before .before .before .before .before .before .pre .1) in
+mul-to-2 c =
+    let start = c .before .before .before .before .before .before in
+    let few = law.few-places _ _ _ (start .pre .0) (start .args .channel) (start .pre .1) in
     omega arith
 
 -- src/layout.rt:28:35
 cell-of-requires : tie.Need-cell-of-requires Inv-loop μ-loop
-cell-of-requires c κs = let rows = c .before .before .before .before .before .before .pre .0 .few-rows in
-    (c .before .before .before .before .before .before .pre .0 .few-channels, omega arith, omega (arith, c .before .before .before .before .before .before .pre .1))
+cell-of-requires c κs =
+    let start = c .before .before .before .before .before .before in
+    let rows = start .pre .0 .few-rows in
+    (start .pre .0 .few-channels, omega arith, omega (arith, start .pre .1))
 
 -- src/layout.rt:28:31
 mul-u32-at : tie.Need-mul-u32-at Inv-loop μ-loop
-mul-u32-at c = let there = law.number-there _ _ _ (c .before .before .before .before .before .before .before .pre .0) (c .before .before .before .before .before .before .before .args .channel) (c .before .before .loop .row) (c .before .before .before .before .before .before .before .pre .1) (c .before .loop-test .taken) in
+mul-u32-at c =
+    let start = c .before .before .before .before .before .before .before in
+    let loop = c .before .before .loop in
+    let loop-test = c .before .loop-test in
+    let there = law.number-there _ _ _ (start .pre .0) (start .args .channel) (loop .row) (start .pre .1) (loop-test .taken) in
     omega arith
 
 -- src/layout.rt:28:13
 u32-at-requires : tie.Need-u32-at-requires Inv-loop μ-loop
-u32-at-requires c κs = let there = law.number-there _ _ _ (c .before .before .before .before .before .before .before .pre .0) (c .before .before .before .before .before .before .before .args .channel) (c .before .before .loop .row) (c .before .before .before .before .before .before .before .pre .1) (c .before .loop-test .taken) in
+u32-at-requires c κs =
+    let start = c .before .before .before .before .before .before .before in
+    let loop = c .before .before .loop in
+    let loop-test = c .before .loop-test in
+    let there = law.number-there _ _ _ (start .pre .0) (start .args .channel) (loop .row) (start .pre .1) (loop-test .taken) in
     omega arith
 
 -- src/layout.rt:29:17
 sub-put-u32 : tie.Need-sub-put-u32 Inv-loop μ-loop
-sub-put-u32 c = let there = law.place-there _ _ _ (c .before .before .before .before .before .before .before .before .pre .0) (c .before .before .before .before .before .before .before .before .args .channel) (c .before .before .before .loop .row) (c .before .before .before .before .before .before .before .before .pre .1) (c .before .before .loop-test .taken) in
-    let long = c .before .before .before .loop .inv .1 in
+sub-put-u32 c =
+    let start = c .before .before .before .before .before .before .before .before in
+    let loop = c .before .before .before .loop in
+    let loop-test = c .before .before .loop-test in
+    let there = law.place-there _ _ _ (start .pre .0) (start .args .channel) (loop .row) (start .pre .1) (loop-test .taken) in
+    let long = loop .inv .1 in
     omega arith
 
 -- src/layout.rt:29:17
 part-put-u32-start : tie.Need-part-put-u32-start Inv-loop μ-loop
-part-put-u32-start c = let there = law.place-there _ _ _ (c .before .before .before .before .before .before .before .before .pre .0) (c .before .before .before .before .before .before .before .before .args .channel) (c .before .before .before .loop .row) (c .before .before .before .before .before .before .before .before .pre .1) (c .before .before .loop-test .taken) in
-    let long = c .before .before .before .loop .inv .1 in
+part-put-u32-start c =
+    let start = c .before .before .before .before .before .before .before .before in
+    let loop = c .before .before .before .loop in
+    let loop-test = c .before .before .loop-test in
+    let there = law.place-there _ _ _ (start .pre .0) (start .args .channel) (loop .row) (start .pre .1) (loop-test .taken) in
+    let long = loop .inv .1 in
     omega arith
 
 -- src/layout.rt:29:17
 part-put-u32-end : tie.Need-part-put-u32-end Inv-loop μ-loop
-part-put-u32-end c = let there = law.place-there _ _ _ (c .before .before .before .before .before .before .before .before .pre .0) (c .before .before .before .before .before .before .before .before .args .channel) (c .before .before .before .loop .row) (c .before .before .before .before .before .before .before .before .pre .1) (c .before .before .loop-test .taken) in
-    let long = c .before .before .before .loop .inv .1 in
+part-put-u32-end c =
+    let start = c .before .before .before .before .before .before .before .before in
+    let loop = c .before .before .before .loop in
+    let loop-test = c .before .before .loop-test in
+    let there = law.place-there _ _ _ (start .pre .0) (start .args .channel) (loop .row) (start .pre .1) (loop-test .taken) in
+    let long = loop .inv .1 in
     omega arith
 
 -- src/layout.rt:29:9
 put-u32-requires : tie.Need-put-u32-requires Inv-loop μ-loop
-put-u32-requires c κs = let there = law.place-there _ _ _ (c .before .before .before .before .before .before .before .before .before .pre .0) (c .before .before .before .before .before .before .before .before .before .args .channel) (c .before .before .before .before .loop .row) (c .before .before .before .before .before .before .before .before .before .pre .1) (c .before .before .before .loop-test .taken) in
-    let long = c .before .before .before .before .loop .inv .1 in
+put-u32-requires c κs =
+    let start = c .before .before .before .before .before .before .before .before .before in
+    let loop = c .before .before .before .before .loop in
+    let loop-test = c .before .before .before .loop-test in
+    let there = law.place-there _ _ _ (start .pre .0) (start .args .channel) (loop .row) (start .pre .1) (loop-test .taken) in
+    let long = loop .inv .1 in
     omega arith
 
 -- src/layout.rt:30:9
 add-row : tie.Need-add-row Inv-loop μ-loop
-add-row c = let rows = c .before .before .before .before .before .before .before .before .before .before .before .before .pre .0 .few-rows in
+add-row c =
+    let start = c .before .before .before .before .before .before .before .before .before .before .before .before in
+    let rows = start .pre .0 .few-rows in
     omega arith
 
 -- src/layout.rt:26:5
@@ -103,18 +141,29 @@ loop-less c = omega arith
 
 -- src/layout.rt:26:5
 loop-again : tie.Need-loop-again Inv-loop μ-loop
-loop-again c = let there = law.place-there _ _ _ (c .before .before .before .before .before .before .before .before .before .before .before .before .pre .0) (c .before .before .before .before .before .before .before .before .before .before .before .before .args .channel) (c .before .before .before .before .before .before .before .loop .row) (c .before .before .before .before .before .before .before .before .before .before .before .before .pre .1) (c .before .before .before .before .before .before .loop-test .taken) in
-    let long = c .before .before .before .before .before .before .before .loop .inv .1 in
-    let stored = stored-lent (c .before .before .before .before .before .before .before .loop .lanes) (bytesOf 4 (c .before .before .before .before .u32-at .result)) (4 * (c .before .before .before .before .before .before .before .before .before .before .before .before .args .channel * allStored (c .before .before .before .before .before .before .before .before .before .before .before .before .args .sizes) + c .before .before .before .before .before .before .before .loop .row)) 4 (length-bytes 4 (c .before .before .before .before .u32-at .result)) (omega arith) _ (c .before .before .put-u32 .ensures) in
-    (omega arith, stored .long ∙ long, law.laid-more (now (c .before .before .before .before .before .before .before .before .before .before .before .before .args .array)) (c .before .before .before .before .before .before .before .before .before .before .before .before .args .sizes .channels) (allStored (c .before .before .before .before .before .before .before .before .before .before .before .before .args .sizes)) (c .before .before .before .before .before .before .before .before .before .before .before .before .args .channel) (c .before .before .before .before .before .before .before .loop .row) (c .before .before .before .before .u32-at .result) (c .before .before .before .before .before .before .loop-test .taken) (c .before .before .before .before .before .before .before .loop .inv .2) (law.cell-number (now (c .before .before .before .before .before .before .before .before .before .before .before .before .args .array)) _ _ (c .before .before .before .before .u32-at .ensures) (c .before .before .before .before .before .cell-of .ensures)) (c .before .before .before .before .u32-at .ok) stored)
+loop-again c =
+    let start = c .before .before .before .before .before .before .before .before .before .before .before .before in
+    let loop = c .before .before .before .before .before .before .before .loop in
+    let loop-test = c .before .before .before .before .before .before .loop-test in
+    let u32-at = c .before .before .before .before .u32-at in
+    let put-u32 = c .before .before .put-u32 in
+    let cell-of = c .before .before .before .before .before .cell-of in
+    let there = law.place-there _ _ _ (start .pre .0) (start .args .channel) (loop .row) (start .pre .1) (loop-test .taken) in
+    let long = loop .inv .1 in
+    let stored = stored-lent (loop .lanes) (bytesOf 4 (u32-at .result)) (4 * (start .args .channel * allStored (start .args .sizes) + loop .row)) 4 (length-bytes 4 (u32-at .result)) (omega arith) _ (put-u32 .ensures) in
+    (omega arith, stored .long ∙ long, law.laid-more (now (start .args .array)) (start .args .sizes .channels) (allStored (start .args .sizes)) (start .args .channel) (loop .row) (u32-at .result) (loop-test .taken) (loop .inv .2) (law.cell-number (now (start .args .array)) _ _ (u32-at .ensures) (cell-of .ensures)) (u32-at .ok) stored)
 
 -- src/layout.rt:20:1
 same-length : tie.Need-same-length Inv-loop μ-loop
-same-length c = c .before .loop .inv .1
+same-length c =
+    let loop = c .before .loop in
+    loop .inv .1
 
 -- src/layout.rt:20:1
 returns : tie.Need-returns Inv-loop μ-loop
-returns c = (c .before .loop .inv .1, law.laid-same _ _ _ _ _ _ (omega arith) (c .before .loop .inv .2))
+returns c =
+    let loop = c .before .loop in
+    (loop .inv .1, law.laid-same _ _ _ _ _ _ (omega arith) (loop .inv .2))
 
 pub lay-channel-spec : {M : Type 1} → statement M
 lay-channel-spec =

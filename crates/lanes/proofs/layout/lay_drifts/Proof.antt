@@ -1,10 +1,8 @@
+-- `lanes::layout::lay_drifts` meets its contract. Assumes nothing.
 use Prim.Native.Nat.{_+_}
 use Rattle.plan.proofs.Arrays.{drifts-part}
 use Rattle.lanes.proofs.Laying as law
 use native.Mathlib.Omega.{arith}
-use Prim.Native.Nat.{ℕ, _+_, _-_, _*_, _≤_, _<_}
-use mathlib.Core.Path.{_≡_}
-use lib.ListN.{length}
 use borrow.Author.Needs.{needs}
 use Rattle.lanes.proofs.layout.lay_drifts.Statement.{statement}
 use Rattle.lanes.proofs.layout.lay_drifts.Tie as tie
@@ -40,7 +38,11 @@ part-lay-out-end c = search needs
 
 -- src/layout.rt:63:5
 lay-out-requires : tie.Need-lay-out-requires
-lay-out-requires c κs = law.drifts-room (c .before .before .before .before .before .before .pre .0) (c .before .before .before .before .before .before .pre .1) (c .before .before .before .drifts-start .result) (c .before .before .before .drifts-start .result + c .before .before .array-length .result) (c .before .before .before .drifts-start .ensures .0) (omega arith)
+lay-out-requires c κs =
+    let start = c .before .before .before .before .before .before in
+    let drifts-start = c .before .before .before .drifts-start in
+    let array-length = c .before .before .array-length in
+    law.drifts-room (start .pre .0) (start .pre .1) (drifts-start .result) (drifts-start .result + array-length .result) (drifts-start .ensures .0) (omega arith)
 
 -- src/layout.rt:57:1
 same-length : tie.Need-same-length
@@ -48,7 +50,12 @@ same-length c = search needs
 
 -- src/layout.rt:57:1
 returns : tie.Need-returns
-returns c = law.laid-as (drifts-part (c .before .before .before .before .before .before .before .before .before .pre .0) (c .before .before .before .before .before .before .drifts-start .result) (c .before .before .before .before .before .before .drifts-start .result + c .before .before .before .before .before .array-length .result) (c .before .before .before .before .before .before .drifts-start .ensures .0) (omega arith)) (c .before .before .lay-out .ensures)
+returns c =
+    let start = c .before .before .before .before .before .before .before .before .before in
+    let drifts-start = c .before .before .before .before .before .before .drifts-start in
+    let array-length = c .before .before .before .before .before .array-length in
+    let lay-out = c .before .before .lay-out in
+    law.laid-as (drifts-part (start .pre .0) (drifts-start .result) (drifts-start .result + array-length .result) (drifts-start .ensures .0) (omega arith)) (lay-out .ensures)
 
 pub lay-drifts-spec : {M : Type 1} → statement M
 lay-drifts-spec =

@@ -1,13 +1,11 @@
+-- `lanes::layout::lay_out` meets its contract. Assumes nothing.
 use Rattle.plan.specs.inner.Sizes.{allStored}
 use Prim.Native.Nat.{_*_, _-_, _≤_}
 use mathlib.Core.Path.{_≡_, refl, _∙_}
 use Rattle.lanes.specs.inner.Lanes.{LaidTo}
 use Rattle.lanes.proofs.Laying as law
 use native.Mathlib.Omega.{arith}
-use Prim.Native.Nat.{ℕ, _+_, _-_, _*_, _≤_, _<_}
-use mathlib.Core.Path.{_≡_}
 use lib.ListN.{length}
-use borrow.Author.Needs.{needs}
 use Rattle.lanes.proofs.layout.lay_out.Statement.{statement}
 use Rattle.lanes.proofs.layout.lay_out.Tie as tie
 use Rattle.lanes.proofs.layout.lay_out.Reads as reads
@@ -26,11 +24,17 @@ loop-holds c = (omega arith, refl, law.laid-none _ _ _ _)
 
 -- src/layout.rt:41:9
 lay-channel-requires : tie.Need-lay-channel-requires Inv-loop μ-loop
-lay-channel-requires c κs = (law.room-on _ _ _ (c .before .before .before .before .before .before .pre) (c .before .before .before .loop .inv .1), c .before .if1 .taken, c .before .before .before .loop .inv .2)
+lay-channel-requires c κs =
+    let start = c .before .before .before .before .before .before in
+    let loop = c .before .before .before .loop in
+    let if1 = c .before .if1 in
+    (law.room-on _ _ _ (start .pre) (loop .inv .1), if1 .taken, loop .inv .2)
 
 -- src/layout.rt:42:9
 add-channel : tie.Need-add-channel Inv-loop μ-loop
-add-channel c = let few = c .before .before .before .before .before .before .before .before .before .pre .few-channels in
+add-channel c =
+    let start = c .before .before .before .before .before .before .before .before .before in
+    let few = start .pre .few-channels in
     omega arith
 
 -- src/layout.rt:40:5
@@ -39,15 +43,23 @@ loop-less c = omega arith
 
 -- src/layout.rt:40:5
 loop-again : tie.Need-loop-again Inv-loop μ-loop
-loop-again c = (omega arith, c .before .before .lay-channel .ensures .0 ∙ c .before .before .before .before .before .before .loop .inv .1, law.laid-same _ _ _ _ _ _ (omega arith) (c .before .before .lay-channel .ensures .1))
+loop-again c =
+    let lay-channel = c .before .before .lay-channel in
+    let loop = c .before .before .before .before .before .before .loop in
+    (omega arith, lay-channel .ensures .0 ∙ loop .inv .1, law.laid-same _ _ _ _ _ _ (omega arith) (lay-channel .ensures .1))
 
 -- src/layout.rt:35:1
 same-length : tie.Need-same-length Inv-loop μ-loop
-same-length c = c .before .before .loop .inv .1
+same-length c =
+    let loop = c .before .before .loop in
+    loop .inv .1
 
 -- src/layout.rt:35:1
 returns : tie.Need-returns Inv-loop μ-loop
-returns c = law.all-laid _ _ _ (c .before .before .before .before .before .pre) (c .before .before .loop .channel) (c .before .before .loop .inv .1) (c .before .before .loop .inv .0) (c .if1 .left) (c .before .before .loop .inv .2)
+returns c =
+    let start = c .before .before .before .before .before in
+    let loop = c .before .before .loop in
+    law.all-laid _ _ _ (start .pre) (loop .channel) (loop .inv .1) (loop .inv .0) (c .if1 .left) (loop .inv .2)
 
 pub lay-out-spec : {M : Type 1} → statement M
 lay-out-spec =

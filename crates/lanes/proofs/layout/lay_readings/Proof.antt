@@ -1,9 +1,6 @@
+-- `lanes::layout::lay_readings` meets its contract. Assumes nothing.
 use Rattle.plan.proofs.Arrays.{readings-part}
 use Rattle.lanes.proofs.Laying as law
-use native.Mathlib.Omega.{arith}
-use Prim.Native.Nat.{ℕ, _+_, _-_, _*_, _≤_, _<_}
-use mathlib.Core.Path.{_≡_}
-use lib.ListN.{length}
 use borrow.Author.Needs.{needs}
 use Rattle.lanes.proofs.layout.lay_readings.Statement.{statement}
 use Rattle.lanes.proofs.layout.lay_readings.Tie as tie
@@ -35,7 +32,11 @@ part-lay-out-end c = search needs
 
 -- src/layout.rt:53:5
 lay-out-requires : tie.Need-lay-out-requires
-lay-out-requires c κs = law.readings-room (c .before .before .before .before .before .before .pre .0) (c .before .before .before .before .before .before .pre .1) _ _ (c .before .before .before .head-length .ensures) (c .before .before .drifts-start .ensures .0)
+lay-out-requires c κs =
+    let start = c .before .before .before .before .before .before in
+    let head-length = c .before .before .before .head-length in
+    let drifts-start = c .before .before .drifts-start in
+    law.readings-room (start .pre .0) (start .pre .1) _ _ (head-length .ensures) (drifts-start .ensures .0)
 
 -- src/layout.rt:47:1
 same-length : tie.Need-same-length
@@ -43,7 +44,12 @@ same-length c = search needs
 
 -- src/layout.rt:47:1
 returns : tie.Need-returns
-returns c = law.laid-as (readings-part (c .before .before .before .before .before .before .before .before .before .pre .0) _ _ (c .before .before .before .before .before .before .head-length .ensures) (c .before .before .before .before .before .drifts-start .ensures .0)) (c .before .before .lay-out .ensures)
+returns c =
+    let start = c .before .before .before .before .before .before .before .before .before in
+    let head-length = c .before .before .before .before .before .before .head-length in
+    let drifts-start = c .before .before .before .before .before .drifts-start in
+    let lay-out = c .before .before .lay-out in
+    law.laid-as (readings-part (start .pre .0) _ _ (head-length .ensures) (drifts-start .ensures .0)) (lay-out .ensures)
 
 pub lay-readings-spec : {M : Type 1} → statement M
 lay-readings-spec =

@@ -1,10 +1,7 @@
+-- `lanes::ranges::ranges_of` meets its contract. Assumes nothing.
 use Prim.Native.Nat.{ℕ, _+_, _-_}
 use mathlib.Core.Path.{ap, _∙_}
 use Rattle.lanes.proofs.Dividing.{divides}
-use native.Mathlib.Omega.{arith}
-use Prim.Native.Nat.{ℕ, _+_, _-_, _*_, _≤_, _<_}
-use mathlib.Core.Path.{_≡_}
-use lib.ListN.{length}
 use borrow.Author.Needs.{needs}
 use Rattle.lanes.proofs.ranges.ranges_of.Statement.{statement}
 use Rattle.lanes.proofs.ranges.ranges_of.Tie as tie
@@ -53,8 +50,16 @@ larger-requires-2 c κs = search needs
 
 -- src/ranges.rt:31:1
 returns : tie.Need-returns
-returns c = divides (c .before .before .before .before .before .before .before .before .before .args .sizes) (c .before .before .before .before .before .before .before .before .before .args .back) (c .before .before .before .before .before .before .before .before .before .args .high) (c .before .before .before .before .before .before .before .before .before .args .still) _ _ _ _ _ _
-    (c .before .before .before .before .before .less-by3 .ensures) (c .before .before .before .before .before .before .less-by2 .ensures ∙ ap (λ (n : ℕ). c .before .before .before .before .before .before .before .before .before .args .sizes .start + c .before .before .before .before .before .before .before .before .before .args .sizes .cycle - n) (c .before .before .before .before .before .before .before .less-by .ensures)) (c .before .before .before .before .smaller .ensures) (c .before .before .told-by-numbers .ensures) (c .before .larger .ensures) (c .larger2 .ensures)
+returns c =
+    let start = c .before .before .before .before .before .before .before .before .before in
+    let less-by3 = c .before .before .before .before .before .less-by3 in
+    let less-by2 = c .before .before .before .before .before .before .less-by2 in
+    let less-by = c .before .before .before .before .before .before .before .less-by in
+    let smaller = c .before .before .before .before .smaller in
+    let told-by-numbers = c .before .before .told-by-numbers in
+    let larger = c .before .larger in
+    divides (start .args .sizes) (start .args .back) (start .args .high) (start .args .still) _ _ _ _ _ _
+    (less-by3 .ensures) (less-by2 .ensures ∙ ap (λ (n : ℕ). start .args .sizes .start + start .args .sizes .cycle - n) (less-by .ensures)) (smaller .ensures) (told-by-numbers .ensures) (larger .ensures) (c .larger2 .ensures)
 
 pub ranges-of-spec : {M : Type 1} → statement M
 ranges-of-spec =

@@ -1,9 +1,7 @@
+-- `lanes::rows::direct_lines` meets its contract. Assumes nothing.
 use denote.Ref.{now}
 use Rattle.lanes.proofs.Stretches as law
 use native.Mathlib.Omega.{arith}
-use Prim.Native.Nat.{ℕ, _+_, _-_, _*_, _≤_, _<_}
-use mathlib.Core.Path.{_≡_}
-use lib.ListN.{length}
 use borrow.Author.Needs.{needs}
 use Rattle.lanes.proofs.rows.direct_lines.Statement.{statement}
 use Rattle.lanes.proofs.rows.direct_lines.Tie as tie
@@ -19,27 +17,42 @@ returns c = law.none-swept _ _ _ (c .if1 .taken)
 
 -- src/rows.rt:151:13
 add-w : tie.Need-add-w
-add-w c = omega (arith, law.few-all (c .before .before .before .before .before .pre .0))
+add-w c =
+    let start = c .before .before .before .before .before in
+    omega (arith, law.few-all (start .pre .0))
 
 -- src/rows.rt:152:16
 add-lane : tie.Need-add-lane
-add-lane c = omega (arith, law.few-all (c .before .before .before .before .before .before .pre .0))
+add-lane c =
+    let start = c .before .before .before .before .before .before in
+    omega (arith, law.few-all (start .pre .0))
 
 -- src/rows.rt:153:17
 add-first : tie.Need-add-first
-add-first c = omega (arith, law.few-all (c .before .before .before .before .before .before .before .pre .0), c .before .before .before .before .before .before .before .pre .0 .few-rows)
+add-first c =
+    let start = c .before .before .before .before .before .before .before in
+    omega (arith, law.few-all (start .pre .0), start .pre .0 .few-rows)
 
 -- src/rows.rt:161:9
 column-of-requires : tie.Need-column-of-requires
-column-of-requires c κs = law.left-column (c .before .before .before .before .before .before .before .pre .0) (c .before .before .before .if1 .left)
+column-of-requires c κs =
+    let start = c .before .before .before .before .before .before .before in
+    let if1 = c .before .before .before .if1 in
+    law.left-column (start .pre .0) (if1 .left)
 
 -- src/rows.rt:162:9
 column-of-requires-2 : tie.Need-column-of-requires-2
-column-of-requires-2 c κs = law.right-column (c .before .before .before .before .before .before .before .before .pre .0) (c .before .before .before .before .if1 .left)
+column-of-requires-2 c κs =
+    let start = c .before .before .before .before .before .before .before .before in
+    let if1 = c .before .before .before .before .if1 in
+    law.right-column (start .pre .0) (if1 .left)
 
 -- src/rows.rt:164:9
 place-requires : tie.Need-place-requires
-place-requires c κs = (law.at-place (c .before .before .before .before .before .before .before .before .before .pre .0) .0, law.at-place (c .before .before .before .before .before .before .before .before .before .pre .0) .1, law.at-place (c .before .before .before .before .before .before .before .before .before .pre .0) .2 (c .before .before .before .before .before .if1 .left))
+place-requires c κs =
+    let start = c .before .before .before .before .before .before .before .before .before in
+    let if1 = c .before .before .before .before .before .if1 in
+    (law.at-place (start .pre .0) .0, law.at-place (start .pre .0) .1, law.at-place (start .pre .0) .2 (if1 .left))
 
 -- src/rows.rt:165:9
 sub-lines-agree : tie.Need-sub-lines-agree
@@ -47,11 +60,22 @@ sub-lines-agree c = search needs
 
 -- src/rows.rt:157:5
 lines-agree-requires : tie.Need-lines-agree-requires
-lines-agree-requires c κs = (law.in-lanes (c .before .before .before .before .before .before .before .before .before .before .pre .0) (c .before .before .before .before .before .before .if1 .left) (c .before .before .column-of .result) (c .before .column-of2 .result) (c .before .before .column-of .ensures) (c .before .column-of2 .ensures) (c .before .before .before .before .before .before .before .before .before .before .pre .1), law.in-lanes (c .before .before .before .before .before .before .before .before .before .before .pre .0) (c .before .before .before .before .before .before .if1 .left) (c .before .before .column-of .result) (c .before .column-of2 .result) (c .before .before .column-of .ensures) (c .before .column-of2 .ensures) (c .before .before .before .before .before .before .before .before .before .before .pre .2 (c .before .before .before .before .before .before .if1 .left)), law.in-marks (c .before .before .before .before .before .before .before .before .before .before .pre .0) (c .before .before .before .before .before .before .if1 .left) _ (c .place .ensures))
+lines-agree-requires c κs =
+    let start = c .before .before .before .before .before .before .before .before .before .before in
+    let if1 = c .before .before .before .before .before .before .if1 in
+    let column-of = c .before .before .column-of in
+    let column-of2 = c .before .column-of2 in
+    (law.in-lanes (start .pre .0) (if1 .left) (column-of .result) (column-of2 .result) (column-of .ensures) (column-of2 .ensures) (start .pre .1), law.in-lanes (start .pre .0) (if1 .left) (column-of .result) (column-of2 .result) (column-of .ensures) (column-of2 .ensures) (start .pre .2 (if1 .left)), law.in-marks (start .pre .0) (if1 .left) _ (c .place .ensures))
 
 -- src/rows.rt:132:1
 returns-2 : tie.Need-returns-2
-returns-2 c = law.lines-said (c .before .before .before .before .before .before .before .before .before .before .before .pre .0) (c .before .before .before .before .before .before .before .if1 .left) (c .before .before .before .column-of .result) (c .before .before .column-of2 .result) (c .before .before .before .column-of .ensures) (c .before .before .column-of2 .ensures) _ (c .before .place .ensures) (now (c .before .before .before .before .before .before .before .before .before .before .before .args .values)) (now (c .before .before .before .before .before .before .before .before .before .before .before .args .drifts)) (c .lines-agree .ensures)
+returns-2 c =
+    let start = c .before .before .before .before .before .before .before .before .before .before .before in
+    let if1 = c .before .before .before .before .before .before .before .if1 in
+    let column-of = c .before .before .before .column-of in
+    let column-of2 = c .before .before .column-of2 in
+    let place = c .before .place in
+    law.lines-said (start .pre .0) (if1 .left) (column-of .result) (column-of2 .result) (column-of .ensures) (column-of2 .ensures) _ (place .ensures) (now (start .args .values)) (now (start .args .drifts)) (c .lines-agree .ensures)
 
 pub direct-lines-spec : {M : Type 1} → statement M
 direct-lines-spec =

@@ -1,3 +1,4 @@
+-- `lanes::rows::still_one_by_one` meets its contract. Assumes nothing.
 use Prim.Native.Nat.{_+_, _-_, _≤_}
 use mathlib.Core.Path.{_≡_, _∙_}
 use denote.Ref.{now}
@@ -7,10 +8,6 @@ use Rattle.table.proofs.AllBelow.{sweep-first, sweep-next, sweep-end, all-ext}
 use Rattle.lanes.proofs.Still as law
 use Rattle.lanes.proofs.Still.{landedSays}
 use native.Mathlib.Omega.{arith}
-use Prim.Native.Nat.{ℕ, _+_, _-_, _*_, _≤_, _<_}
-use mathlib.Core.Path.{_≡_}
-use lib.ListN.{length}
-use borrow.Author.Needs.{needs}
 use Rattle.lanes.proofs.rows.still_one_by_one.Statement.{statement}
 use Rattle.lanes.proofs.rows.still_one_by_one.Tie as tie
 use Rattle.lanes.proofs.rows.still_one_by_one.Reads as reads
@@ -30,23 +27,33 @@ abbrev μ-loop : tie.MeasureT-loop
 
 -- src/rows.rt:186:13
 add-w : tie.Need-add-w Inv-loop μ-loop
-add-w c = omega (arith, law.few-rows (c .before .before .before .pre .0))
+add-w c =
+    let start = c .before .before .before in
+    omega (arith, law.few-rows (start .pre .0))
 
 -- src/rows.rt:187:16
 add-lane : tie.Need-add-lane Inv-loop μ-loop
-add-lane c = omega (arith, law.few-rows (c .before .before .before .before .pre .0))
+add-lane c =
+    let start = c .before .before .before .before in
+    omega (arith, law.few-rows (start .pre .0))
 
 -- src/rows.rt:191:9
 lane-of-requires : tie.Need-lane-of-requires Inv-loop μ-loop
-lane-of-requires c κs = (law.few-rows (c .before .before .before .before .pre .0) .0, law.few-rows (c .before .before .before .before .pre .0) .1, law.left-few (c .before .before .before .before .pre .0))
+lane-of-requires c κs =
+    let start = c .before .before .before .before in
+    (law.few-rows (start .pre .0) .0, law.few-rows (start .pre .0) .1, law.left-few (start .pre .0))
 
 -- src/rows.rt:192:9
 lane-of-requires-2 : tie.Need-lane-of-requires-2 Inv-loop μ-loop
-lane-of-requires-2 c κs = (law.few-rows (c .before .before .before .before .before .pre .0) .0, law.few-rows (c .before .before .before .before .before .pre .0) .1, law.right-few (c .before .before .before .before .before .pre .0))
+lane-of-requires-2 c κs =
+    let start = c .before .before .before .before .before in
+    (law.few-rows (start .pre .0) .0, law.few-rows (start .pre .0) .1, law.right-few (start .pre .0))
 
 -- src/rows.rt:193:17
 sub-count : tie.Need-sub-count Inv-loop μ-loop
-sub-count c = omega (arith, c .before .before .before .before .before .before .pre .0 .in-order)
+sub-count c =
+    let start = c .before .before .before .before .before .before in
+    omega (arith, start .pre .0 .in-order)
 
 -- src/rows.rt:196:5
 loop-holds : tie.Need-loop-holds Inv-loop μ-loop
@@ -54,55 +61,87 @@ loop-holds c = (omega arith, sweep-first _)
 
 -- src/rows.rt:197:17
 add-t : tie.Need-add-t Inv-loop μ-loop
-add-t c = omega (arith, c .before .before .before .before .before .before .before .before .pre .0 .few, law.few-rows (c .before .before .before .before .before .before .before .before .pre .0))
+add-t c =
+    let start = c .before .before .before .before .before .before .before .before in
+    omega (arith, start .pre .0 .few, law.few-rows (start .pre .0))
 
 -- src/rows.rt:198:62
 add-row-of : tie.Need-add-row-of Inv-loop μ-loop
-add-row-of c = omega (arith, c .before .before .before .before .before .before .before .before .pre .0 .few, law.few-rows (c .before .before .before .before .before .before .before .before .pre .0), c .before .before .before .before .before .before .before .before .pre .0 .part .small)
+add-row-of c =
+    let start = c .before .before .before .before .before .before .before .before in
+    omega (arith, start .pre .0 .few, law.few-rows (start .pre .0), start .pre .0 .part .small)
 
 -- src/rows.rt:198:62
 sub-row-of : tie.Need-sub-row-of Inv-loop μ-loop
-sub-row-of c = omega (arith, c .before .before .before .before .before .before .before .before .pre .0 .in-run)
+sub-row-of c =
+    let start = c .before .before .before .before .before .before .before .before in
+    omega (arith, start .pre .0 .in-run)
 
 -- src/rows.rt:198:48
 row-of-requires : tie.Need-row-of-requires Inv-loop μ-loop
-row-of-requires c κs = (c .before .before .before .before .before .before .before .before .pre .0 .part .a-cycle, law.few-rows (c .before .before .before .before .before .before .before .before .pre .0) .2)
+row-of-requires c κs =
+    let start = c .before .before .before .before .before .before .before .before in
+    (start .pre .0 .part .a-cycle, law.few-rows (start .pre .0) .2)
 
 -- src/rows.rt:198:35
 add-number : tie.Need-add-number Inv-loop μ-loop
-add-number c = omega (arith, law.few-rows (c .before .before .before .before .before .before .before .before .before .before .pre .0), law.row-stored (c .before .before .before .before .before .before .before .before .before .before .pre .0) _ (c .before .row-of .ensures))
+add-number c =
+    let start = c .before .before .before .before .before .before .before .before .before .before in
+    let row-of = c .before .row-of in
+    omega (arith, law.few-rows (start .pre .0), law.row-stored (start .pre .0) _ (row-of .ensures))
 
 -- src/rows.rt:198:13
 number-requires : tie.Need-number-requires Inv-loop μ-loop
-number-requires c κs = law.lane-reaches (c .before .before .before .before .before .before .before .before .before .before .pre .0) (now (c .before .before .before .before .before .before .before .before .before .before .args .values)) (c .before .before .before .before .before .before .before .before .before .before .pre .1) _ (c .before .before .before .before .before .before .before .before .before .before .pre .0 .part .terms-fit .0) _ (c .before .before .before .before .before .lane-of .ensures) _ (c .before .row-of .ensures)
+number-requires c κs =
+    let start = c .before .before .before .before .before .before .before .before .before .before in
+    let lane-of = c .before .before .before .before .before .lane-of in
+    let row-of = c .before .row-of in
+    law.lane-reaches (start .pre .0) (now (start .args .values)) (start .pre .1) _ (start .pre .0 .part .terms-fit .0) _ (lane-of .ensures) _ (row-of .ensures)
 
 -- src/rows.rt:199:62
 add-row-of-2 : tie.Need-add-row-of-2 Inv-loop μ-loop
-add-row-of-2 c = omega (arith, c .before .before .before .before .before .before .before .before .before .before .before .pre .0 .few, law.few-rows (c .before .before .before .before .before .before .before .before .before .before .before .pre .0), c .before .before .before .before .before .before .before .before .before .before .before .pre .0 .part .small)
+add-row-of-2 c =
+    let start = c .before .before .before .before .before .before .before .before .before .before .before in
+    omega (arith, start .pre .0 .few, law.few-rows (start .pre .0), start .pre .0 .part .small)
 
 -- src/rows.rt:199:62
 sub-row-of-2 : tie.Need-sub-row-of-2 Inv-loop μ-loop
-sub-row-of-2 c = omega (arith, c .before .before .before .before .before .before .before .before .before .before .before .pre .0 .in-run)
+sub-row-of-2 c =
+    let start = c .before .before .before .before .before .before .before .before .before .before .before in
+    omega (arith, start .pre .0 .in-run)
 
 -- src/rows.rt:199:48
 row-of-requires-2 : tie.Need-row-of-requires-2 Inv-loop μ-loop
-row-of-requires-2 c κs = (c .before .before .before .before .before .before .before .before .before .before .before .pre .0 .part .a-cycle, law.few-rows (c .before .before .before .before .before .before .before .before .before .before .before .pre .0) .2)
+row-of-requires-2 c κs =
+    let start = c .before .before .before .before .before .before .before .before .before .before .before in
+    (start .pre .0 .part .a-cycle, law.few-rows (start .pre .0) .2)
 
 -- src/rows.rt:199:35
 add-number-2 : tie.Need-add-number-2 Inv-loop μ-loop
-add-number-2 c = omega (arith, law.few-rows (c .before .before .before .before .before .before .before .before .before .before .before .before .before .pre .0), law.row-stored (c .before .before .before .before .before .before .before .before .before .before .before .before .before .pre .0) _ (c .before .row-of2 .ensures))
+add-number-2 c =
+    let start = c .before .before .before .before .before .before .before .before .before .before .before .before .before in
+    let row-of2 = c .before .row-of2 in
+    omega (arith, law.few-rows (start .pre .0), law.row-stored (start .pre .0) _ (row-of2 .ensures))
 
 -- src/rows.rt:199:13
 number-requires-2 : tie.Need-number-requires-2 Inv-loop μ-loop
-number-requires-2 c κs = law.lane-reaches (c .before .before .before .before .before .before .before .before .before .before .before .before .before .pre .0) (now (c .before .before .before .before .before .before .before .before .before .before .before .before .before .args .values)) (c .before .before .before .before .before .before .before .before .before .before .before .before .before .pre .1) _ (c .before .before .before .before .before .before .before .before .before .before .before .before .before .pre .0 .part .terms-fit .1) _ (c .before .before .before .before .before .before .before .lane-of2 .ensures) _ (c .before .row-of2 .ensures)
+number-requires-2 c κs =
+    let start = c .before .before .before .before .before .before .before .before .before .before .before .before .before in
+    let lane-of2 = c .before .before .before .before .before .before .before .lane-of2 in
+    let row-of2 = c .before .row-of2 in
+    law.lane-reaches (start .pre .0) (now (start .args .values)) (start .pre .1) _ (start .pre .0 .part .terms-fit .1) _ (lane-of2 .ensures) _ (row-of2 .ensures)
 
 -- src/rows.rt:200:44
 row-of-requires-3 : tie.Need-row-of-requires-3 Inv-loop μ-loop
-row-of-requires-3 c κs = (c .before .before .before .before .before .before .before .before .before .before .before .before .before .before .pre .0 .part .a-cycle, law.few-rows (c .before .before .before .before .before .before .before .before .before .before .before .before .before .before .pre .0) .2)
+row-of-requires-3 c κs =
+    let start = c .before .before .before .before .before .before .before .before .before .before .before .before .before .before in
+    (start .pre .0 .part .a-cycle, law.few-rows (start .pre .0) .2)
 
 -- src/rows.rt:200:13
 mark-at-requires : tie.Need-mark-at-requires Inv-loop μ-loop
-mark-at-requires c κs = (c .before .before .before .before .before .before .before .before .before .before .before .before .before .before .before .pre .0 .part .sized, c .before .before .before .before .before .before .before .before .before .before .before .before .before .before .before .pre .0 .part .present, rw (c .row-of3 .ensures) (row-lt (c .before .before .before .before .before .before .before .before .before .before .before .before .before .before .before .args .sizes .start) (c .before .before .before .before .before .before .before .before .before .before .before .before .before .before .before .args .sizes .cycle) (c .before .before .before .before .before .before .before .before .before .before .before .before .before .before .before .pre .0 .part .a-cycle) _))
+mark-at-requires c κs =
+    let start = c .before .before .before .before .before .before .before .before .before .before .before .before .before .before .before in
+    (start .pre .0 .part .sized, start .pre .0 .part .present, rw (c .row-of3 .ensures) (row-lt (start .args .sizes .start) (start .args .sizes .cycle) (start .pre .0 .part .a-cycle) _))
 
 -- src/rows.rt:201:33
 numbers-compare-requires : tie.Need-numbers-compare-requires Inv-loop μ-loop
@@ -122,11 +161,30 @@ loop-less c = omega arith
 
 -- src/rows.rt:196:5
 loop-again : tie.Need-loop-again Inv-loop μ-loop
-loop-again c = (omega arith, sweep-next _ _ (c .before .before .before .before .before .before .before .before .before .before .before .loop .inv .1) (law.landed-step (c .before .before .before .before .before .before .before .before .before .before .before .before .before .before .before .before .before .before .args .comparison .relation) (now (c .before .before .before .before .before .before .before .before .before .before .before .before .before .before .before .before .before .before .args .values)) (now (c .before .before .before .before .before .before .before .before .before .before .before .before .before .before .before .before .before .before .args .table)) (c .before .before .before .before .before .before .before .before .before .before .before .before .before .before .before .before .before .before .args .sizes) (c .before .before .before .before .before .before .before .before .before .before .before .before .before .before .before .before .before .before .args .i) (c .before .before .before .before .before .before .before .before .before .before .before .before .before .lane-of .result) (c .before .before .before .before .before .before .before .before .before .before .before .before .lane-of2 .result) (c .before .before .before .before .before .before .before .before .before .before .before .before .before .before .before .before .before .before .args .left) (c .before .before .before .before .before .before .before .before .before .before .before .before .before .before .before .before .before .before .args .right) _ (c .before .before .before .before .before .before .before .number .result) (c .before .before .before .before .number2 .result) (c .before .before .before .before .before .before .before .before .before .row-of .ensures) (c .before .before .before .before .before .before .before .number .ensures) (c .before .before .before .before .before .before .row-of2 .ensures) (c .before .before .before .before .number2 .ensures) (c .before .before .before .row-of3 .ensures) (c .before .before .mark-at .ensures) (c .before .numbers-compare .ensures) (c .agree .ensures)))
+loop-again c = (
+  omega arith,
+  let loop = c .before .before .before .before .before .before .before .before .before .before .before .loop in
+      let start = c .before .before .before .before .before .before .before .before .before .before .before .before .before .before .before .before .before .before in
+      let lane-of = c .before .before .before .before .before .before .before .before .before .before .before .before .before .lane-of in
+      let lane-of2 = c .before .before .before .before .before .before .before .before .before .before .before .before .lane-of2 in
+      let number = c .before .before .before .before .before .before .before .number in
+      let number2 = c .before .before .before .before .number2 in
+      let row-of = c .before .before .before .before .before .before .before .before .before .row-of in
+      let row-of2 = c .before .before .before .before .before .before .row-of2 in
+      let row-of3 = c .before .before .before .row-of3 in
+      let mark-at = c .before .before .mark-at in
+      let numbers-compare = c .before .numbers-compare in
+      sweep-next _ _ (loop .inv .1) (law.landed-step (start .args .comparison .relation) (now (start .args .values)) (now (start .args .table)) (start .args .sizes) (start .args .i) (lane-of .result) (lane-of2 .result) (start .args .left) (start .args .right) _ (number .result) (number2 .result) (row-of .ensures) (number .ensures) (row-of2 .ensures) (number2 .ensures) (row-of3 .ensures) (mark-at .ensures) (numbers-compare .ensures) (c .agree .ensures)),
+)
 
 -- src/rows.rt:171:1
 returns : tie.Need-returns Inv-loop μ-loop
-returns c = sweep-end _ _ _ (c .before .loop .inv .0) (c .loop-test .left) (c .before .loop .inv .1) ∙ all-ext _ _ _ (λ k _. law.lanes-say (c .before .before .before .before .before .before .before .before .pre .0) (now (c .before .before .before .before .before .before .before .before .args .values)) (c .before .before .before .lane-of .result) (c .before .before .lane-of2 .result) (c .before .before .before .lane-of .ensures) (c .before .before .lane-of2 .ensures) _)
+returns c =
+    let loop = c .before .loop in
+    let start = c .before .before .before .before .before .before .before .before in
+    let lane-of = c .before .before .before .lane-of in
+    let lane-of2 = c .before .before .lane-of2 in
+    sweep-end _ _ _ (loop .inv .0) (c .loop-test .left) (loop .inv .1) ∙ all-ext _ _ _ (λ k _. law.lanes-say (start .pre .0) (now (start .args .values)) (lane-of .result) (lane-of2 .result) (lane-of .ensures) (lane-of2 .ensures) _)
 
 pub still-one-by-one-spec : {M : Type 1} → statement M
 still-one-by-one-spec =

@@ -1,7 +1,7 @@
 -- `marks::stretches::copies_ahead` meets its contract. Assumes nothing.
-use native.Mathlib.Omega.{arith}
 use denote.Ref.{now}
 use Rattle.marks.proofs.Swept as law
+use native.Mathlib.Omega.{arith}
 use Rattle.marks.proofs.stretches.copies_ahead.Statement.{statement}
 use Rattle.marks.proofs.stretches.copies_ahead.Tie as tie
 use Rattle.marks.proofs.stretches.copies_ahead.Reads as reads
@@ -9,45 +9,52 @@ use Rattle.marks.proofs.stretches.copies_ahead.Lts as lts
 use Rattle.table.proofs.sweeps.copied.Reads as copied-reads
 use Rattle.table.proofs.sweeps.copies.Reads as copies-reads
 
--- src/stretches.rt:45:16
+-- src/stretches.rt:39:16
 add-last : tie.Need-add-last
-add-last c = let there = c .before .pre .1 .there in omega arith
+add-last c =
+    let start = c .before .before in
+    let there = start .pre .1 .there in omega arith
 
--- src/stretches.rt:45:16
+-- src/stretches.rt:39:16
 sub-last : tie.Need-sub-last
 sub-last c = omega arith
 
--- src/stretches.rt:46:22
+-- src/stretches.rt:40:22
 add-copies : tie.Need-add-copies
-add-copies c = let there = c .before .pre .2 .there in omega arith
+add-copies c =
+    let start = c .before .before in
+    let there = start .pre .2 .there in omega arith
 
--- src/stretches.rt:46:5
+-- src/stretches.rt:40:5
 copies-requires : tie.Need-copies-requires
 copies-requires c κs =
-    let start = c .before in
-    (law.but-last (start .args .p) (start .pre .0) (start .pre .1), law.but-first (start .args .p) (start .pre .0) (start .pre .2), start .pre .3)
+    let start = c .before .before in
+    (law.but-last (start .args .sizes .start) (start .pre .0) (start .pre .1), law.but-first (start .args .sizes .start) (start .pre .0) (start .pre .2), start .pre .3)
 
--- src/stretches.rt:46:51
+-- src/stretches.rt:40:51
 add-copied : tie.Need-add-copied
-add-copied c = let there = c .before .before .pre .1 .there in omega arith
+add-copied c =
+    let start = c .before .before .before in
+    let there = start .pre .1 .there in omega arith
 
--- src/stretches.rt:46:61
+-- src/stretches.rt:40:61
 add-copied-2 : tie.Need-add-copied-2
-add-copied-2 c = let there = c .before .before .pre .2 .there in omega arith
+add-copied-2 c =
+    let start = c .before .before .before in
+    let there = start .pre .2 .there in omega arith
 
--- src/stretches.rt:46:37
+-- src/stretches.rt:40:37
 copied-requires : tie.Need-copied-requires
 copied-requires c κs =
-    let start = c .before .before in
-    (law.on-last (start .args .p) (start .pre .0) (start .pre .1), law.on-start (start .args .p) (start .pre .0) (start .pre .2))
+    let start = c .before .before .before in
+    (law.on-last (start .args .sizes .start) (start .pre .0) (start .pre .1), law.on-start (start .args .sizes .start) (start .pre .0) (start .pre .2))
 
--- src/stretches.rt:41:1
+-- src/stretches.rt:34:1
 returns : tie.Need-returns
 returns c =
-    let start = c .before .before .before in
+    let start = c .before .before .before .before in
     let copies = c .before .copies in
-    let copied = c .copied in
-    law.copies-ahead (start .args .p) (start .args .c) (start .pre .0) (now (start .args .table)) (start .args .m) (start .args .a) (copies .ensures) (copied .ensures)
+    law.copies-ahead (start .args .sizes .start) (start .args .sizes .cycle) (start .pre .0) (now (start .args .table)) (start .args .m) (start .args .a) (copies .ensures) (c .copied .ensures)
 
 pub copies-ahead-spec : {M : Type 1} → statement M
 copies-ahead-spec =

@@ -1,7 +1,7 @@
 -- `marks::stretches::steps_ahead` meets its contract. Assumes nothing.
-use native.Mathlib.Omega.{arith}
 use denote.Ref.{now}
 use Rattle.marks.proofs.Swept as law
+use native.Mathlib.Omega.{arith}
 use Rattle.marks.proofs.stretches.steps_ahead.Statement.{statement}
 use Rattle.marks.proofs.stretches.steps_ahead.Tie as tie
 use Rattle.marks.proofs.stretches.steps_ahead.Reads as reads
@@ -9,53 +9,64 @@ use Rattle.marks.proofs.stretches.steps_ahead.Lts as lts
 use Rattle.table.proofs.sweeps.stepped.Reads as stepped-reads
 use Rattle.table.proofs.sweeps.steps.Reads as steps-reads
 
--- src/stretches.rt:63:16
+-- src/stretches.rt:66:16
 add-last : tie.Need-add-last
-add-last c = let there = c .before .pre .1 .there in omega arith
+add-last c =
+    let start = c .before .before in
+    let there = start .pre .1 .there in omega arith
 
--- src/stretches.rt:63:16
+-- src/stretches.rt:66:16
 sub-last : tie.Need-sub-last
 sub-last c = omega arith
 
--- src/stretches.rt:64:27
+-- src/stretches.rt:67:27
 add-steps : tie.Need-add-steps
-add-steps c = let there = c .before .pre .1 .there in omega arith
+add-steps c =
+    let start = c .before .before in
+    let there = start .pre .1 .there in omega arith
 
--- src/stretches.rt:64:5
+-- src/stretches.rt:67:5
 steps-requires : tie.Need-steps-requires
 steps-requires c κs =
-    let start = c .before in
-    (law.but-last (start .args .p) (start .pre .0) (start .pre .1), law.but-last (start .args .p) (start .pre .0) (start .pre .2), law.but-last (start .args .p) (start .pre .0) (start .pre .3), law.but-first (start .args .p) (start .pre .0) (start .pre .1), start .pre .4)
+    let start = c .before .before in
+    (law.but-last (start .args .sizes .start) (start .pre .0) (start .pre .1), law.but-last (start .args .sizes .start) (start .pre .0) (start .pre .2), law.but-last (start .args .sizes .start) (start .pre .0) (start .pre .3), law.but-first (start .args .sizes .start) (start .pre .0) (start .pre .1), start .pre .4)
 
--- src/stretches.rt:65:26
+-- src/stretches.rt:68:26
 add-stepped : tie.Need-add-stepped
-add-stepped c = let there = c .before .before .pre .1 .there in omega arith
+add-stepped c =
+    let start = c .before .before .before in
+    let there = start .pre .1 .there in omega arith
 
--- src/stretches.rt:65:36
+-- src/stretches.rt:68:36
 add-stepped-2 : tie.Need-add-stepped-2
-add-stepped-2 c = let there = c .before .before .pre .2 .there in omega arith
+add-stepped-2 c =
+    let start = c .before .before .before in
+    let there = start .pre .2 .there in omega arith
 
--- src/stretches.rt:65:46
+-- src/stretches.rt:68:46
 add-stepped-3 : tie.Need-add-stepped-3
-add-stepped-3 c = let there = c .before .before .pre .3 .there in omega arith
+add-stepped-3 c =
+    let start = c .before .before .before in
+    let there = start .pre .3 .there in omega arith
 
--- src/stretches.rt:65:56
+-- src/stretches.rt:68:56
 add-stepped-4 : tie.Need-add-stepped-4
-add-stepped-4 c = let there = c .before .before .pre .1 .there in omega arith
+add-stepped-4 c =
+    let start = c .before .before .before in
+    let there = start .pre .1 .there in omega arith
 
--- src/stretches.rt:65:11
+-- src/stretches.rt:68:11
 stepped-requires : tie.Need-stepped-requires
 stepped-requires c κs =
-    let start = c .before .before in
-    (law.on-last (start .args .p) (start .pre .0) (start .pre .1), law.on-last (start .args .p) (start .pre .0) (start .pre .2), law.on-last (start .args .p) (start .pre .0) (start .pre .3), law.on-start (start .args .p) (start .pre .0) (start .pre .1))
+    let start = c .before .before .before in
+    (law.on-last (start .args .sizes .start) (start .pre .0) (start .pre .1), law.on-last (start .args .sizes .start) (start .pre .0) (start .pre .2), law.on-last (start .args .sizes .start) (start .pre .0) (start .pre .3), law.on-start (start .args .sizes .start) (start .pre .0) (start .pre .1))
 
--- src/stretches.rt:59:1
+-- src/stretches.rt:54:1
 returns : tie.Need-returns
 returns c =
-    let start = c .before .before .before in
+    let start = c .before .before .before .before in
     let steps = c .before .steps in
-    let stepped = c .stepped in
-    law.steps-ahead (start .args .p) (start .args .c) (start .pre .0) (now (start .args .table)) (start .args .m) (start .args .a) (start .args .b) (start .args .opposite) (steps .ensures) (stepped .ensures)
+    law.steps-ahead (start .args .sizes .start) (start .args .sizes .cycle) (start .pre .0) (now (start .args .table)) (start .args .m) (start .args .a) (start .args .b) (start .args .opposite) (steps .ensures) (c .stepped .ensures)
 
 pub steps-ahead-spec : {M : Type 1} → statement M
 steps-ahead-spec =

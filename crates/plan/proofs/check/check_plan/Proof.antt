@@ -1,11 +1,9 @@
+-- `plan::check::check_plan` meets its contract. Assumes nothing.
 use mathlib.Core.Path.{_∙_, sym}
 use denote.Ref.{now}
 use Rattle.plan.proofs.Fits.{counted, few-stored}
 use Rattle.plan.proofs.Outcomes as outcomes
 use native.Mathlib.Omega.{arith}
-use Prim.Native.Nat.{ℕ, _+_, _-_, _*_, _≤_, _<_}
-use mathlib.Core.Path.{_≡_}
-use lib.ListN.{length}
 use borrow.Author.Needs.{needs}
 use Rattle.plan.proofs.check.check_plan.Statement.{statement}
 use Rattle.plan.proofs.check.check_plan.Tie as tie
@@ -29,27 +27,52 @@ enum-told c = search needs
 
 -- src/check.rt:75:9
 returns : tie.Need-returns
-returns c = outcomes.sizes-refused (c .before .before .before .before .args .v) (now (c .before .before .before .before .args .plan)) (sym (c .before .before .read-sizes .ensures) ∙ c .enum-told .given .1)
+returns c =
+    let start = c .before .before .before .before in
+    let read-sizes = c .before .before .read-sizes in
+    outcomes.sizes-refused (start .args .v) (now (start .args .plan)) (sym (read-sizes .ensures) ∙ c .enum-told .given .1)
 
 -- src/check.rt:78:9
 returns-2 : tie.Need-returns-2
-returns-2 c = outcomes.channels-refused (c .before .before .before .before .before .before .before .args .v) (now (c .before .before .before .before .before .before .before .args .plan)) (sym (c .before .before .before .before .before .read-sizes .ensures) ∙ c .before .before .before .read .given .1) (c .if1 .taken)
+returns-2 c =
+    let start = c .before .before .before .before .before .before .before in
+    let read-sizes = c .before .before .before .before .before .read-sizes in
+    let read = c .before .before .before .read in
+    outcomes.channels-refused (start .args .v) (now (start .args .plan)) (sym (read-sizes .ensures) ∙ read .given .1) (c .if1 .taken)
 
 -- src/check.rt:80:37
 add-stored-still : tie.Need-add-stored-still
-add-stored-still c = omega (arith, few-stored (counted (now (c .before .before .before .before .before .before .before .before .args .plan)) (sym (c .before .before .before .before .before .before .read-sizes .ensures) ∙ c .before .before .before .before .read .given .1)))
+add-stored-still c =
+    let start = c .before .before .before .before .before .before .before .before in
+    let read-sizes = c .before .before .before .before .before .before .read-sizes in
+    let read = c .before .before .before .before .read in
+    omega (arith, few-stored (counted (now (start .args .plan)) (sym (read-sizes .ensures) ∙ read .given .1)))
 
 -- src/check.rt:80:8
 stored-still-requires : tie.Need-stored-still-requires
-stored-still-requires c κs = (counted (now (c .before .before .before .before .before .before .before .before .args .plan)) (sym (c .before .before .before .before .before .before .read-sizes .ensures) ∙ c .before .before .before .before .read .given .1), omega arith, omega arith)
+stored-still-requires c κs =
+    let start = c .before .before .before .before .before .before .before .before in
+    let read-sizes = c .before .before .before .before .before .before .read-sizes in
+    let read = c .before .before .before .before .read in
+    (counted (now (start .args .plan)) (sym (read-sizes .ensures) ∙ read .given .1), omega arith, omega arith)
 
 -- src/check.rt:81:9
 returns-3 : tie.Need-returns-3
-returns-3 c = outcomes.still-read (c .before .before .before .before .before .before .before .before .before .before .args .v) (now (c .before .before .before .before .before .before .before .before .before .before .args .plan)) (sym (c .before .before .before .before .before .before .before .before .read-sizes .ensures) ∙ c .before .before .before .before .before .before .read .given .1) (c .before .before .before .if1 .left) (c .before .stored-still .ensures (c .if2 .taken))
+returns-3 c =
+    let start = c .before .before .before .before .before .before .before .before .before .before in
+    let read-sizes = c .before .before .before .before .before .before .before .before .read-sizes in
+    let read = c .before .before .before .before .before .before .read in
+    let if1 = c .before .before .before .if1 in
+    let stored-still = c .before .stored-still in
+    outcomes.still-read (start .args .v) (now (start .args .plan)) (sym (read-sizes .ensures) ∙ read .given .1) (if1 .left) (stored-still .ensures (c .if2 .taken))
 
 -- src/check.rt:83:9
 rows-before-cycle-requires : tie.Need-rows-before-cycle-requires
-rows-before-cycle-requires c κs = counted (now (c .before .before .before .before .before .before .before .before .before .before .args .plan)) (sym (c .before .before .before .before .before .before .before .before .read-sizes .ensures) ∙ c .before .before .before .before .before .before .read .given .1)
+rows-before-cycle-requires c κs =
+    let start = c .before .before .before .before .before .before .before .before .before .before in
+    let read-sizes = c .before .before .before .before .before .before .before .before .read-sizes in
+    let read = c .before .before .before .before .before .before .read in
+    counted (now (start .args .plan)) (sym (read-sizes .ensures) ∙ read .given .1)
 
 -- src/check.rt:84:29
 enum-known-drifts : tie.Need-enum-known-drifts
@@ -57,14 +80,27 @@ enum-known-drifts c = search needs
 
 -- src/check.rt:85:9
 returns-4 : tie.Need-returns-4
-returns-4 c = outcomes.drifts-refused (c .before .before .before .before .before .before .before .before .before .before .before .before .before .before .args .v) (now (c .before .before .before .before .before .before .before .before .before .before .before .before .before .before .args .plan)) (sym (c .before .before .before .before .before .before .before .before .before .before .before .before .read-sizes .ensures) ∙ c .before .before .before .before .before .before .before .before .before .before .read .given .1) (c .before .before .before .before .before .before .before .if1 .left) _ (c .before .before .before .rows-before-cycle .ensures) (c .before .drifts .given .1)
+returns-4 c =
+    let start = c .before .before .before .before .before .before .before .before .before .before .before .before .before .before in
+    let read-sizes = c .before .before .before .before .before .before .before .before .before .before .before .before .read-sizes in
+    let read = c .before .before .before .before .before .before .before .before .before .before .read in
+    let if1 = c .before .before .before .before .before .before .before .if1 in
+    let rows-before-cycle = c .before .before .before .rows-before-cycle in
+    let drifts = c .before .drifts in
+    outcomes.drifts-refused (start .args .v) (now (start .args .plan)) (sym (read-sizes .ensures) ∙ read .given .1) (if1 .left) _ (rows-before-cycle .ensures) (drifts .given .1)
 
 enum-told-2 : tie.Need-enum-told-2
 enum-told-2 c = search needs
 
 -- src/check.rt:70:1
 returns-5 : tie.Need-returns-5
-returns-5 c = outcomes.fits-read (c .before .before .before .before .before .before .before .before .before .before .before .before .before .args .v) (now (c .before .before .before .before .before .before .before .before .before .before .before .before .before .args .plan)) (sym (c .before .before .before .before .before .before .before .before .before .before .before .read-sizes .ensures) ∙ c .before .before .before .before .before .before .before .before .before .read .given .1) (c .before .before .before .before .before .before .if1 .left) _ (c .before .before .rows-before-cycle .ensures) (c .enum-told2 .given .1)
+returns-5 c =
+    let start = c .before .before .before .before .before .before .before .before .before .before .before .before .before in
+    let read-sizes = c .before .before .before .before .before .before .before .before .before .before .before .read-sizes in
+    let read = c .before .before .before .before .before .before .before .before .before .read in
+    let if1 = c .before .before .before .before .before .before .if1 in
+    let rows-before-cycle = c .before .before .rows-before-cycle in
+    outcomes.fits-read (start .args .v) (now (start .args .plan)) (sym (read-sizes .ensures) ∙ read .given .1) (if1 .left) _ (rows-before-cycle .ensures) (c .enum-told2 .given .1)
 
 pub check-plan-spec : {M : Type 1} → statement M
 check-plan-spec =

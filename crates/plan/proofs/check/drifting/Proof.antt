@@ -25,10 +25,13 @@ stored-drift-requires c κs = search needs
 
 returns : tie.Need-returns Inv-loop μ-loop
 returns c =
-    let start = c .before .before .before .before .before .before in
     let loop = c .before .before .before .before .loop in
     let if1 = c .before .before .if1 in
-    let drift = drifts.a-drift (now (start .args .plan)) (start .args .k) (loop .channel) (c .before .stored-drift .ensures .0) (c .if2 .taken) in
+    let stored-drift = c .before .stored-drift in
+    let start = c .before .before .before .before .before .before in
+    let loop = loop in
+    let if1 = if1 in
+    let drift = drifts.a-drift (now (start .args .plan)) (start .args .k) (loop .channel) (stored-drift .ensures .0) (c .if2 .taken) in
     sym (drifts.row-drifts (start .pre .0) (start .args .k) (loop .channel) (if1 .taken) drift)
 
 add-channel : tie.Need-add-channel Inv-loop μ-loop
@@ -39,15 +42,18 @@ loop-less c = omega arith
 
 loop-again : tie.Need-loop-again Inv-loop μ-loop
 loop-again c =
-    let start = c .before .before .before .before .before .before in
     let loop = c .before .before .before .before .loop in
-    let still = drifts.no-drift (now (start .args .plan)) (start .args .k) (loop .channel) (c .before .stored-drift .ensures .0) (c .if2 .left) in
+    let stored-drift = c .before .stored-drift in
+    let start = c .before .before .before .before .before .before in
+    let loop = loop in
+    let still = drifts.no-drift (now (start .args .plan)) (start .args .k) (loop .channel) (stored-drift .ensures .0) (c .if2 .left) in
     (omega arith, drifts.none-more (driftsAt (now (start .args .plan)) (start .args .k)) (loop .channel) (loop .inv .1) still)
 
 returns-2 : tie.Need-returns-2 Inv-loop μ-loop
 returns-2 c =
-    let start = c .before .before .before .before in
     let loop = c .before .before .loop in
+    let start = c .before .before .before .before in
+    let loop = loop in
     sym (drifts.row-still (start .pre .0) (start .args .k) (loop .channel) (omega arith) (loop .inv .1))
 
 pub drifting-spec : {M : Type 1} → statement M

@@ -1,9 +1,6 @@
+-- `plan::check::named_row` meets its contract. Assumes nothing.
 use Rattle.plan.specs.Refusals.{namedRow}
 use native.Mathlib.Omega.{arith}
-use Prim.Native.Nat.{ℕ, _+_, _-_, _*_, _≤_, _<_}
-use mathlib.Core.Path.{_≡_}
-use lib.ListN.{length}
-use borrow.Author.Needs.{needs}
 use Rattle.plan.proofs.check.named_row.Statement.{statement}
 use Rattle.plan.proofs.check.named_row.Tie as tie
 use Rattle.plan.proofs.check.named_row.Reads as reads

@@ -1,4 +1,5 @@
-use mathlib.Core.Path.{refl, _∙_, ap, sym}
+-- `plan::check::rows_before_cycle` meets its contract. Assumes nothing.
+use mathlib.Core.Path.{_∙_, ap, sym, _≡_}
 use denote.Ref.{now}
 use Rattle.refusal.specs.Lowest.{lowest, lowestFrom}
 use Rattle.refusal.specs.First.{refusedAt, atLowest}
@@ -9,9 +10,7 @@ use Rattle.refusal.proofs.Lowest.{passes, found, ended}
 use Rattle.plan.specs.Refusals.{drifting, namedRow}
 use Rattle.plan.specs.declared.sizes.Sizes.{Sizes}
 use native.Mathlib.Omega.{arith}
-use Prim.Native.Nat.{ℕ, _+_, _-_, _*_, _≤_, _<_}
-use mathlib.Core.Path.{_≡_}
-use lib.ListN.{length}
+use Prim.Native.Nat.{ℕ, _+_, _-_, _≤_}
 use borrow.Author.Needs.{needs}
 use Rattle.plan.proofs.check.rows_before_cycle.Statement.{statement}
 use Rattle.plan.proofs.check.rows_before_cycle.Tie as tie
@@ -32,18 +31,24 @@ abbrev μ-loop : tie.MeasureT-loop
 
 -- src/check.rt:55:17
 add-cycle : tie.Need-add-cycle Inv-loop μ-loop
-add-cycle c = omega (arith, c .before .before .pre .few-lead, c .before .before .pre .few-rows)
+add-cycle c =
+    let start = c .before .before in
+    omega (arith, start .pre .few-lead, start .pre .few-rows)
 
 -- src/check.rt:57:5
 loop-holds : tie.Need-loop-holds Inv-loop μ-loop
 unfolding atLowest lowest
-loop-holds c = let n = c .before .before .args .sizes .lead + c .before .before .args .sizes .start in
+loop-holds c =
+    let start = c .before .before in
+    let n = start .args .sizes .lead + start .args .sizes .start in
     let left : n ≡ n - 0 = omega arith in
-    (omega arith, ap (λ (m : ℕ). refusedAt (asNamed (c .before .before .args .sizes)) (lowestFrom (drifting (now (c .before .before .args .plan))) 0 m)) left)
+    (omega arith, ap (λ (m : ℕ). refusedAt (asNamed (start .args .sizes)) (lowestFrom (drifting (now (start .args .plan))) 0 m)) left)
 
 -- src/check.rt:58:12
 drifting-requires : tie.Need-drifting-requires Inv-loop μ-loop
-drifting-requires c κs = (c .before .before .before .before .pre, omega arith)
+drifting-requires c κs =
+    let start = c .before .before .before .before in
+    (start .pre, omega arith)
 
 -- src/check.rt:60:22
 named-row-requires : tie.Need-named-row-requires Inv-loop μ-loop
@@ -52,9 +57,15 @@ named-row-requires c κs = search needs
 -- src/check.rt:59:13
 returns : tie.Need-returns Inv-loop μ-loop
 unfolding refusedAt
-returns c = let n = c .before .before .before .before .before .before .before .args .sizes .lead + c .before .before .before .before .before .before .before .args .sizes .start in
-    let here = found (drifting (now (c .before .before .before .before .before .before .before .args .plan))) (c .before .before .before .before .loop .k) n (c .before .before .before .loop-test .taken) (sym (c .before .before .drifting .ensures) ∙ c .before .if1 .taken) in
-    ap (λ (row : ℕ). Refused (StartDrift row)) (c .named-row .ensures) ∙ sym (c .before .before .before .before .loop .inv .1 ∙ ap (refusedAt (asNamed (c .before .before .before .before .before .before .before .args .sizes))) here)
+returns c =
+    let start = c .before .before .before .before .before .before .before in
+    let loop = c .before .before .before .before .loop in
+    let loop-test = c .before .before .before .loop-test in
+    let looked = c .before .before .drifting in
+    let if1 = c .before .if1 in
+    let n = start .args .sizes .lead + start .args .sizes .start in
+    let here = found (drifting (now (start .args .plan))) (loop .k) n (loop-test .taken) (sym (looked .ensures) ∙ if1 .taken) in
+    ap (λ (row : ℕ). Refused (StartDrift row)) (c .named-row .ensures) ∙ sym (loop .inv .1 ∙ ap (refusedAt (asNamed (start .args .sizes))) here)
 
 -- src/check.rt:63:9
 add-k : tie.Need-add-k Inv-loop μ-loop
@@ -66,16 +77,24 @@ loop-less c = search needs
 
 -- src/check.rt:57:5
 loop-again : tie.Need-loop-again Inv-loop μ-loop
-loop-again c = let n = c .before .before .before .before .before .before .args .sizes .lead + c .before .before .before .before .before .before .args .sizes .start in
-    let later = passes (drifting (now (c .before .before .before .before .before .before .args .plan))) (c .before .before .before .loop .k) n (c .before .before .loop-test .taken) (sym (c .before .drifting .ensures) ∙ c .if1 .left) in
-    (omega arith, c .before .before .before .loop .inv .1 ∙ ap (refusedAt (asNamed (c .before .before .before .before .before .before .args .sizes))) later)
+loop-again c =
+    let start = c .before .before .before .before .before .before in
+    let loop = c .before .before .before .loop in
+    let loop-test = c .before .before .loop-test in
+    let looked = c .before .drifting in
+    let n = start .args .sizes .lead + start .args .sizes .start in
+    let later = passes (drifting (now (start .args .plan))) (loop .k) n (loop-test .taken) (sym (looked .ensures) ∙ c .if1 .left) in
+    (omega arith, loop .inv .1 ∙ ap (refusedAt (asNamed (start .args .sizes))) later)
 
 -- src/check.rt:51:1
 returns-2 : tie.Need-returns-2 Inv-loop μ-loop
 unfolding refusedAt
-returns-2 c = let n = c .before .before .before .before .args .sizes .lead + c .before .before .before .before .args .sizes .start in
-    let none = ended (drifting (now (c .before .before .before .before .args .plan))) (c .before .loop .k) n (c .loop-test .left) in
-    sym (c .before .loop .inv .1 ∙ ap (refusedAt (asNamed (c .before .before .before .before .args .sizes))) none)
+returns-2 c =
+    let start = c .before .before .before .before in
+    let loop = c .before .loop in
+    let n = start .args .sizes .lead + start .args .sizes .start in
+    let none = ended (drifting (now (start .args .plan))) (loop .k) n (c .loop-test .left) in
+    sym (loop .inv .1 ∙ ap (refusedAt (asNamed (start .args .sizes))) none)
 
 pub rows-before-cycle-spec : {M : Type 1} → statement M
 rows-before-cycle-spec =

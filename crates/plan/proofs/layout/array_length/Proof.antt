@@ -1,10 +1,8 @@
+-- `plan::layout::array_length` meets its contract. Assumes nothing.
 use Rattle.plan.specs.Layout.{arrayLength}
 use Rattle.plan.specs.inner.Sizes.{allStored}
 use Rattle.plan.proofs.Arrays.{array-le}
 use native.Mathlib.Omega.{arith}
-use Prim.Native.Nat.{ℕ, _+_, _-_, _*_, _≤_, _<_}
-use mathlib.Core.Path.{_≡_}
-use lib.ListN.{length}
 use borrow.Author.Needs.{needs}
 use Rattle.plan.proofs.layout.array_length.Statement.{statement}
 use Rattle.plan.proofs.layout.array_length.Tie as tie
@@ -21,16 +19,22 @@ add-w-2 c = search needs
 
 -- src/layout.rt:21:10
 mul-result : tie.Need-mul-result
-mul-result c = omega (arith, array-le (c .before .before .before .args .sizes .channels) (allStored (c .before .before .before .args .sizes)) (c .before .before .before .pre .0) (c .before .before .before .pre .1))
+mul-result c =
+    let start = c .before .before .before in
+    omega (arith, array-le (start .args .sizes .channels) (allStored (start .args .sizes)) (start .pre .0) (start .pre .1))
 
 -- src/layout.rt:21:5
 mul-result-2 : tie.Need-mul-result-2
-mul-result-2 c = omega (arith, array-le (c .before .before .before .args .sizes .channels) (allStored (c .before .before .before .args .sizes)) (c .before .before .before .pre .0) (c .before .before .before .pre .1))
+mul-result-2 c =
+    let start = c .before .before .before in
+    omega (arith, array-le (start .args .sizes .channels) (allStored (start .args .sizes)) (start .pre .0) (start .pre .1))
 
 -- src/layout.rt:16:1
 returns : tie.Need-returns
 unfolding arrayLength
-returns c = omega (arith, array-le (c .before .before .before .args .sizes .channels) (allStored (c .before .before .before .args .sizes)) (c .before .before .before .pre .0) (c .before .before .before .pre .1))
+returns c =
+    let start = c .before .before .before in
+    omega (arith, array-le (start .args .sizes .channels) (allStored (start .args .sizes)) (start .pre .0) (start .pre .1))
 
 pub array-length-spec : {M : Type 1} → statement M
 array-length-spec = tie.close (tie.spec add-w add-w-2 mul-result mul-result-2 returns)

@@ -1,12 +1,9 @@
+-- `plan::layout::cell_of` meets its contract. Assumes nothing.
 use native.Mathlib.Nat.{le-of-lt}
 use mathlib.Core.Path.{refl}
 use Rattle.plan.specs.Layout.{cell}
 use Rattle.plan.proofs.Arrays.{array-le}
 use native.Mathlib.Omega.{arith}
-use Prim.Native.Nat.{ℕ, _+_, _-_, _*_, _≤_, _<_}
-use mathlib.Core.Path.{_≡_}
-use lib.ListN.{length}
-use borrow.Author.Needs.{needs}
 use Rattle.plan.proofs.layout.cell_of.Statement.{statement}
 use Rattle.plan.proofs.layout.cell_of.Tie as tie
 use Rattle.plan.proofs.layout.cell_of.Reads as reads
@@ -14,11 +11,15 @@ use Rattle.plan.proofs.layout.cell_of.Lts as lts
 
 -- src/layout.rt:44:5
 mul-result : tie.Need-mul-result
-mul-result c = omega (arith, array-le (c .before .args .sizes .channels) (c .before .args .k) (c .before .pre .0) (le-of-lt (c .before .pre .1)))
+mul-result c =
+    let start = c .before in
+    omega (arith, array-le (start .args .sizes .channels) (start .args .k) (start .pre .0) (le-of-lt (start .pre .1)))
 
 -- src/layout.rt:44:5
 add-result : tie.Need-add-result
-add-result c = omega (arith, array-le (c .before .args .sizes .channels) (c .before .args .k) (c .before .pre .0) (le-of-lt (c .before .pre .1)))
+add-result c =
+    let start = c .before in
+    omega (arith, array-le (start .args .sizes .channels) (start .args .k) (start .pre .0) (le-of-lt (start .pre .1)))
 
 -- src/layout.rt:40:1
 returns : tie.Need-returns

@@ -1,8 +1,5 @@
+-- `plan::lookup::drift_at` meets its contract. Assumes nothing.
 use Rattle.plan.proofs.Arrays.{drift-behind}
-use native.Mathlib.Omega.{arith}
-use Prim.Native.Nat.{ℕ, _+_, _-_, _*_, _≤_, _<_}
-use mathlib.Core.Path.{_≡_}
-use lib.ListN.{length}
 use borrow.Author.Needs.{needs}
 use Rattle.plan.proofs.lookup.drift_at.Statement.{statement}
 use Rattle.plan.proofs.lookup.drift_at.Tie as tie
@@ -20,7 +17,9 @@ stored-drift-requires c κs = search needs
 
 -- src/lookup.rt:79:1
 returns : tie.Need-returns
-returns c = (drift-behind (c .before .before .before .pre .0) (c .before .before .before .args .row) (c .before .before .before .args .channel) (c .stored-drift .ensures .0), c .stored-drift .ensures .1)
+returns c =
+    let start = c .before .before .before in
+    (drift-behind (start .pre .0) (start .args .row) (start .args .channel) (c .stored-drift .ensures .0), c .stored-drift .ensures .1)
 
 pub drift-at-spec : {M : Type 1} → statement M
 drift-at-spec = tie.close (tie.spec add-stored-drift stored-drift-requires returns)

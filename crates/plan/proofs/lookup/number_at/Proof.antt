@@ -1,8 +1,5 @@
+-- `plan::lookup::number_at` meets its contract. Assumes nothing.
 use Rattle.plan.proofs.Arrays.{value-behind}
-use native.Mathlib.Omega.{arith}
-use Prim.Native.Nat.{ℕ, _+_, _-_, _*_, _≤_, _<_}
-use mathlib.Core.Path.{_≡_}
-use lib.ListN.{length}
 use borrow.Author.Needs.{needs}
 use Rattle.plan.proofs.lookup.number_at.Statement.{statement}
 use Rattle.plan.proofs.lookup.number_at.Tie as tie
@@ -20,7 +17,9 @@ stored-number-requires c κs = search needs
 
 -- src/lookup.rt:61:1
 returns : tie.Need-returns
-returns c = (value-behind (c .before .before .before .pre .0) (c .before .before .before .args .row) (c .before .before .before .args .channel) (c .before .before .before .args .pass) (c .stored-number .ensures .0), c .stored-number .ensures .1)
+returns c =
+    let start = c .before .before .before in
+    (value-behind (start .pre .0) (start .args .row) (start .args .channel) (start .args .pass) (c .stored-number .ensures .0), c .stored-number .ensures .1)
 
 pub number-at-spec : {M : Type 1} → statement M
 number-at-spec = tie.close (tie.spec add-stored-number stored-number-requires returns)

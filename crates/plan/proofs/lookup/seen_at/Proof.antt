@@ -1,3 +1,4 @@
+-- `plan::lookup::seen_at` meets its contract. Assumes nothing.
 use mathlib.Core.Path.{ap, _∙_}
 use denote.Ref.{now}
 use Rattle.cltlb.specs.Run.{number}
@@ -6,9 +7,7 @@ use Rattle.plan.proofs.Fits.{reached}
 use Rattle.plan.proofs.Shifts.{in-run}
 use Rattle.plan.proofs.Arrays.{value-at, before-lead, stored-value}
 use native.Mathlib.Omega.{arith}
-use Prim.Native.Nat.{ℕ, _+_, _-_, _*_, _≤_, _<_}
-use mathlib.Core.Path.{_≡_}
-use lib.ListN.{length}
+use Prim.Native.Nat.{_-_}
 use borrow.Author.Needs.{needs}
 use Rattle.plan.proofs.lookup.seen_at.Statement.{statement}
 use Rattle.plan.proofs.lookup.seen_at.Tie as tie
@@ -21,12 +20,16 @@ use Rattle.plan.proofs.positions.row_of.Reads as row-of-reads
 
 -- src/lookup.rt:92:14
 add-at : tie.Need-add-at
-add-at c = omega (arith, c .before .before .pre .0 .few-lead, c .before .before .pre .0 .few-rows)
+add-at c =
+    let start = c .before .before in
+    omega (arith, start .pre .0 .few-lead, start .pre .0 .few-rows)
 
 -- src/lookup.rt:94:9
 returns : tie.Need-returns
 unfolding seenOf
-returns c = (before-lead (c .before .before .before .pre .0) (c .before .before .before .args .channel) (c .before .before .before .args .ahead) (c .if1 .taken), tt)
+returns c =
+    let start = c .before .before .before in
+    (before-lead (start .pre .0) (start .args .channel) (start .args .ahead) (c .if1 .taken), tt)
 
 -- src/lookup.rt:96:16
 add-if2 : tie.Need-add-if2
@@ -38,12 +41,18 @@ add-if2-2 c = search needs
 
 -- src/lookup.rt:97:29
 stored-number-requires : tie.Need-stored-number-requires
-stored-number-requires c κs = (c .before .before .before .before .before .pre .0, c .before .before .before .before .before .pre .1, omega arith, omega arith)
+stored-number-requires c κs =
+    let start = c .before .before .before .before .before in
+    (start .pre .0, start .pre .1, omega arith, omega arith)
 
 -- src/lookup.rt:97:9
 returns-2 : tie.Need-returns-2
 unfolding seenOf
-returns-2 c = (stored-value (c .before .before .before .before .before .before .pre .0) (c .before .before .before .before .before .before .args .channel) (c .before .before .before .before .before .before .args .ahead) (c .before .before .before .if1 .left) (c .before .if2 .taken) (c .stored-number .ensures .0), c .stored-number .ensures .1)
+returns-2 c =
+    let start = c .before .before .before .before .before .before in
+    let if1 = c .before .before .before .if1 in
+    let if2 = c .before .if2 in
+    (stored-value (start .pre .0) (start .args .channel) (start .args .ahead) (if1 .left) (if2 .taken) (c .stored-number .ensures .0), c .stored-number .ensures .1)
 
 -- src/lookup.rt:99:13
 sub-t : tie.Need-sub-t
@@ -59,14 +68,21 @@ pass-of-requires c κs = search needs
 
 -- src/lookup.rt:100:18
 number-at-requires : tie.Need-number-at-requires
-number-at-requires c κs = let within = reached (c .before .before .before .before .before .before .before .pre .0) (c .before .before .before .before .before .before .before .args .ahead - 4) (omega arith) in
-    (c .before .before .before .before .before .before .before .pre .0, c .before .before .before .before .before .before .before .pre .1, omega (arith, within .0), omega (arith, within .1))
+number-at-requires c κs =
+    let start = c .before .before .before .before .before .before .before in
+    let within = reached (start .pre .0) (start .args .ahead - 4) (omega arith) in
+    (start .pre .0, start .pre .1, omega (arith, within .0), omega (arith, within .1))
 
 -- src/lookup.rt:88:1
 returns-3 : tie.Need-returns-3
 unfolding seenOf
-returns-3 c = let value = value-at (c .before .before .before .before .before .before .before .before .pre .0) (c .before .before .before .before .before .before .before .before .args .channel) (c .before .before .before .before .before .before .before .before .args .ahead - 4) (c .before .before .row-of .ensures) (c .before .pass-of .ensures) in
-    let seen = in-run (now (c .before .before .before .before .before .before .before .before .args .plan)) (c .before .before .before .before .before .before .before .before .args .channel) (c .before .before .before .before .before .before .before .before .args .ahead) (omega (arith, c .before .before .before .if2 .left)) in
+returns-3 c =
+    let start = c .before .before .before .before .before .before .before .before in
+    let row-of = c .before .before .row-of in
+    let pass-of = c .before .pass-of in
+    let if2 = c .before .before .before .if2 in
+    let value = value-at (start .pre .0) (start .args .channel) (start .args .ahead - 4) (row-of .ensures) (pass-of .ensures) in
+    let seen = in-run (now (start .args .plan)) (start .args .channel) (start .args .ahead) (omega (arith, if2 .left)) in
     (ap number (c .number-at .ensures .0 ∙ value) ∙ seen, c .number-at .ensures .1)
 
 pub seen-at-spec : {M : Type 1} → statement M

@@ -1,8 +1,7 @@
+-- `plan::lookup::stored_drift` meets its contract. Assumes nothing.
 use Rattle.plan.proofs.Arrays as arrays
 use native.Mathlib.Omega.{arith}
-use Prim.Native.Nat.{ℕ, _+_, _-_, _*_, _≤_, _<_}
-use mathlib.Core.Path.{_≡_}
-use lib.ListN.{length}
+use Prim.Native.Nat.{_+_}
 use borrow.Author.Needs.{needs}
 use Rattle.plan.proofs.lookup.stored_drift.Statement.{statement}
 use Rattle.plan.proofs.lookup.stored_drift.Tie as tie
@@ -43,16 +42,24 @@ cell-of-requires c κs = search needs
 
 -- src/lookup.rt:75:5
 entry-at-requires : tie.Need-entry-at-requires
-entry-at-requires c κs = arrays.in-part (c .before .before .before .before .before .pre .0) (c .before .before .before .before .before .args .k) (c .before .before .before .before .before .args .channel) (c .before .before .before .drifts-start .result) (c .before .before .before .drifts-start .result + c .before .before .array-length .result) _
-    (c .cell-of .ensures) (omega arith) (omega arith) (c .before .before .before .before .before .pre .2) (c .before .before .before .before .before .pre .1)
+entry-at-requires c κs =
+    let start = c .before .before .before .before .before in
+    let drifts-start = c .before .before .before .drifts-start in
+    let array-length = c .before .before .array-length in
+    arrays.in-part (start .pre .0) (start .args .k) (start .args .channel) (drifts-start .result) (drifts-start .result + array-length .result) _
+    (c .cell-of .ensures) (omega arith) (omega arith) (start .pre .2) (start .pre .1)
 
 -- src/lookup.rt:69:1
 returns : tie.Need-returns
-returns c = (
-  arrays.drift-read (c .before .before .before .before .before .before .pre .0) (c .before .before .before .before .before .before .args .k) (c .before .before .before .before .before .before .args .channel) (c .before .before .before .before .drifts-start .result) (c .before .before .before .before .drifts-start .result + c .before .before .before .array-length .result) _
-      (c .before .before .before .before .drifts-start .ensures .0) (omega arith) (c .before .cell-of .ensures) (c .entry-at .ensures .0),
-  c .entry-at .ensures .1,
-)
+returns c =
+    let start = c .before .before .before .before .before .before in
+    let drifts-start = c .before .before .before .before .drifts-start in
+    let array-length = c .before .before .before .array-length in
+    let cell-of = c .before .cell-of in (
+      arrays.drift-read (start .pre .0) (start .args .k) (start .args .channel) (drifts-start .result) (drifts-start .result + array-length .result) _
+          (drifts-start .ensures .0) (omega arith) (cell-of .ensures) (c .entry-at .ensures .0),
+      c .entry-at .ensures .1,
+    )
 
 pub stored-drift-spec : {M : Type 1} → statement M
 stored-drift-spec =

@@ -1,8 +1,7 @@
+-- `plan::lookup::stored_number` meets its contract. Assumes nothing.
 use Rattle.plan.proofs.Arrays as arrays
 use native.Mathlib.Omega.{arith}
-use Prim.Native.Nat.{ℕ, _+_, _-_, _*_, _≤_, _<_}
-use mathlib.Core.Path.{_≡_}
-use lib.ListN.{length}
+use Prim.Native.Nat.{_+_}
 use borrow.Author.Needs.{needs}
 use Rattle.plan.proofs.lookup.stored_number.Statement.{statement}
 use Rattle.plan.proofs.lookup.stored_number.Tie as tie
@@ -60,19 +59,29 @@ cell-of-requires c κs = search needs
 
 -- src/lookup.rt:57:5
 number-on-requires : tie.Need-number-on-requires
-number-on-requires c κs = let inside = arrays.in-part (c .before .before .before .before .before .before .before .pre .0) (c .before .before .before .before .before .before .before .args .k) (c .before .before .before .before .before .before .before .args .channel) in (
-  inside (c .before .before .before .before .before .head-length .result) (c .before .before .before .before .drifts-start .result) _ (c .cell-of .ensures) (omega arith) (omega arith) (c .before .before .before .before .before .before .before .pre .2) (c .before .before .before .before .before .before .before .pre .1),
-  inside (c .before .before .before .before .drifts-start .result) (c .before .before .before .before .drifts-start .result + c .before .before .before .array-length .result) _ (c .cell-of .ensures) (omega arith) (omega arith) (c .before .before .before .before .before .before .before .pre .2) (c .before .before .before .before .before .before .before .pre .1),
-  c .before .before .before .before .before .before .before .pre .3,
-)
+number-on-requires c κs =
+    let start = c .before .before .before .before .before .before .before in
+    let head-length = c .before .before .before .before .before .head-length in
+    let drifts-start = c .before .before .before .before .drifts-start in
+    let array-length = c .before .before .before .array-length in
+    let inside = arrays.in-part (start .pre .0) (start .args .k) (start .args .channel) in (
+      inside (head-length .result) (drifts-start .result) _ (c .cell-of .ensures) (omega arith) (omega arith) (start .pre .2) (start .pre .1),
+      inside (drifts-start .result) (drifts-start .result + array-length .result) _ (c .cell-of .ensures) (omega arith) (omega arith) (start .pre .2) (start .pre .1),
+      start .pre .3,
+    )
 
 -- src/lookup.rt:50:1
 returns : tie.Need-returns
-returns c = (
-  arrays.value-read (c .before .before .before .before .before .before .before .before .pre .0) (c .before .before .before .before .before .before .before .before .args .k) (c .before .before .before .before .before .before .before .before .args .channel) (c .before .before .before .before .before .drifts-start .result) (c .before .before .before .before .before .drifts-start .result + c .before .before .before .before .array-length .result) _
-      (c .before .before .before .before .before .drifts-start .ensures .0) (omega arith) (c .before .cell-of .ensures) _ (c .before .before .before .before .before .before .before .before .args .pass) (c .before .before .before .before .before .before .head-length .ensures) (c .number-on .ensures .0),
-  c .number-on .ensures .1,
-)
+returns c =
+    let start = c .before .before .before .before .before .before .before .before in
+    let drifts-start = c .before .before .before .before .before .drifts-start in
+    let array-length = c .before .before .before .before .array-length in
+    let cell-of = c .before .cell-of in
+    let head-length = c .before .before .before .before .before .before .head-length in (
+      arrays.value-read (start .pre .0) (start .args .k) (start .args .channel) (drifts-start .result) (drifts-start .result + array-length .result) _
+          (drifts-start .ensures .0) (omega arith) (cell-of .ensures) _ (start .args .pass) (head-length .ensures) (c .number-on .ensures .0),
+      c .number-on .ensures .1,
+    )
 
 pub stored-number-spec : {M : Type 1} → statement M
 stored-number-spec =

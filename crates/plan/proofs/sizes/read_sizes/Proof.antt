@@ -1,11 +1,9 @@
+-- `plan::sizes::read_sizes` meets its contract. Assumes nothing.
 use mathlib.Core.Path.{sym}
 use denote.Ref.{now}
 use Rattle.plan.specs.Layout.{channels, startRows, cycleRows, leadRows}
 use Rattle.plan.proofs.Fits as fits
 use native.Mathlib.Omega.{arith}
-use Prim.Native.Nat.{ℕ, _+_, _-_, _*_, _≤_, _<_}
-use mathlib.Core.Path.{_≡_}
-use lib.ListN.{length}
 use borrow.Author.Needs.{needs}
 use Rattle.plan.proofs.sizes.read_sizes.Statement.{statement}
 use Rattle.plan.proofs.sizes.read_sizes.Tie as tie
@@ -21,7 +19,9 @@ head-length-requires c κs = search needs
 
 -- src/sizes.rt:26:9
 returns : tie.Need-returns
-returns c = fits.too-short (now (c .before .before .before .args .plan)) (omega arith)
+returns c =
+    let start = c .before .before .before in
+    fits.too-short (now (start .args .plan)) (omega arith)
 
 -- src/sizes.rt:28:9
 u16-at-requires : tie.Need-u16-at-requires
@@ -42,17 +42,26 @@ u16-at-requires-4 c κs = search needs
 -- src/sizes.rt:33:9
 returns-2 : tie.Need-returns-2
 unfolding channels
-returns-2 c = fits.no-channel (now (c .before .before .before .before .before .before .before .before .args .plan)) (c .before .before .before .before .u16-at .ensures .0) (c .if2 .taken)
+returns-2 c =
+    let start = c .before .before .before .before .before .before .before .before in
+    let u16-at = c .before .before .before .before .u16-at in
+    fits.no-channel (now (start .args .plan)) (u16-at .ensures .0) (c .if2 .taken)
 
 -- src/sizes.rt:36:9
 returns-3 : tie.Need-returns-3
 unfolding channels
-returns-3 c = fits.many-channels (now (c .before .before .before .before .before .before .before .before .before .args .plan)) (c .before .before .before .before .before .u16-at .ensures .0) (c .if3 .taken)
+returns-3 c =
+    let start = c .before .before .before .before .before .before .before .before .before in
+    let u16-at = c .before .before .before .before .before .u16-at in
+    fits.many-channels (now (start .args .plan)) (u16-at .ensures .0) (c .if3 .taken)
 
 -- src/sizes.rt:39:9
 returns-4 : tie.Need-returns-4
 unfolding cycleRows
-returns-4 c = fits.no-cycle (now (c .before .before .before .before .before .before .before .before .before .before .args .plan)) (c .before .before .before .before .u16-at3 .ensures .0) (c .if4 .taken)
+returns-4 c =
+    let start = c .before .before .before .before .before .before .before .before .before .before in
+    let u16-at3 = c .before .before .before .before .u16-at3 in
+    fits.no-cycle (now (start .args .plan)) (u16-at3 .ensures .0) (c .if4 .taken)
 
 -- src/sizes.rt:41:14
 add-if5 : tie.Need-add-if5
@@ -61,12 +70,19 @@ add-if5 c = search needs
 -- src/sizes.rt:42:9
 returns-5 : tie.Need-returns-5
 unfolding startRows cycleRows
-returns-5 c = fits.many-rows (now (c .before .before .before .before .before .before .before .before .before .before .before .args .plan)) (c .before .before .before .before .before .u16-at3 .ensures .0) (c .before .before .before .before .before .before .u16-at2 .ensures .0) (c .if5 .taken)
+returns-5 c =
+    let start = c .before .before .before .before .before .before .before .before .before .before .before in
+    let u16-at3 = c .before .before .before .before .before .u16-at3 in
+    let u16-at2 = c .before .before .before .before .before .before .u16-at2 in
+    fits.many-rows (now (start .args .plan)) (u16-at3 .ensures .0) (u16-at2 .ensures .0) (c .if5 .taken)
 
 -- src/sizes.rt:45:9
 returns-6 : tie.Need-returns-6
 unfolding leadRows
-returns-6 c = fits.long-lead (now (c .before .before .before .before .before .before .before .before .before .before .before .before .args .plan)) (c .before .before .before .before .before .u16-at4 .ensures .0) (c .if6 .taken)
+returns-6 c =
+    let start = c .before .before .before .before .before .before .before .before .before .before .before .before in
+    let u16-at4 = c .before .before .before .before .before .u16-at4 in
+    fits.long-lead (now (start .args .plan)) (u16-at4 .ensures .0) (c .if6 .taken)
 
 -- src/sizes.rt:53:22
 head-length-requires-2 : tie.Need-head-length-requires-2
@@ -87,23 +103,39 @@ add-if7 c = search needs
 -- src/sizes.rt:54:9
 returns-7 : tie.Need-returns-7
 unfolding channels startRows cycleRows leadRows
-returns-7 c = fits.other-length (now (c .before .before .before .before .before .before .before .before .before .before .before .before .before .before .before .args .plan)) (c .before .before .before .before .before .before .before .before .before .u16-at3 .ensures .0) (c .before .before .before .before .before .before .before .before .before .before .u16-at2 .ensures .0) (c .before .before .before .before .before .before .before .before .before .before .before .u16-at .ensures .0) (c .before .before .before .before .before .before .before .before .u16-at4 .ensures .0) (λ e. c .if7 .taken (omega arith))
+returns-7 c =
+    let start = c .before .before .before .before .before .before .before .before .before .before .before .before .before .before .before in
+    let u16-at3 = c .before .before .before .before .before .before .before .before .before .u16-at3 in
+    let u16-at2 = c .before .before .before .before .before .before .before .before .before .before .u16-at2 in
+    let u16-at = c .before .before .before .before .before .before .before .before .before .before .before .u16-at in
+    let u16-at4 = c .before .before .before .before .before .before .before .before .u16-at4 in
+    fits.other-length (now (start .args .plan)) (u16-at3 .ensures .0) (u16-at2 .ensures .0) (u16-at .ensures .0) (u16-at4 .ensures .0) (λ e. c .if7 .taken (omega arith))
 
 -- src/sizes.rt:22:1
 returns-8 : tie.Need-returns-8
 unfolding channels startRows cycleRows leadRows
-returns-8 c = fits.counts (record {
-  v-is = sym (c .before .before .before .before .before .before .before .before .before .before .before .u16-at .ensures .0);
-  p-is = sym (c .before .before .before .before .before .before .before .before .before .before .u16-at2 .ensures .0);
-  c-is = sym (c .before .before .before .before .before .before .before .before .before .u16-at3 .ensures .0);
-  l-is = sym (c .before .before .before .before .before .before .before .before .u16-at4 .ensures .0);
-  a-channel = c .before .before .before .before .before .before .before .if2 .left;
-  few-channels = c .before .before .before .before .before .before .if3 .left;
-  a-cycle = c .before .before .before .before .before .if4 .left;
-  few-rows = c .before .before .before .before .if5 .left;
-  few-lead = c .before .before .before .if6 .left;
-  whole = omega arith;
-})
+returns-8 c =
+    let u16-at = c .before .before .before .before .before .before .before .before .before .before .before .u16-at in
+    let u16-at2 = c .before .before .before .before .before .before .before .before .before .before .u16-at2 in
+    let u16-at3 = c .before .before .before .before .before .before .before .before .before .u16-at3 in
+    let u16-at4 = c .before .before .before .before .before .before .before .before .u16-at4 in
+    let if2 = c .before .before .before .before .before .before .before .if2 in
+    let if3 = c .before .before .before .before .before .before .if3 in
+    let if4 = c .before .before .before .before .before .if4 in
+    let if5 = c .before .before .before .before .if5 in
+    let if6 = c .before .before .before .if6 in
+    fits.counts (record {
+      v-is = sym (u16-at .ensures .0);
+      p-is = sym (u16-at2 .ensures .0);
+      c-is = sym (u16-at3 .ensures .0);
+      l-is = sym (u16-at4 .ensures .0);
+      a-channel = if2 .left;
+      few-channels = if3 .left;
+      a-cycle = if4 .left;
+      few-rows = if5 .left;
+      few-lead = if6 .left;
+      whole = omega arith;
+    })
 
 pub read-sizes-spec : {M : Type 1} → statement M
 read-sizes-spec =

@@ -1,8 +1,5 @@
+-- `plan::sweeps::still` meets its contract. Assumes nothing.
 use Rattle.plan.proofs.Drifts.{still-behind}
-use native.Mathlib.Omega.{arith}
-use Prim.Native.Nat.{ℕ, _+_, _-_, _*_, _≤_, _<_}
-use mathlib.Core.Path.{_≡_}
-use lib.ListN.{length}
 use borrow.Author.Needs.{needs}
 use Rattle.plan.proofs.sweeps.still.Statement.{statement}
 use Rattle.plan.proofs.sweeps.still.Tie as tie
@@ -24,7 +21,9 @@ stored-still-requires c κs = search needs
 
 -- src/sweeps.rt:40:1
 returns : tie.Need-returns
-returns c = λ all. still-behind (c .before .before .before .before .pre .0) _ _ (c .stored-still .ensures all)
+returns c =
+    let start = c .before .before .before .before in
+    λ all. still-behind (start .pre .0) _ _ (c .stored-still .ensures all)
 
 pub still-spec : {M : Type 1} → statement M
 still-spec = tie.close (tie.spec add-stored-still add-stored-still-2 stored-still-requires returns)

@@ -1,9 +1,8 @@
+-- `plan::sweeps::stored_still` meets its contract. Assumes nothing.
 use mathlib.Core.Path.{sym, _∙_}
 use Rattle.plan.proofs.Drifts.{few-numbers, numbers-there, still-rows}
 use native.Mathlib.Omega.{arith}
-use Prim.Native.Nat.{ℕ, _+_, _-_, _*_, _≤_, _<_}
-use mathlib.Core.Path.{_≡_}
-use lib.ListN.{length}
+use Prim.Native.Nat.{_+_}
 use borrow.Author.Needs.{needs}
 use Rattle.plan.proofs.sweeps.stored_still.Statement.{statement}
 use Rattle.plan.proofs.sweeps.stored_still.Tie as tie
@@ -39,7 +38,9 @@ part-all-zero-end c = search needs
 
 -- src/sweeps.rt:36:27
 mul-all-zero : tie.Need-mul-all-zero
-mul-all-zero c = omega (arith, few-numbers (c .before .before .before .before .pre .0) _ _ (c .before .before .before .before .pre .1) (c .before .before .before .before .pre .2))
+mul-all-zero c =
+    let start = c .before .before .before .before in
+    omega (arith, few-numbers (start .pre .0) _ _ (start .pre .1) (start .pre .2))
 
 -- src/sweeps.rt:36:38
 sub-all-zero-2 : tie.Need-sub-all-zero-2
@@ -47,15 +48,24 @@ sub-all-zero-2 c = search needs
 
 -- src/sweeps.rt:36:37
 mul-all-zero-2 : tie.Need-mul-all-zero-2
-mul-all-zero-2 c = omega (arith, few-numbers (c .before .before .before .before .pre .0) _ _ (c .before .before .before .before .pre .1) (c .before .before .before .before .pre .2))
+mul-all-zero-2 c =
+    let start = c .before .before .before .before in
+    omega (arith, few-numbers (start .pre .0) _ _ (start .pre .1) (start .pre .2))
 
 -- src/sweeps.rt:36:5
 all-zero-requires : tie.Need-all-zero-requires
-all-zero-requires c κs = numbers-there (c .before .before .before .before .pre .0) _ _ (c .before .before .before .before .pre .1) (c .before .before .before .before .pre .2) _ _ (c .before .before .drifts-start .ensures .0) (omega arith)
+all-zero-requires c κs =
+    let start = c .before .before .before .before in
+    let drifts-start = c .before .before .drifts-start in
+    numbers-there (start .pre .0) _ _ (start .pre .1) (start .pre .2) _ _ (drifts-start .ensures .0) (omega arith)
 
 -- src/sweeps.rt:29:1
 returns : tie.Need-returns
-returns c = λ all. still-rows (c .before .before .before .before .before .pre .0) (c .before .before .before .drifts-start .result) (c .before .before .before .drifts-start .result + c .before .before .array-length .result) _ _ (c .before .before .before .drifts-start .ensures .0) (omega arith) (sym (c .all-zero .ensures) ∙ all)
+returns c =
+    let start = c .before .before .before .before .before in
+    let drifts-start = c .before .before .before .drifts-start in
+    let array-length = c .before .before .array-length in
+    λ all. still-rows (start .pre .0) (drifts-start .result) (drifts-start .result + array-length .result) _ _ (drifts-start .ensures .0) (omega arith) (sym (c .all-zero .ensures) ∙ all)
 
 pub stored-still-spec : {M : Type 1} → statement M
 stored-still-spec =
