@@ -1,6 +1,8 @@
 // Judges one comparison of the file rule.bin on one row of the file plan.bin, both of the current folder, over all passes.
 // The part and the row are the program's two arguments. Prints one line: `always false`, `always true`, `changes` or
 // `refused N P R`.
+use command::PLAN_ROOM;
+use command::RULE_ROOM;
 use libc::STDOUT_FILENO;
 
 fn print(answer: u64) {
@@ -20,8 +22,8 @@ fn print(answer: u64) {
 
 // Each buffer holds one byte more than the longest file that is right, so that a longer one is refused by its length.
 fn main() {
-    let mut rule = [0u8; 837];
-    let mut plan = [0u8; 16391];
+    let mut rule = [0u8; RULE_ROOM];
+    let mut plan = [0u8; PLAN_ROOM];
     let r = command::load(b"rule.bin", &mut rule);
     let p = command::load(b"plan.bin", &mut plan);
     print(endless_run::endless_run_judge(

@@ -2,6 +2,8 @@
 // line: `made V`, or `refused N P R`, when marks.bin is left alone.
 ghost use Prim.Native.Nat.{_≤_};
 ghost use lib.ListN.{length};
+use command::PLAN_ROOM;
+use command::RULE_ROOM;
 use inputs::InputsRead;
 use libc::STDOUT_FILENO;
 
@@ -56,8 +58,8 @@ fn make_in(rule: &[u8], plan: &[u8], buffer: &mut [u8])
 
 // Each buffer of a file holds one byte more than the longest file that is right, so that a longer one is refused by its length.
 fn main() {
-    let mut rule = [0u8; 837];
-    let mut plan = [0u8; 16391];
+    let mut rule = [0u8; RULE_ROOM];
+    let mut plan = [0u8; PLAN_ROOM];
     let mut marks = [0u8; 16516];
     let r = command::load(b"rule.bin", &mut rule);
     let p = command::load(b"plan.bin", &mut plan);
