@@ -10,8 +10,8 @@ use verdict::bounds::larger;
 use verdict::bounds::less_by;
 use verdict::bounds::smaller;
 
-// At positions below `before` a term is read before the run; from there up to `numbers` the numbers of the lead-in and of pass 0 tell all, and from
-// there up to `end` the lines that begin there. Those from `end` up to W + back, at most eight, are not direct.
+// At positions below `before` a term is read before the run; from there up to `numbers` the numbers of the lead-in and of pass 0 tell
+// all, and from there up to `end` the lines that begin there. Those from `end` up to W + back, at most eight, are not direct.
 pub struct Ranges {
     pub before: usize,
     pub numbers: usize,

@@ -15,7 +15,7 @@ pub struct PlanView<'a> {
     pub sizes: Sizes,
 }
 
-// What is seen of a channel at the position `ahead` - 4.
+// What is seen of a channel at the position `ahead` - 4, in the lead-in too.
 pub fn seen<'a>(view: PlanView<'a>, channel: usize, ahead: usize) -> Seen
     requires { ⌜ (Fitting (now (view .plan)) (view .sizes)) × (channel < view .sizes .channels) × (ahead ≤ farthest (view .sizes)) ⌝ }
     ensures { λ r. ⌜ (seenOf r ≡ runOf (now (view .entry .plan)) channel (subℕ ahead 4)) × Small r ⌝ }
