@@ -1,7 +1,7 @@
 /*
- * examples.c: the worked examples E1 to E11, E8 also with a lead-in row, and the worked tables of
- * docs/FORMATS.md in its order. E12 is about full sizes, and is tried where sizes
- * are (neighbours.c).
+ * examples.c: the worked examples E1 to E11, E8 also with a lead-in row, the plan of
+ * docs/FORMATS.md with two lead-in rows, and its worked tables in its order. E12 is
+ * about full sizes, and is tried where sizes are (neighbours.c).
  */
 #include "examples.h"
 
@@ -12,6 +12,8 @@
 #define X "01 04 00 00 00 00 "
 #define NEXT_X "01 05 00 00 00 00 "
 #define YESTERDAY_X "01 03 00 00 00 00 "
+#define TWO_BEFORE_X "01 02 00 00 00 00 "
+#define THREE_BEFORE_X "01 01 00 00 00 00 "
 #define C_0 "00 04 00 00 00 00 "
 #define C_1 "00 04 01 00 00 00 "
 #define C_3 "00 04 03 00 00 00 "
@@ -48,6 +50,10 @@
 #define NAMES_1 "01 00 00 00 00 00 00 00 00 00 00 00 "
 #define NAMES_3_1 "03 00 01 00 00 00 00 00 00 00 00 00 "
 #define BELOW_9_UNTIL_BELOW_3 "03 00 01 00 01 01 07 " X C_9 X C_3 NAMES_0_1
+#define NAMES_1_4 "01 00 04 00 00 00 00 00 00 00 00 00 "
+#define RULE_OF_6                                                                                  \
+    "06 00 01 00 01 01 01 09 02 0B " YESTERDAY_X X TWO_BEFORE_X X X THREE_BEFORE_X NAMES_0 X C_20   \
+        NAMES_1_4
 
 /* ---- Plans: V, P, C, L, readings, drifts ---- */
 
@@ -66,6 +72,11 @@
 #define PLAN_B ONE_ROW "FE 0F 00 00 01 00 00 00"
 #define PLAN_B_AFTER(lead_in)                                                                      \
     "01 00 00 00 01 00 01 00 " lead_in "FE 0F 00 00 00 00 00 00 01 00 00 00"
+#define PLAN_G_AFTER(lead, readings, drifts)                                                       \
+    "01 00 00 00 02 00 " lead readings "28 00 00 00 28 00 00 00 " drifts "0A 00 00 00 0A 00 00 00"
+#define STILL_1 "00 00 00 00 "
+#define STILL_2 STILL_1 STILL_1
+#define PLAN_G PLAN_G_AFTER("02 00 ", "14 00 00 00 1E 00 00 00 ", STILL_2)
 #define FROM_0_BY_3 ONE_ROW "00 00 00 00 03 00 00 00"
 #define ALWAYS_5 ONE_ROW "05 00 00 00 00 00 00 00"
 #define FROM_TOP_BY_1 ONE_ROW "FF FF FF 7F 01 00 00 00"
@@ -115,6 +126,26 @@ const struct example examples[] = {
       "03 00 01 00 01 00 00 FF FF FF FF FF FF", 0, 0 },
     { "E11 x < 0", ONE_PART "01 " X C_0, FROM_TOP_BY_1, 0, 0, ALWAYS_FALSE },
     { "E11 checked", ONE_PART "01 " X C_0, FROM_TOP_BY_1, "01 00 01 00 00 FF FF", 0, 0 },
+
+    { "G", RULE_OF_6, PLAN_G, "06 00 02 00 01 00 01 01 00 00 00 01 00 00 00 00 " NO_3 NO_3, 0, 0 },
+    { "G judged on row 0", RULE_OF_6, PLAN_G, 0, 0, ALWAYS_TRUE },
+    { "G judged on row 1", RULE_OF_6, PLAN_G, 0, 1, ALWAYS_FALSE },
+    { "G judged on row 2", RULE_OF_6, PLAN_G, 0, 2, REFUSED(12, 0, 0) },
+    { "G after 20, 40", RULE_OF_6,
+      PLAN_G_AFTER("02 00 ", "14 00 00 00 28 00 00 00 ", STILL_2),
+      "06 00 02 00 00 00 01 01 00 00 00 00 00 00 00 00 " NO_3 NO_3, 0, REFUSED(10, 0, 0) },
+    { "G after 30", RULE_OF_6, PLAN_G_AFTER("01 00 ", "1E 00 00 00 ", STILL_1),
+      "06 00 02 00 01 00 00 01 00 00 00 01 00 00 00 00 " NO_3 NO_3, 0, REFUSED(10, 1, 0) },
+    { "G after nothing", RULE_OF_6, PLAN_G_AFTER("00 00 ", "", ""), 0, 0, CHANGES },
+    { "G after 45, 20, 30", RULE_OF_6,
+      PLAN_G_AFTER("03 00 ", "2D 00 00 00 14 00 00 00 1E 00 00 00 ", STILL_2 STILL_1),
+      "06 00 02 00 01 00 01 01 01 00 00 01 00 00 00 00 " NO_3 NO_3, 0, REFUSED(10, 2, 0) },
+    { "G, a lead-in drift", RULE_OF_6,
+      PLAN_G_AFTER("02 00 ", "14 00 00 00 1E 00 00 00 ", STILL_1 "01 00 00 00 "), 0, 0,
+      REFUSED(6, 0, 0) },
+    { "G after five rows", RULE_OF_6,
+      PLAN_G_AFTER("05 00 ", STILL_2 STILL_2 STILL_1, STILL_2 STILL_2 STILL_1), 0, 0,
+      REFUSED(4, 0, 0) },
 
     { "x < X x on A", ONE_PART "01 " X NEXT_X, PLAN_A, "01 00 03 00 01 01 00 " NONE, 0, 1 },
     { "Y x < x on A", ONE_PART "01 " YESTERDAY_X X, PLAN_A, "01 00 03 00 00 01 01 " NONE, 0,
