@@ -1,4 +1,4 @@
--- The run that a plan stands for: ultimately periodic but for the drifts. Assumes nothing.
+-- The run that a plan stands for: ultimately periodic but for the drifts, with the lead-in as its history. Assumes nothing.
 use Prim.Native.Nat.{ℕ, suc, _-_}
 use mathlib.Core.Bool.{cond}
 use mathlib.Core.List.{List}
