@@ -60,7 +60,7 @@
 #define PLAN_A                                                                                     \
     "01 00 01 00 02 00 00 00 0A 00 00 00 14 00 00 00 1E 00 00 00 "                                 \
     "00 00 00 00 00 00 00 00 00 00 00 00"
-#define PLAN_L                                                                                     \
+#define PLAN_K                                                                                     \
     "01 00 03 00 02 00 00 00 0A 00 00 00 14 00 00 00 1E 00 00 00 14 00 00 00 1E 00 00 00 "         \
     "00 00 00 00 00 00 00 00 00 00 00 00 00 00 00 00 00 00 00 00"
 #define PLAN_M "01 00 00 00 02 00 00 00 14 00 00 00 1E 00 00 00 00 00 00 00 00 00 00 00"
@@ -150,20 +150,20 @@ const struct example examples[] = {
     { "x < X x on A", ONE_PART "01 " X NEXT_X, PLAN_A, "01 00 03 00 01 01 00 " NONE, 0, 1 },
     { "Y x < x on A", ONE_PART "01 " YESTERDAY_X X, PLAN_A, "01 00 03 00 00 01 01 " NONE, 0,
       REFUSED(10, 0, 1) },
-    { "Y x < x on L", ONE_PART "01 " YESTERDAY_X X, PLAN_L, "01 00 05 00 00 01 01 00 01 " NONE, 0,
+    { "Y x < x on K", ONE_PART "01 " YESTERDAY_X X, PLAN_K, "01 00 05 00 00 01 01 00 01 " NONE, 0,
       0 },
-    { "Y on L", Y_OF_IT, PLAN_L, "02 00 05 00 01 01 00 01 00 00 01 01 00 01 " NO_2, 0, 0 },
+    { "Y on K", Y_OF_IT, PLAN_K, "02 00 05 00 01 01 00 01 00 00 01 01 00 01 " NO_2, 0, 0 },
     { "Y on M", Y_OF_IT, PLAN_M, "02 00 02 00 01 00 00 01 " NO_2, 0, 0 },
     { "Z on A", Z_OF_IT, PLAN_A, "02 00 03 00 01 01 00 01 01 01 " NO_2, 0, REFUSED(10, 1, 1) },
-    { "Z on L", Z_OF_IT, PLAN_L, "02 00 05 00 01 01 00 01 00 01 01 01 00 01 " NO_2, 0, 1 },
+    { "Z on K", Z_OF_IT, PLAN_K, "02 00 05 00 01 01 00 01 00 01 01 01 00 01 " NO_2, 0, 1 },
     { "Z on M", Z_OF_IT, PLAN_M, "02 00 02 00 01 00 01 01 " NO_2, 0, REFUSED(10, 1, 0) },
     { "S on A", BELOW_25_SINCE_10, PLAN_A, "03 00 03 00 01 01 00 01 00 00 01 01 00 " NO_3, 0,
       REFUSED(10, 2, 1) },
-    { "S on L", BELOW_25_SINCE_10, PLAN_L,
+    { "S on K", BELOW_25_SINCE_10, PLAN_K,
       "03 00 05 00 01 01 00 01 00 01 00 00 00 00 01 01 00 00 00 " NO_3, 0, 1 },
     { "T on A", ABOVE_25_TRIGGER_ABOVE_10, PLAN_A,
       "03 00 03 00 00 00 01 00 01 01 00 00 01 " NO_3, 0, REFUSED(10, 2, 1) },
-    { "T on L", ABOVE_25_TRIGGER_ABOVE_10, PLAN_L,
+    { "T on K", ABOVE_25_TRIGGER_ABOVE_10, PLAN_K,
       "03 00 05 00 00 00 01 00 01 00 01 01 01 01 00 00 01 01 01 " NO_3, 0, 0 },
     { "E4 marked 1 1 0", IT_UNTIL_NOT_IT, PLAN_A,
       "03 00 03 00 01 01 00 00 00 01 01 01 00 " NO_3, 0, REFUSED(9, 2, 1) },
