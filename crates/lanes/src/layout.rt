@@ -21,13 +21,13 @@ fn lay_channel(array: &[u8], sizes: Sizes, channel: usize, lanes: &mut [u8])
     requires { ⌜ (Room (now array) (sizes .channels) (allStored sizes) (now lanes)) × (channel < sizes .channels) × (LaidTo (now array) (sizes .channels) (allStored sizes) (now lanes) (channel * allStored sizes)) ⌝ }
     ensures { λ _. ⌜ (length (now (lanes .exit)) ≡ length (now (lanes .entry))) × (LaidTo (now (array .entry)) (sizes .channels) (allStored sizes) (now (lanes .exit)) (channel * allStored sizes + allStored sizes)) ⌝ }
 {
-    let w = sizes.lead + (sizes.start + sizes.cycle);
-    let mut row = 0;
-    while row < w {
-        let to = 4 * (channel * w + row);
-        let x = u32_at(array, 4 * cell_of(sizes, row, channel));
+    let stored = sizes.lead + (sizes.start + sizes.cycle);
+    let mut k = 0;
+    while k < stored {
+        let to = 4 * (channel * stored + k);
+        let x = u32_at(array, 4 * cell_of(sizes, k, channel));
         put_u32(&mut lanes[to..], x);
-        row += 1;
+        k += 1;
     }
 }
 

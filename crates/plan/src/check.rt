@@ -52,9 +52,9 @@ fn rows_before_cycle(plan: &[u8], sizes: Sizes) -> Outcome
     requires { ⌜ Fitting (now plan) sizes ⌝ }
     ensures { λ r. ⌜ r ≡ atLowest (refusals.drifting (now (plan .entry))) (sizes .lead + sizes .start) (λ k. StartDrift (namedRow (sizes .lead) k)) ⌝ }
 {
-    let cycle = sizes.lead + sizes.start;
+    let before = sizes.lead + sizes.start;
     let mut k = 0;
-    while k < cycle {
+    while k < before {
         if drifting(plan, sizes, k) {
             return Outcome::Refused(Refusal::StartDrift {
                 row: named_row(sizes, k),

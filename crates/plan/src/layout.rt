@@ -17,8 +17,8 @@ pub fn array_length(sizes: Sizes) -> usize
     requires { ⌜ (sizes .channels ≤ 8) × (allStored sizes ≤ mostStored) ⌝ }
     ensures { λ r. ⌜ (r ≡ arrayLength (sizes .channels) (allStored sizes)) × (r ≤ mostArray) ⌝ }
 {
-    let w = sizes.lead + (sizes.start + sizes.cycle);
-    4 * (sizes.channels * w)
+    let stored = sizes.lead + (sizes.start + sizes.cycle);
+    4 * (sizes.channels * stored)
 }
 
 // Where the drifts begin.

@@ -19,20 +19,20 @@ use Rattle.fields.proofs.u32_at.Reads as u32-at-reads
 use Rattle.plan.proofs.layout.cell_of.Reads as cell-of-reads
 
 abbrev Inv-loop : tie.InvT-loop
-Inv-loop array sizes channel lanes₀ w row₀ lanes row = (row ≤ w) × (length lanes ≡ length lanes₀) × LaidTo array (sizes .channels) w lanes (channel * w + row)
+Inv-loop array sizes channel lanes₀ stored k₀ lanes k = (k ≤ stored) × (length lanes ≡ length lanes₀) × LaidTo array (sizes .channels) stored lanes (channel * stored + k)
 
 abbrev μ-loop : tie.MeasureT-loop
-μ-loop array sizes channel lanes₀ w row₀ lanes row = w - row
+μ-loop array sizes channel lanes₀ stored k₀ lanes k = stored - k
 
 -- src/layout.rt:24:27
-add-w : tie.Need-add-w Inv-loop μ-loop
-add-w c =
+add-stored : tie.Need-add-stored Inv-loop μ-loop
+add-stored c =
     let start = c .before .before .before in
     omega (arith, start .pre .0 .few-rows)
 
 -- src/layout.rt:24:13
-add-w-2 : tie.Need-add-w-2 Inv-loop μ-loop
-add-w-2 c =
+add-stored-2 : tie.Need-add-stored-2 Inv-loop μ-loop
+add-stored-2 c =
     let start = c .before .before .before .before in
     omega (arith, start .pre .0 .few-rows)
 
@@ -76,7 +76,7 @@ mul-u32-at c =
     let start = c .before .before .before .before .before .before .before in
     let loop = c .before .before .loop in
     let loop-test = c .before .loop-test in
-    let there = law.number-there _ _ _ (start .pre .0) (start .args .channel) (loop .row) (start .pre .1) (loop-test .taken) in
+    let there = law.number-there _ _ _ (start .pre .0) (start .args .channel) (loop .k) (start .pre .1) (loop-test .taken) in
     omega arith
 
 -- src/layout.rt:28:13
@@ -85,7 +85,7 @@ u32-at-requires c κs =
     let start = c .before .before .before .before .before .before .before in
     let loop = c .before .before .loop in
     let loop-test = c .before .loop-test in
-    let there = law.number-there _ _ _ (start .pre .0) (start .args .channel) (loop .row) (start .pre .1) (loop-test .taken) in
+    let there = law.number-there _ _ _ (start .pre .0) (start .args .channel) (loop .k) (start .pre .1) (loop-test .taken) in
     omega arith
 
 -- src/layout.rt:29:17
@@ -94,7 +94,7 @@ sub-put-u32 c =
     let start = c .before .before .before .before .before .before .before .before in
     let loop = c .before .before .before .loop in
     let loop-test = c .before .before .loop-test in
-    let there = law.place-there _ _ _ (start .pre .0) (start .args .channel) (loop .row) (start .pre .1) (loop-test .taken) in
+    let there = law.place-there _ _ _ (start .pre .0) (start .args .channel) (loop .k) (start .pre .1) (loop-test .taken) in
     let long = loop .inv .1 in
     omega arith
 
@@ -104,7 +104,7 @@ part-put-u32-start c =
     let start = c .before .before .before .before .before .before .before .before in
     let loop = c .before .before .before .loop in
     let loop-test = c .before .before .loop-test in
-    let there = law.place-there _ _ _ (start .pre .0) (start .args .channel) (loop .row) (start .pre .1) (loop-test .taken) in
+    let there = law.place-there _ _ _ (start .pre .0) (start .args .channel) (loop .k) (start .pre .1) (loop-test .taken) in
     let long = loop .inv .1 in
     omega arith
 
@@ -114,7 +114,7 @@ part-put-u32-end c =
     let start = c .before .before .before .before .before .before .before .before in
     let loop = c .before .before .before .loop in
     let loop-test = c .before .before .loop-test in
-    let there = law.place-there _ _ _ (start .pre .0) (start .args .channel) (loop .row) (start .pre .1) (loop-test .taken) in
+    let there = law.place-there _ _ _ (start .pre .0) (start .args .channel) (loop .k) (start .pre .1) (loop-test .taken) in
     let long = loop .inv .1 in
     omega arith
 
@@ -124,13 +124,13 @@ put-u32-requires c κs =
     let start = c .before .before .before .before .before .before .before .before .before in
     let loop = c .before .before .before .before .loop in
     let loop-test = c .before .before .before .loop-test in
-    let there = law.place-there _ _ _ (start .pre .0) (start .args .channel) (loop .row) (start .pre .1) (loop-test .taken) in
+    let there = law.place-there _ _ _ (start .pre .0) (start .args .channel) (loop .k) (start .pre .1) (loop-test .taken) in
     let long = loop .inv .1 in
     omega arith
 
 -- src/layout.rt:30:9
-add-row : tie.Need-add-row Inv-loop μ-loop
-add-row c =
+add-k : tie.Need-add-k Inv-loop μ-loop
+add-k c =
     let start = c .before .before .before .before .before .before .before .before .before .before .before .before in
     let rows = start .pre .0 .few-rows in
     omega arith
@@ -148,10 +148,10 @@ loop-again c =
     let u32-at = c .before .before .before .before .u32-at in
     let put-u32 = c .before .before .put-u32 in
     let cell-of = c .before .before .before .before .before .cell-of in
-    let there = law.place-there _ _ _ (start .pre .0) (start .args .channel) (loop .row) (start .pre .1) (loop-test .taken) in
+    let there = law.place-there _ _ _ (start .pre .0) (start .args .channel) (loop .k) (start .pre .1) (loop-test .taken) in
     let long = loop .inv .1 in
-    let stored = stored-lent (loop .lanes) (bytesOf 4 (u32-at .result)) (4 * (start .args .channel * allStored (start .args .sizes) + loop .row)) 4 (length-bytes 4 (u32-at .result)) (omega arith) _ (put-u32 .ensures) in
-    (omega arith, stored .long ∙ long, law.laid-more (now (start .args .array)) (start .args .sizes .channels) (allStored (start .args .sizes)) (start .args .channel) (loop .row) (u32-at .result) (loop-test .taken) (loop .inv .2) (law.cell-number (now (start .args .array)) _ _ (u32-at .ensures) (cell-of .ensures)) (u32-at .ok) stored)
+    let stored = stored-lent (loop .lanes) (bytesOf 4 (u32-at .result)) (4 * (start .args .channel * allStored (start .args .sizes) + loop .k)) 4 (length-bytes 4 (u32-at .result)) (omega arith) _ (put-u32 .ensures) in
+    (omega arith, stored .long ∙ long, law.laid-more (now (start .args .array)) (start .args .sizes .channels) (allStored (start .args .sizes)) (start .args .channel) (loop .k) (u32-at .result) (loop-test .taken) (loop .inv .2) (law.cell-number (now (start .args .array)) _ _ (u32-at .ensures) (cell-of .ensures)) (u32-at .ok) stored)
 
 -- src/layout.rt:20:1
 same-length : tie.Need-same-length Inv-loop μ-loop
@@ -171,8 +171,8 @@ lay-channel-spec =
     (tie.spec
     Inv-loop
     μ-loop
-    add-w
-    add-w-2
+    add-stored
+    add-stored-2
     loop-holds
     mul-to
     add-to
@@ -184,7 +184,7 @@ lay-channel-spec =
     part-put-u32-start
     part-put-u32-end
     put-u32-requires
-    add-row
+    add-k
     loop-less
     loop-again
     same-length

@@ -24,14 +24,14 @@ abbrev asNamed : Sizes → ℕ → Refusal
 asNamed z k = StartDrift (namedRow (z .lead) k)
 
 abbrev Inv-loop : tie.InvT-loop
-Inv-loop plan sizes cycle k₀ k = (k ≤ cycle) × (atLowest (drifting plan) cycle (asNamed sizes) ≡ refusedAt (asNamed sizes) (lowestFrom (drifting plan) k (cycle - k)))
+Inv-loop plan sizes before k₀ k = (k ≤ before) × (atLowest (drifting plan) before (asNamed sizes) ≡ refusedAt (asNamed sizes) (lowestFrom (drifting plan) k (before - k)))
 
 abbrev μ-loop : tie.MeasureT-loop
-μ-loop plan sizes cycle k₀ k = cycle - k
+μ-loop plan sizes before k₀ k = before - k
 
 -- src/check.rt:55:17
-add-cycle : tie.Need-add-cycle Inv-loop μ-loop
-add-cycle c =
+add-before : tie.Need-add-before Inv-loop μ-loop
+add-before c =
     let start = c .before .before in
     omega (arith, start .pre .few-lead, start .pre .few-rows)
 
@@ -102,7 +102,7 @@ rows-before-cycle-spec =
     (tie.spec
     Inv-loop
     μ-loop
-    add-cycle
+    add-before
     loop-holds
     drifting-requires
     named-row-requires

@@ -10,12 +10,12 @@ use Rattle.plan.proofs.layout.array_length.Reads as reads
 use Rattle.plan.proofs.layout.array_length.Lts as lts
 
 -- src/layout.rt:20:27
-add-w : tie.Need-add-w
-add-w c = search needs
+add-stored : tie.Need-add-stored
+add-stored c = search needs
 
 -- src/layout.rt:20:13
-add-w-2 : tie.Need-add-w-2
-add-w-2 c = search needs
+add-stored-2 : tie.Need-add-stored-2
+add-stored-2 c = search needs
 
 -- src/layout.rt:21:10
 mul-result : tie.Need-mul-result
@@ -37,4 +37,4 @@ returns c =
     omega (arith, array-le (start .args .sizes .channels) (allStored (start .args .sizes)) (start .pre .0) (start .pre .1))
 
 pub array-length-spec : {M : Type 1} → statement M
-array-length-spec = tie.close (tie.spec add-w add-w-2 mul-result mul-result-2 returns)
+array-length-spec = tie.close (tie.spec add-stored add-stored-2 mul-result mul-result-2 returns)
