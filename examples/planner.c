@@ -187,7 +187,9 @@ static void sweep(int mark[PARTS][MOST_ROWS], const struct plan *plan)
     }
 }
 
-/* Has the count stayed since the row before? It has not where nothing was read. */
+/* Has the count stayed since the row before? It has not where nothing was read. The
+   row before row P is another one on later passes, row W - 1: where the two differ in
+   that, the part changes on row P, and the check refuses the table. */
 static int has_stayed(const struct plan *plan, int row)
 {
     if (row == 0 && plan->lead == 0)

@@ -141,8 +141,8 @@ enum endless_run_form {
 #define ENDLESS_RUN_MOST_ROWS 256
 
 /* The length in bytes, of type size_t, that a rule, a plan or a mark table has
-   by its sizes N, V, L and W = P + C. A constant expression where the sizes are.
-   Each size is evaluated once, and is not held against its range. */
+   by its sizes N, V, L and W = P + C. A constant expression where the sizes
+   are. Each size is evaluated once, and is not held against its range. */
 #define ENDLESS_RUN_RULE_LENGTH(parts) (4 + 13 * (size_t)(parts))
 #define ENDLESS_RUN_PLAN_LENGTH(channels, lead, rows) \
     (8 + 8 * (size_t)(channels) * ((size_t)(lead) + (size_t)(rows)))

@@ -125,8 +125,8 @@ static void write_looking_back(int lead, int start, int shift)
     write_input(name, 1, 0);
 }
 
-/* Too many lead-in rows in a plan of the length for them, and an L whose low byte
-   alone is right. */
+/* Five lead-in rows in a plan of the length for them; and, in a plan without any, an L
+   whose low byte alone is right, and the largest L. */
 static void write_wrong_leads(void)
 {
     static const unsigned said[] = { 5, 256, 65535 };

@@ -50,10 +50,10 @@
 #define NAMES_1 "01 00 00 00 00 00 00 00 00 00 00 00 "
 #define NAMES_3_1 "03 00 01 00 00 00 00 00 00 00 00 00 "
 #define BELOW_9_UNTIL_BELOW_3 "03 00 01 00 01 01 07 " X C_9 X C_3 NAMES_0_1
-#define NAMES_1_4 "01 00 04 00 00 00 00 00 00 00 00 00 "
+#define NAMES_0_4 "00 00 04 00 00 00 00 00 00 00 00 00 "
 #define RULE_OF_6                                                                                  \
-    "06 00 01 00 01 01 01 09 02 0B " YESTERDAY_X X TWO_BEFORE_X X X THREE_BEFORE_X NAMES_0 X C_20   \
-        NAMES_1_4
+    "06 00 01 00 01 01 01 09 02 0B " YESTERDAY_X X TWO_BEFORE_X X X THREE_BEFORE_X NAMES_0 X C_20  \
+        NAMES_0_4
 
 /* ---- Plans: V, P, C, L, readings, drifts ---- */
 
