@@ -221,6 +221,16 @@ void hold_to_floor(const char *name, unsigned long n, unsigned long cases, unsig
     }
 }
 
+void hold_each(const char *name, const unsigned long *n, int many, unsigned long cases,
+               unsigned long in_10000)
+{
+    char numbered[64];
+    for (int i = 0; i < many; i++) {
+        snprintf(numbered, sizeof numbered, "%s %d", name, i);
+        hold_to_floor(numbered, n[i], cases, in_10000);
+    }
+}
+
 void print_sheet(const char *name, const struct sheet *sheet)
 {
     printf("  %s (%zu bytes)", name, sheet->len);

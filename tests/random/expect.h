@@ -44,6 +44,10 @@ void expect_make_as_checked(const char *name, const struct sheet *rule, const st
 /* Print a count, and fail if it is below its floor: so many in 10000 cases. */
 void hold_to_floor(const char *name, unsigned long n, unsigned long cases, unsigned long in_10000);
 
+/* The same for each of so many counts, which have their numbers as names. */
+void hold_each(const char *name, const unsigned long *n, int many, unsigned long cases,
+               unsigned long in_10000);
+
 /* Print the bytes of a sheet, for a case that failed. */
 void print_sheet(const char *name, const struct sheet *sheet);
 

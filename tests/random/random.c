@@ -165,26 +165,17 @@ static void print_counts(unsigned long cases)
     static const unsigned long refusal_floors[] = { 0,  50, 20, 20,  50,  10, 10,
                                                     50, 50, 500, 500, 500, 500 };
     char name[64];
-    for (int verdict = 0; verdict < 2; verdict++) {
-        snprintf(name, sizeof name, "accepted %d", verdict);
-        hold_to_floor(name, counts.accepted[verdict], cases, 500);
-    }
+    hold_each("accepted", counts.accepted, 2, cases, 500);
     for (int number = 1; number <= 12; number++) {
         snprintf(name, sizeof name, "refused %d", number);
         hold_to_floor(name, counts.refused[number], cases, refusal_floors[number]);
     }
-    for (int judged = 0; judged < 3; judged++) {
-        snprintf(name, sizeof name, "judged %d", judged);
-        hold_to_floor(name, counts.judged[judged], cases, 500);
-    }
+    hold_each("judged", counts.judged, 3, cases, 500);
     hold_to_floor("judged 2, alike on the first 1000 passes", counts.late, cases, 20);
     hold_to_floor("judged 0, an equality stepped over", counts.stepped_over, cases, 50);
     hold_to_floor("refused 11, and no witness would serve", counts.false_fixpoints, cases, 50);
     hold_to_floor("accepted, 64 parts on 256 rows", counts.full_size, cases, 5);
-    for (int lead = 0; lead <= MOST_LEAD; lead++) {
-        snprintf(name, sizeof name, "accepted with L %d", lead);
-        hold_to_floor(name, counts.lead[lead], cases, 200);
-    }
+    hold_each("accepted with L", counts.lead, MOST_LEAD + 1, cases, 200);
     hold_to_floor("accepted, true by a lead-in row", counts.led, cases, 100);
     hold_to_floor("accepted, false before the lead-in rows", counts.unseen, cases, 100);
     hold_to_floor("judged 1, true by a lead-in row", counts.led_always, cases, 50);

@@ -100,10 +100,7 @@ static void count_answer(uint64_t answer)
 static void hold_made(unsigned long cases)
 {
     char name[64];
-    for (int verdict = 0; verdict < 2; verdict++) {
-        snprintf(name, sizeof name, "made %d", verdict);
-        hold_to_floor(name, counts.made[verdict], cases, 2000);
-    }
+    hold_each("made", counts.made, 2, cases, 2000);
     hold_to_floor("made, 64 parts on 256 rows", counts.full_size, cases, 20);
     hold_to_floor("made, U or R that meets two sets of marks", counts.false_fixpoints, cases, 500);
     hold_to_floor("made, one of several witnesses", counts.choices, cases, 500);

@@ -18,12 +18,11 @@ use Rattle.verdict.specs.inner.Landed.{shiftIn}
 use Rattle.verdict.specs.inner.Reach.{reach, TermsFit}
 use Rattle.verdict.specs.declared.Comparison.{Comparison}
 use Rattle.verdict.proofs.Landed.{read-inside}
-use Rattle.verdict.proofs.Values.{farther-le}
 use Rattle.lanes.specs.declared.ranges.Ranges.{Ranges}
 use Rattle.lanes.specs.inner.Direct.{agreesOn, numbersSay, linesSay, OfPart, DirectRows, LongLanes}
 use Rattle.lanes.specs.inner.Lanes.{Laid, Lanes}
 use Rattle.lanes.specs.inner.Positions.{positionSays}
-use Rattle.lanes.specs.inner.Ranges.{OnFirstPass, Divides}
+use Rattle.lanes.specs.inner.Ranges.{DirectAt, Divides}
 use Rattle.lanes.specs.inner.Still.{stillSays, StillPositions}
 use Rattle.lanes.specs.inner.Columns.{InMarks}
 use Rattle.lanes.proofs.Reaching.{marks-there, swept-on}
@@ -85,7 +84,7 @@ module _ {plan table : List ℕ} {z : Sizes} {n i : ℕ} {x : Comparison} {left 
       (read-inside (x .left) (z .start) t left (omega arith) (known .left-code), read-inside (x .right) (z .start) t right (omega arith) (known .right-code))
 
   -- a stretch all of whose positions are on the first pass
-  stretch : (from to : ℕ) → to ≤ allRows z → ((t : ℕ) → from ≤ t → t < to → OnFirstPass z back high t) → DirectRows table n z i x left right from to
+  stretch : (from to : ℕ) → to ≤ allRows z → ((t : ℕ) → from ≤ t → t < to → DirectAt z back high t) → DirectRows table n z i x left right from to
   stretch from to few on = record {
     part = of-part;
     few-rows = few;
@@ -100,11 +99,11 @@ module _ {plan table : List ℕ} {z : Sizes} {n i : ℕ} {x : Comparison} {left 
   lines-stretch = stretch (r .numbers) (r .end) (d .in-order .2) (λ t l k. d .lines-direct t l k .0)
 
   -- the positions that are not direct, unless from one of them a term is read before position 0
-  pub later-positions : back ≤ r .end → StillPositions table n z i x left right (r .end) (allRows z + back)
-  later-positions h = record {
+  pub later-positions : back ≤ r .end → {to : ℕ} → (allRows z ≤ to) × (to ≤ allRows z + 4) → StillPositions table n z i x left right (r .end) to
+  later-positions h in-reach = record {
     part = of-part;
-    few = omega (arith, farther-le z x back (known .farther) (known .terms-fit));
-    in-order = omega (arith, d .in-order .2);
+    few = in-reach .1;
+    in-order = omega (arith, d .in-order .2, in-reach .0);
     in-run = low (r .end) h;
   }
 
@@ -138,7 +137,7 @@ module _ {plan table : List ℕ} {z : Sizes} {n i : ℕ} {x : Comparison} {left 
         → B ≡ allBelow (λ k. at (r .before + k)) (r .numbers - r .before)
     numbers-swept e = e ∙ all-ext _ _ (r .numbers - r .before) (λ k l. position (r .before + k) (d .numbers-direct (r .before + k) (omega arith) (omega arith)) (let order = d .in-order in omega arith))
       where
-        position : (t : ℕ) → OnFirstPass z back high t × (still ≡ false → t < z .start + back) → t < allRows z → numbersSay values z x left right (mark t) t ≡ at t
+        position : (t : ℕ) → DirectAt z back high t × (still ≡ false → t < z .start + back) → t < allRows z → numbersSay values z x left right (mark t) t ≡ at t
         position t on few =
             by-cases (decLt t (z .start + back))
             (numbers-say f table i x left right (known .left-code) (known .right-code) (known .terms-fit) (z .start + back) t few values (lanes .readings-laid) (below t (on .0 .1)) (low (z .lead + t) (on .0 .0)))

@@ -20,7 +20,7 @@ use Rattle.fields.proofs.Differences.{sub-pos}
 use Rattle.plan.specs.Layout.{leadRows, readings, entry, storedReading, readingOf, driftOf}
 use Rattle.plan.specs.Positions.{rowOf, passOf}
 use Rattle.plan.specs.Run.{readingOn, readingAt, runOf}
-use Rattle.plan.specs.inner.Drifts.{Still}
+use Rattle.plan.specs.inner.Drifts.{StoredStill, Still}
 use Rattle.plan.specs.inner.Sizes.{allRows, allStored, mostStored, mostArray, Fitting}
 use Rattle.plan.specs.declared.sizes.Sizes.{Sizes}
 use Rattle.plan.proofs.Lines.{no-passes}
@@ -56,8 +56,8 @@ module _ {plan : List ℕ} {z : Sizes} (f : Fitting plan z) (still : Still plan 
 
   -- no cycle row drifts
   drift-still : (channel s : ℕ) → channel < z .channels → P ≤ s → driftOf plan (rowOf P C s) channel ≡ pos 0
-  unfolding Still
-  drift-still channel s l h = still (rowOf P C s) channel (row-ge P C s h) (row-lt P C (f .a-cycle) s) (rw (f .v-is) l)
+  unfolding Still StoredStill driftOf
+  drift-still channel s l h = still (leadRows plan + rowOf P C s) channel (omega (arith, row-ge P C s h)) (omega (arith, row-lt P C (f .a-cycle) s)) (rw (f .v-is) l)
 
   -- so that a reading is that of its row
   reading-still : (channel s : ℕ) → channel < z .channels → readingAt plan channel s ≡ readingOf plan (rowOf P C s) channel

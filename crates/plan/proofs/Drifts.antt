@@ -16,10 +16,11 @@ use Rattle.fields.specs.LittleEndian.{numberAt}
 use Rattle.fields.specs.TwosComplement.{signedOf, signedAt}
 use Rattle.fields.proofs.Differences.{sub-pos, sub-neg}
 use Rattle.fields.proofs.Patterns.{signed-low}
-use Rattle.plan.specs.Layout.{channels, headLength, arrayLength, cell, entry, storedDrift, driftOf}
+use Rattle.plan.specs.Layout.{channels, headLength, arrayLength, cell, entry, storedDrift}
 use Rattle.plan.specs.inner.Sizes.{allStored, mostArray, Fitting}
 use Rattle.plan.specs.inner.Drifts.{nonZero, allZero, StoredStill, Still}
 use Rattle.plan.proofs.Arrays.{array-le, drifts-part}
+use Rattle.plan.proofs.Fits.{few-stored}
 use Rattle.plan.specs.declared.sizes.Sizes.{Sizes}
 use Rattle.fields.specs.inner.Biased.{bias, unbiased}
 use Rattle.plan.specs.Refusals.{isZero, anyBelow, driftsAt, drifting}
@@ -116,9 +117,7 @@ module _ {plan : List ℕ} {z : Sizes} (fits : Fitting plan z) where
 
     pub few-numbers : from * z .channels + (to - from) * z .channels ≤ 2080
     few-numbers =
-        let few = fits .few-rows in
-        let lead = fits .few-lead in
-        let most = array-le (z .channels) to (fits .few-channels) (omega arith) in
+        let most = array-le (z .channels) to (fits .few-channels) (omega (arith, few-stored fits)) in
         omega (arith, together, most)
 
     pub numbers-there : (b e : ℕ) → b ≡ headLength + arrayLength (z .channels) (allStored z) → e ≡ b + arrayLength (z .channels) (allStored z)
@@ -126,7 +125,7 @@ module _ {plan : List ℕ} {z : Sizes} (fits : Fitting plan z) where
     unfolding arrayLength
     numbers-there b e hb he =
         let whole = fits .whole in
-        let most = array-le (z .channels) (allStored z) (fits .few-channels) (omega (arith, fits .few-rows, fits .few-lead)) in
+        let most = array-le (z .channels) (allStored z) (fits .few-channels) (few-stored fits) in
         simp (length-take, length-drop) (omega (arith, together, mul-le-mul-right (z .channels) l, most))
 
   -- and where they are 0, no channel drifts there.
@@ -146,7 +145,6 @@ module _ {plan : List ℕ} {z : Sizes} (fits : Fitting plan z) where
       zero-signed : signedOf 4 0 ≡ pos 0
       zero-signed = sym (signed-low 4 0 (omega arith))
 
-  -- Rows are stored behind the lead-in.
   pub still-behind : (from to : ℕ) → StoredStill plan (z .lead + from) (z .lead + to) → Still plan from to
-  unfolding Still StoredStill driftOf
-  still-behind from to h row channel low high l = rw (fits .l-is) (h (z .lead + row) channel (omega arith) (omega arith) l)
+  unfolding Still
+  still-behind from to h = rw (fits .l-is) h

@@ -9,13 +9,13 @@ use Rattle.refusal.specs.First.{_orElse_, unless, atLowest}
 use Rattle.refusal.specs.declared.Outcome.{Outcome}
 use Rattle.refusal.specs.declared.Outcome.the-variants.{Clear, Refused}
 use Rattle.refusal.specs.declared.Refusal.{Refusal}
-use Rattle.refusal.specs.declared.Refusal.the-variants.{PlanSizes, Channels, StartDrift}
+use Rattle.refusal.specs.declared.Refusal.the-variants.{PlanSizes, Channels}
 use Rattle.refusal.proofs.First.{orElse-clear, unless-clear, atLowest-clear}
 use Rattle.plan.specs.Layout.{channels, startRows, leadRows, sizesFit}
 use Rattle.plan.specs.inner.Sizes.{sizesIn, sizesRead, Fitting}
 use Rattle.plan.specs.inner.Drifts.{StoredStill}
 use Rattle.plan.specs.inner.Read.{readOf, planRead}
-use Rattle.plan.specs.Refusals.{drifting, namedRow, planOutcome}
+use Rattle.plan.specs.Refusals.{drifting, driftRefusal, planOutcome}
 use Rattle.plan.specs.declared.sizes.Sizes.{Sizes}
 use Rattle.plan.specs.declared.sizes.SizesRead.the-variants.{Counts, Wrong}
 use Rattle.plan.specs.declared.check.PlanRead.the-variants as read
@@ -32,7 +32,7 @@ module _ (v : ℕ) (plan : List ℕ) where
     unfolding planRead planOutcome unless _orElse_
     channels-refused h = let fits = counted plan counts in simp (fits-true fits, fits .v-is, ne-eqb _ _ h)
 
-    module _ (same : z .channels ≡ v) (r : Outcome) (found : r ≡ atLowest (drifting plan) (z .lead + z .start) (λ k. StartDrift (namedRow (z .lead) k))) where
+    module _ (same : z .channels ≡ v) (r : Outcome) (found : r ≡ atLowest (drifting plan) (z .lead + z .start) (driftRefusal (z .lead))) where
       drifts-remain : r ≡ planOutcome v plan
       unfolding planOutcome unless _orElse_
       drifts-remain = let fits = counted plan counts in found ∙ simp (fits-true fits, fits .v-is, fits .p-is, fits .l-is, eq-eqb _ _ same)
@@ -50,7 +50,7 @@ module _ (v : ℕ) (plan : List ℕ) where
     unfolding StoredStill
     still-read same h =
         fits-read same Clear
-        (sym (atLowest-clear (drifting plan) (z .lead + z .start) (λ k. StartDrift (namedRow (z .lead) k)) .1 (λ k l. row-quiet plan k (λ channel g. h k channel (omega arith) l g)))) refl
+        (sym (atLowest-clear (drifting plan) (z .lead + z .start) (driftRefusal (z .lead)) .1 (λ k l. row-quiet plan k (λ channel g. h k channel (omega arith) l g)))) refl
 
   -- A plan that is not refused fits the rule, and its rows before the cycle do not drift.
   pub cleared : planOutcome v plan ≡ Clear → Fitting plan (sizesIn plan) × (channels plan ≡ v) × ((k : ℕ) → k < leadRows plan + startRows plan → drifting plan k ≡ false)
@@ -60,7 +60,7 @@ module _ (v : ℕ) (plan : List ℕ) where
       let two = orElse-clear _ _ .0 (one .1) in
       let fits = unless-clear (sizesFit plan) PlanSizes .0 (one .0) in
       let same = eqb-true (channels plan) v (unless-clear _ Channels .0 (two .0)) in
-      (fitting plan fits, same, atLowest-clear (drifting plan) (leadRows plan + startRows plan) (λ k. StartDrift (namedRow (leadRows plan) k)) .0 (two .1))
+      (fitting plan fits, same, atLowest-clear (drifting plan) (leadRows plan + startRows plan) (driftRefusal (leadRows plan)) .0 (two .1))
 
   -- What is read of a plan tells whether it is refused.
   pub read-clear : (z : Sizes) → planRead v plan ≡ read.Fits z → (planOutcome v plan ≡ Clear) × Fitting plan z × (z .channels ≡ v)

@@ -5,6 +5,7 @@ use mathlib.Core.Bool.{Bool, false, _||_, not}
 use lib.Dec.{eqb}
 use lib.IntN.{ℤ, pos, negsuc}
 use Rattle.refusal.specs.declared.Outcome.{Outcome}
+use Rattle.refusal.specs.declared.Refusal.{Refusal}
 use Rattle.refusal.specs.declared.Refusal.the-variants.{PlanSizes, Channels, StartDrift}
 use Rattle.refusal.specs.First.{_orElse_, unless, atLowest}
 use Rattle.plan.specs.Layout.{channels, startRows, leadRows, sizesFit, storedDrift}
@@ -29,10 +30,14 @@ drifting plan k = anyBelow (driftsAt plan k) (channels plan)
 unfoldable pub namedRow : ℕ → ℕ → ℕ
 namedRow lead k = k - lead
 
+-- the refusal of the k-th row that is stored, for its drift
+abbrev pub driftRefusal : ℕ → ℕ → Refusal
+driftRefusal lead k = StartDrift (namedRow lead k)
+
 -- 4 The plan has fewer than 8 bytes, V, C, W or L outside its range, or the wrong length. 5 The plan's V differs from the
 -- rule's, v. 6 A lead-in row or a start row has a drift other than 0 (lowest row; lead-in rows first, named as row 0).
 unfoldable pub planOutcome : ℕ → List ℕ → Outcome
 planOutcome v plan =
     unless (sizesFit plan) PlanSizes
     orElse unless (eqb (channels plan) v) Channels
-    orElse atLowest (drifting plan) (leadRows plan + startRows plan) (λ k. StartDrift (namedRow (leadRows plan) k))
+    orElse atLowest (drifting plan) (leadRows plan + startRows plan) (driftRefusal (leadRows plan))

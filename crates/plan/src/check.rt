@@ -2,11 +2,10 @@
 ghost use mathlib.Core.Path.{_≡_};
 ghost use Prim.Native.Nat.{_+_, _<_};
 ghost use Rattle.refusal.specs.First.{atLowest};
-ghost use Rattle.refusal.specs.declared.Refusal.the-variants.{StartDrift};
 ghost use Rattle.plan.specs.inner.Sizes.{allStored, Fitting};
 ghost use Rattle.plan.specs.inner.Read.{planRead};
 ghost use Rattle.plan.specs.Refusals as refusals;
-ghost use Rattle.plan.specs.Refusals.{namedRow};
+ghost use Rattle.plan.specs.Refusals.{namedRow, driftRefusal};
 use crate::lookup::stored_drift;
 use crate::sizes::Sizes;
 use crate::sizes::SizesRead;
@@ -50,7 +49,7 @@ fn named_row(sizes: Sizes, k: usize) -> usize
 // The lowest row before the cycle that has a drift other than 0 is refused, the lead-in rows first.
 fn rows_before_cycle(plan: &[u8], sizes: Sizes) -> Outcome
     requires { ⌜ Fitting (now plan) sizes ⌝ }
-    ensures { λ r. ⌜ r ≡ atLowest (refusals.drifting (now (plan .entry))) (sizes .lead + sizes .start) (λ k. StartDrift (namedRow (sizes .lead) k)) ⌝ }
+    ensures { λ r. ⌜ r ≡ atLowest (refusals.drifting (now (plan .entry))) (sizes .lead + sizes .start) (driftRefusal (sizes .lead)) ⌝ }
 {
     let before = sizes.lead + sizes.start;
     let mut k = 0;

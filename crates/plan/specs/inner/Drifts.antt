@@ -6,7 +6,7 @@ use mathlib.Core.List.{List}
 use lib.Dec.{eqb}
 use lib.IntN.{pos}
 use Rattle.fields.specs.LittleEndian.{numberAt}
-use Rattle.plan.specs.Layout.{channels, storedDrift, driftOf}
+use Rattle.plan.specs.Layout.{channels, leadRows, storedDrift}
 use Rattle.plan.specs.Refusals.{anyBelow}
 
 -- the number at an index of an array is not 0
@@ -21,6 +21,6 @@ allZero array from count = not (anyBelow (nonZero array from) count)
 unfoldable pub StoredStill : List ℕ → ℕ → ℕ → Type 0
 StoredStill plan from to = (k channel : ℕ) → from ≤ k → k < to → channel < channels plan → storedDrift plan k channel ≡ pos 0
 
--- and on the rows
+-- and on the rows, which are stored behind the lead-in
 unfoldable pub Still : List ℕ → ℕ → ℕ → Type 0
-Still plan from to = (row channel : ℕ) → from ≤ row → row < to → channel < channels plan → driftOf plan row channel ≡ pos 0
+Still plan from to = StoredStill plan (leadRows plan + from) (leadRows plan + to)

@@ -124,7 +124,7 @@ still-one-by-one-requires : tie.Need-still-one-by-one-requires
 still-one-by-one-requires c κs =
     let ranges = c .before .before .before .before .before .before in
     let start = ranges .before .before .before .before .before .before .before .before .before .before .before .before in
-    (law.later-positions (ranged ranges) (c .if2 .taken), law.long-lanes (start .args .sizes) (start .pre .1 .readings-laid))
+    (law.later-positions (ranged ranges) (c .if2 .taken) (omega arith, omega (arith, few-back (ranges .before .before))), law.long-lanes (start .args .sizes) (start .pre .1 .readings-laid))
 
 returns : tie.Need-returns
 returns c =

@@ -4,11 +4,9 @@ use denote.Ref.{now}
 use Rattle.refusal.specs.Lowest.{lowest, lowestFrom}
 use Rattle.refusal.specs.First.{refusedAt, atLowest}
 use Rattle.refusal.specs.declared.Outcome.the-variants.{Refused}
-use Rattle.refusal.specs.declared.Refusal.{Refusal}
 use Rattle.refusal.specs.declared.Refusal.the-variants.{StartDrift}
 use Rattle.refusal.proofs.Lowest.{passes, found, ended}
-use Rattle.plan.specs.Refusals.{drifting, namedRow}
-use Rattle.plan.specs.declared.sizes.Sizes.{Sizes}
+use Rattle.plan.specs.Refusals.{drifting, driftRefusal}
 use native.Mathlib.Omega.{arith}
 use Prim.Native.Nat.{ℕ, _+_, _-_, _≤_}
 use borrow.Author.Needs.{needs}
@@ -19,12 +17,8 @@ use Rattle.plan.proofs.check.rows_before_cycle.Lts as lts
 use Rattle.plan.proofs.check.drifting.Reads as drifting-reads
 use Rattle.plan.proofs.check.named_row.Reads as named-row-reads
 
--- the refusal of a stored row
-abbrev asNamed : Sizes → ℕ → Refusal
-asNamed z k = StartDrift (namedRow (z .lead) k)
-
 abbrev Inv-loop : tie.InvT-loop
-Inv-loop plan sizes before k₀ k = (k ≤ before) × (atLowest (drifting plan) before (asNamed sizes) ≡ refusedAt (asNamed sizes) (lowestFrom (drifting plan) k (before - k)))
+Inv-loop plan sizes before k₀ k = (k ≤ before) × (atLowest (drifting plan) before (driftRefusal (sizes .lead)) ≡ refusedAt (driftRefusal (sizes .lead)) (lowestFrom (drifting plan) k (before - k)))
 
 abbrev μ-loop : tie.MeasureT-loop
 μ-loop plan sizes before k₀ k = before - k
@@ -42,7 +36,7 @@ loop-holds c =
     let start = c .before .before in
     let n = start .args .sizes .lead + start .args .sizes .start in
     let left : n ≡ n - 0 = omega arith in
-    (omega arith, ap (λ (m : ℕ). refusedAt (asNamed (start .args .sizes)) (lowestFrom (drifting (now (start .args .plan))) 0 m)) left)
+    (omega arith, ap (λ (m : ℕ). refusedAt (driftRefusal (start .args .sizes .lead)) (lowestFrom (drifting (now (start .args .plan))) 0 m)) left)
 
 -- src/check.rt:58:12
 drifting-requires : tie.Need-drifting-requires Inv-loop μ-loop
@@ -65,7 +59,7 @@ returns c =
     let if1 = c .before .if1 in
     let n = start .args .sizes .lead + start .args .sizes .start in
     let here = found (drifting (now (start .args .plan))) (loop .k) n (loop-test .taken) (sym (looked .ensures) ∙ if1 .taken) in
-    ap (λ (row : ℕ). Refused (StartDrift row)) (c .named-row .ensures) ∙ sym (loop .inv .1 ∙ ap (refusedAt (asNamed (start .args .sizes))) here)
+    ap (λ (row : ℕ). Refused (StartDrift row)) (c .named-row .ensures) ∙ sym (loop .inv .1 ∙ ap (refusedAt (driftRefusal (start .args .sizes .lead))) here)
 
 -- src/check.rt:63:9
 add-k : tie.Need-add-k Inv-loop μ-loop
@@ -84,7 +78,7 @@ loop-again c =
     let looked = c .before .drifting in
     let n = start .args .sizes .lead + start .args .sizes .start in
     let later = passes (drifting (now (start .args .plan))) (loop .k) n (loop-test .taken) (sym (looked .ensures) ∙ c .if1 .left) in
-    (omega arith, loop .inv .1 ∙ ap (refusedAt (asNamed (start .args .sizes))) later)
+    (omega arith, loop .inv .1 ∙ ap (refusedAt (driftRefusal (start .args .sizes .lead))) later)
 
 -- src/check.rt:51:1
 returns-2 : tie.Need-returns-2 Inv-loop μ-loop
@@ -94,7 +88,7 @@ returns-2 c =
     let loop = c .before .loop in
     let n = start .args .sizes .lead + start .args .sizes .start in
     let none = ended (drifting (now (start .args .plan))) (loop .k) n (c .loop-test .left) in
-    sym (loop .inv .1 ∙ ap (refusedAt (asNamed (start .args .sizes))) none)
+    sym (loop .inv .1 ∙ ap (refusedAt (driftRefusal (start .args .sizes .lead))) none)
 
 pub rows-before-cycle-spec : {M : Type 1} → statement M
 rows-before-cycle-spec =
