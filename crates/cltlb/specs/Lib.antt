@@ -4,3 +4,4 @@ pub mod Truth
 pub mod Views
 pub mod Fits
 pub mod Parts
+pub mod Nesting

@@ -7,7 +7,7 @@ use mathlib.Core.Bool.{Bool, true, false}
 use mathlib.Core.Logic.{_↔_, _⊎_, inl, inr, ⊎-elim}
 use lib.Dec.{T}
 use Rattle.refusal.specs.declared.Refusal.{Refusal}
-use Rattle.refusal.specs.declared.Refusal.the-variants.{RuleSizes, Kind, Operand, PlanSizes, Channels, StartDrift, MarkSizes, MarkByte, Equation, Closing, Witness, Absent, BufferLength, NoTable}
+use Rattle.refusal.specs.declared.Refusal.the-variants.{RuleSizes, Kind, Operand, PlanSizes, Channels, StartDrift, MarkSizes, MarkByte, Equation, Closing, Witness, Absent, BufferLength, NoTable, NoLayout}
 use Rattle.refusal.specs.declared.Report.{Report}
 use Rattle.refusal.specs.Report.{report, reportOf}
 use Rattle.refusal.proofs.RefusesOnly.{Small}
@@ -45,6 +45,7 @@ number-within (Witness p) = omega arith
 number-within Absent = omega arith
 number-within BufferLength = omega arith
 number-within (NoTable p r) = omega arith
+number-within NoLayout = omega arith
 
 -- 0 is no number of a refusal
 no-number : {p w : ℕ} (q : Refusal) → report 0 p w ≡ reportOf q → ⊥

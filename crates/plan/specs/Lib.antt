@@ -1,4 +1,5 @@
 pub mod Layout
+pub mod Bytes
 pub mod Positions
 pub mod Run
 pub mod Refusals

@@ -5,7 +5,7 @@ use lib.Dec.{eqb}
 use Rattle.refusal.specs.Report.{reportOf}
 use Rattle.refusal.specs.declared.Report.{Report}
 use Rattle.refusal.specs.declared.Refusal.{Refusal}
-use Rattle.refusal.specs.declared.Refusal.the-variants.{RuleSizes, Kind, Operand, PlanSizes, Channels, StartDrift, MarkSizes, MarkByte, Equation, Closing, Witness, Absent, BufferLength, NoTable}
+use Rattle.refusal.specs.declared.Refusal.the-variants.{RuleSizes, Kind, Operand, PlanSizes, Channels, StartDrift, MarkSizes, MarkByte, Equation, Closing, Witness, Absent, BufferLength, NoTable, NoLayout}
 
 -- the refusal of a report
 abbrev refusalIn : Report → Refusal
@@ -21,7 +21,8 @@ refusalIn x =
     (cond (eqb (x .number) 9) (Equation (x .part) (x .row))
     (cond (eqb (x .number) 10) (Closing (x .part) (x .row))
     (cond (eqb (x .number) 11) (Witness (x .part))
-    (cond (eqb (x .number) 12) Absent (cond (eqb (x .number) 13) BufferLength (NoTable (x .part) (x .row))))))))))))))
+    (cond (eqb (x .number) 12) Absent
+    (cond (eqb (x .number) 13) BufferLength (cond (eqb (x .number) 14) (NoTable (x .part) (x .row)) NoLayout)))))))))))))
 
 in-report : (r : Refusal) → refusalIn (reportOf r) ≡ r
 in-report RuleSizes = refl
@@ -38,6 +39,7 @@ in-report (Witness p) = refl
 in-report Absent = refl
 in-report BufferLength = refl
 in-report (NoTable p r) = refl
+in-report NoLayout = refl
 
 pub one-report : (r q : Refusal) → reportOf r ≡ reportOf q → r ≡ q
 one-report r q e = sym (in-report r) ∙ ap refusalIn e ∙ in-report q

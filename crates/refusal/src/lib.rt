@@ -19,6 +19,7 @@ pub enum Refusal {
     Absent,
     BufferLength,
     NoTable { part: usize, row: usize },
+    NoLayout,
 }
 
 // What comes of a run of tests: none of them refuses, or the first one that does.
@@ -107,6 +108,11 @@ pub fn report_of(refusal: Refusal) -> Report
             number: 14,
             part: part,
             row: row,
+        },
+        Refusal::NoLayout => Report {
+            number: 15,
+            part: 0,
+            row: 0,
         },
     }
 }

@@ -62,6 +62,10 @@ enum-told-6 c = search needs
 enum-known-refusal-8 : tie.Need-enum-known-refusal-8
 enum-known-refusal-8 c = search needs
 
+-- src/lib.rt:36:5
+enum-told-7 : tie.Need-enum-told-7
+enum-told-7 c = search needs
+
 -- src/lib.rt:35:1
 returns : tie.Need-returns
 returns c = sym (ap reportOf (c .enum-told .given .1))
@@ -118,6 +122,10 @@ returns-13 c = sym (ap reportOf (c .enum-told6 .given .1))
 returns-14 : tie.Need-returns-14
 returns-14 c = sym (ap reportOf (c .before .refusal8 .given .1))
 
+-- src/lib.rt:36:1
+returns-15 : tie.Need-returns-15
+returns-15 c = sym (ap reportOf (c .enum-told7 .given .1))
+
 pub report-of-spec : {M : Type 1} → statement M
 report-of-spec =
     tie.close
@@ -136,6 +144,7 @@ report-of-spec =
     enum-told-5
     enum-told-6
     enum-known-refusal-8
+    enum-told-7
     returns
     returns-2
     returns-3
@@ -149,4 +158,5 @@ report-of-spec =
     returns-11
     returns-12
     returns-13
-    returns-14)
+    returns-14
+    returns-15)

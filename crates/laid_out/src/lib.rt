@@ -1,0 +1,4 @@
+// A stand-in.
+pub fn keep(x: u64) -> u64 {
+    x
+}
