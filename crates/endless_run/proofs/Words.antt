@@ -30,7 +30,7 @@ use Rattle.endless_run.specs.Packing.{refusalWord, unpacked, verdictBit,
 use Rattle.endless_run.specs.Promise.{CheckWordPromise, MakeWordPromise, JudgeWordPromise}
 
 -- numbers are 1 to 14, so that a refusal is no small number
-pub number-within : (r : Refusal) → (1 ≤ reportOf r .number) × (reportOf r .number ≤ 14)
+pub number-within : (r : Refusal) → (1 ≤ reportOf r .number) × (reportOf r .number ≤ 15)
 number-within RuleSizes = omega arith
 number-within (Kind p) = omega arith
 number-within (Operand p) = omega arith
