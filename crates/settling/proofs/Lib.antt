@@ -1,3 +1,4 @@
 pub mod Settled
 pub mod OneRun
 pub mod Bound
+pub mod Later
