@@ -2,3 +2,4 @@ pub mod Settled
 pub mod OneRun
 pub mod Bound
 pub mod Later
+pub mod Closings
