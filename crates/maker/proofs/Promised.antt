@@ -58,7 +58,7 @@ same-names e = (cc, cc)
 -- ---- a rule and a plan that clear 1 to 6
 
 module _ (rule plan : List ℕ) (e : inputsOutcome rule plan ≡ Clear) where
-  some-cycle : 1 ≤ cycleRows plan
+  pub some-cycle : 1 ≤ cycleRows plan
   some-cycle = cleared (channelCount rule) plan (clear-both rule plan e .1) .0 .a-cycle
 
   few-rows : rows plan ≤ 256
@@ -68,7 +68,7 @@ module _ (rule plan : List ℕ) (e : inputsOutcome rule plan ≡ Clear) where
   few-parts : partCount rule ≤ 64
   few-parts = cleared-counts rule (clear-both rule plan e .0) .1
 
-  fits : (i : ℕ) → i < partCount rule → viewFits (channelCount rule) i (viewsOf rule i) ≡ true
+  pub fits : (i : ℕ) → i < partCount rule → viewFits (channelCount rule) i (viewsOf rule i) ≡ true
   fits = cleared-fits rule (clear-both rule plan e .0)
 
   -- part i closes, by the marks made

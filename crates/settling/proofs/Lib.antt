@@ -1,0 +1,5 @@
+pub mod Settled
+pub mod OneRun
+pub mod Bound
+pub mod Later
+pub mod Closings
