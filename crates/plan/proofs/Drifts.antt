@@ -45,6 +45,13 @@ module _ (f : ℕ → Bool) where
       (λ l. ap (λ (b : Bool). b || f n) (lower l e))
       (λ l. let same : k ≡ n = omega arith in ap (λ (b : Bool). anyBelow f n || b) (subst (λ (i : ℕ). f i ≡ true) same e) ∙ or-true (anyBelow f n))
 
+  pub none-each : (n : ℕ) → anyBelow f n ≡ false → (k : ℕ) → k < n → f k ≡ false
+  none-each n e k h = go (f k) refl
+    where
+      go : (b : Bool) → f k ≡ b → f k ≡ false
+      go true g = absurd (false≢true (sym e ∙ one-here k n h g))
+      go false g = g
+
 -- A field is 0 where it is kept as 2 ^ 31.
 zero-field : (n : ℕ) {z : ℤ} → unbiased n ≡ z → n ≡ bias → isZero z ≡ true
 unfolding isZero
