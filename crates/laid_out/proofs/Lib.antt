@@ -1,1 +1,2 @@
 pub mod CanBeLaid
+pub mod LaidRuns
