@@ -1,2 +1,3 @@
 pub mod CanBeLaid
 pub mod LaidRuns
+pub mod LaidPlans
