@@ -4,3 +4,4 @@ pub mod Stores
 pub mod Differences
 pub mod Bias
 pub mod Pieces
+pub mod ByteParts

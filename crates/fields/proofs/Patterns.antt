@@ -8,11 +8,11 @@ use mathlib.Core.Bool.{Bool, true, false}
 use lib.Dec.{ltb}
 use lib.IntN.{ℤ, pos, negsuc, _-ℤ_}
 use lib.Signed.{ltZ}
-use borrow.Author.Tests.{lt-ltb, le-ltb, ltb-true, ltb-false}
+use borrow.Author.Tests.{lt-ltb, le-ltb, le-leb, ltb-true, ltb-false, leb-true}
 use mir.Syntax.{w32}
 use mir.Val.{SFits, toZ}
 use mir.ValLaws.{toZ-pos}
-use Rattle.fields.specs.TwosComplement.{signedOf, patternOf}
+use Rattle.fields.specs.TwosComplement.{signedOf, patternOf, signedFits}
 use Rattle.fields.specs.inner.Biased.{bias}
 use Rattle.fields.specs.inner.Ranges.{SignedFits}
 
@@ -58,6 +58,17 @@ signed-fits w n h = go (ltb (2 * n) (256 ^ w)) refl
     go false e =
         let high : 256 ^ w ≤ 2 * n = ltb-false (2 * n) (256 ^ w) e in
         subst (SignedFits w) (signed-high w n (256 ^ w - suc n) high (omega arith)) (omega arith)
+
+-- the test finds the numbers that w bytes can hold
+pub fits-found : (w : ℕ) (z : ℤ) → SignedFits w z → signedFits w z ≡ true
+unfolding SignedFits signedFits
+fits-found w (pos n) h = lt-ltb (2 * n) (256 ^ w) h
+fits-found w (negsuc n) h = le-leb (2 * suc n) (256 ^ w) h
+
+pub found-fits : (w : ℕ) (z : ℤ) → signedFits w z ≡ true → SignedFits w z
+unfolding SignedFits signedFits
+found-fits w (pos n) e = ltb-true (2 * n) (256 ^ w) e
+found-fits w (negsuc n) e = leb-true (2 * suc n) (256 ^ w) e
 
 -- a number of an `i32` fits four bytes
 pub fits-w32 : (z : ℤ) → SFits w32 z → SignedFits 4 z

@@ -1,12 +1,13 @@
--- Pieces laid one after another: how long they are, and what lies around one of them. Assumes nothing.
+-- Pieces laid one after another: how long they are, what lies around one of them, and a list cut into pieces.
+-- Assumes nothing.
 use Prim.Native.Nat.{ℕ, zero, suc, _+_, _*_, _<_}
 use native.Mathlib.Decide.{decLt}
 use native.Mathlib.Omega.{arith}
-use mathlib.Core.Path.{_≡_, sym, ap, _∙_}
+use mathlib.Core.Path.{_≡_, refl, sym, ap, ap₂, _∙_}
 use mathlib.Core.List.{List, [], _++_, append-assoc, append-nil}
 use mathlib.Core.Logic.{by-cases}
-use lib.ListN.{length, getD, length-append, List·getD-append}
-use lib.Seq.{getD-append-add}
+use lib.ListN.{length, getD, take, drop, length-append, List·getD-append}
+use lib.Seq.{getD-append-add, take-add, drop-drop}
 use Rattle.fields.specs.Pieces.{pieces}
 
 -- A byte behind a front of a known length.
@@ -40,3 +41,19 @@ module _ (f : ℕ → List ℕ) where
       ap (λ (x : List ℕ). getD x (i * d + k) 0) (whole .1)
       ∙ behind (pieces f i) (f i ++ whole .0) (i * d) k (length-pieces d h i)
       ∙ List·getD-append (f i) (whole .0) 0 k (let e = h i in omega arith)
+
+-- The same pieces.
+pub same-pieces : (f g : ℕ → List ℕ) (n : ℕ) → ((i : ℕ) → i < n → f i ≡ g i) → pieces f n ≡ pieces g n
+unfolding pieces
+same-pieces f g zero h = refl
+same-pieces f g (suc n) h = ap₂ (λ (x y : List ℕ). x ++ y) (same-pieces f g n (λ i l. h i (omega arith))) (h n (omega arith))
+
+-- n pieces of d bytes cut from a list, from `base` on, are its bytes there.
+pub cut-pieces : (l : List ℕ) (base d n : ℕ) → pieces (λ i. take d (drop (base + i * d) l)) n ≡ take (n * d) (drop base l)
+unfolding pieces
+cut-pieces l base d zero = let e : 0 ≡ 0 * d = omega arith in ap (λ (k : ℕ). take k (drop base l)) e
+cut-pieces l base d (suc n) =
+    let e : n * d + d ≡ suc n * d = omega arith in
+    ap₂ (λ (x y : List ℕ). x ++ y) (cut-pieces l base d n) (ap (take d) (sym (drop-drop (n * d) base l)))
+    ∙ sym (take-add (n * d) d (drop base l))
+    ∙ ap (λ (k : ℕ). take k (drop base l)) e

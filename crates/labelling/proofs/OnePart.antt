@@ -1,4 +1,5 @@
--- One part made, by its view: what the code knows once its rows are written. Assumes nothing.
+-- One part made, by its view, in a table with room for w rows of each part: what the code knows once its rows are written. Assumes
+-- nothing.
 use mathlib.Core.Path.{_≡_, sym, ap, _∙_, subst, subst⁻¹}
 use mathlib.Core.Bool.{Bool, true}
 use mathlib.Core.List.{List}
@@ -24,11 +25,12 @@ use Rattle.table.specs.Layout.{markByte, marked}
 use Rattle.table.specs.Bytes.{byteOf}
 use Rattle.table.specs.inner.Tables.{Sized}
 use Rattle.table.specs.inner.Stored.{Stored}
+use Rattle.table.proofs.Stores.{stored-sized}
 use Rattle.table.proofs.TableBytes.{read-byte}
 use Rattle.marks.specs.Parts.{steadyOutcome, closingOutcome}
 use Rattle.marks.specs.inner.PartsRead.{Readable, Met}
 use Rattle.marks.proofs.PartsChecked.{at-sizes, own-cycle}
-use Rattle.marks.proofs.Unrolled.{equation-clear}
+use Rattle.marks.proofs.Unrolled.{OnRows, equation-clear}
 use Rattle.labelling.specs.Labels.{operatorLabel, labelOf}
 use Rattle.labelling.specs.inner.Rows.{RowsLabelled}
 use Rattle.labelling.proofs.Labelled.{Labelled, label-meets}
@@ -36,7 +38,7 @@ use Rattle.labelling.proofs.SameMarks.{SameBelow, label-same, closing-s
 
 -- ---- rows written over, as marks
 
-module _ (w i : ℕ) {old new : List ℕ} {bytes : ℕ → ℕ} (done : Stored old new (4 + i * w) 0 w bytes) where
+module _ (w i : ℕ) {old new : List ℕ} {m : ℕ} (few : m ≤ w) {bytes : ℕ → ℕ} (done : Stored old new (4 + i * w) 0 m bytes) where
   -- The marks of lower parts are as they were,
   pub lower-kept : (a : ℕ) → a < i → (row : ℕ) → row < w → marked w old a row ≡ marked w new a row
   unfolding marked markByte
@@ -44,18 +46,45 @@ module _ (w i : ℕ) {old new : List ℕ} {bytes : ℕ → ℕ} (done : Stored o
       let below : (a + 1) * w ≤ i * w = mul-le-mul-right w (omega arith) in
       ap (λ (x : ℕ). eqb x 1) (sym (done .outside (4 + (a * w + row)) (inl (omega arith))))
 
-  -- those of the part are the bytes written,
-  pub own-byte : (row : ℕ) → row < w → getD new (4 + (i * w + row)) 0 ≡ bytes row
+  -- and those of the part are the bytes written.
+  pub own-byte : (row : ℕ) → row < m → getD new (4 + (i * w + row)) 0 ≡ bytes row
   own-byte row l = let place : 4 + (i * w + row) ≡ 4 + i * w + row = omega arith in ap (λ (x : ℕ). getD new x 0) place ∙ done .inside row (omega arith) l
 
-  -- and the table is as long as it was.
-  pub still-sized : {n : ℕ} → Sized old n w → Sized new n w
-  still-sized s = record { few-parts = s .few-parts; few-rows = s .few-rows; whole = done .long ∙ s .whole }
-
-pub own-mark : (w i : ℕ) {old new : List ℕ} (mark : ℕ → Bool) → Stored old new (4 + i * w) 0 w (λ row. byteOf (mark row))
-    → (row : ℕ) → row < w → marked w new i row ≡ mark row
+pub own-mark : (w i : ℕ) {old new : List ℕ} {m : ℕ} → m ≤ w → (mark : ℕ → Bool) → Stored old new (4 + i * w) 0 m (λ row. byteOf (mark row))
+    → (row : ℕ) → row < m → marked w new i row ≡ mark row
 unfolding marked markByte
-own-mark w i mark done row l = ap (λ (x : ℕ). eqb x 1) (own-byte w i done row l) ∙ read-byte (mark row)
+own-mark w i few mark done row l = ap (λ (x : ℕ). eqb x 1) (own-byte w i few done row l) ∙ read-byte (mark row)
+
+-- ---- an operator, once its rows are written
+
+module _ (plan : List ℕ) {z : Sizes} (fit : Fitting plan z) (w i : ℕ) (few : allRows z ≤ w) (o : Operator)
+    (fits : viewFits (z .channels) i (view.Operator o) ≡ true) {old new : List ℕ}
+    (done : Stored old new (4 + i * w) 0 (allRows z) (λ row. byteOf (operatorLabel (z .start) (z .cycle) (marked w old) o row))) where
+  abbrev own : View
+  own = view.Operator o
+
+  -- the rows hold the part's marks,
+  pub label-done : Stored old new (4 + i * w) 0 (allRows z) (λ row. byteOf (labelOf plan (marked w old) (view.Operator o) row))
+  unfolding labelOf
+  label-done =
+      at-sizes fit (λ P C. Stored old new (4 + i * w) 0 (P + C) (λ row. byteOf (operatorLabel P C (marked w old) o row))
+      → Stored old new (4 + i * w) 0 (P + C) (λ row. byteOf (labelOf plan (marked w old) (view.Operator o) row))) (λ s. s) done
+
+  same : SameBelow plan (marked w old) (marked w new) i
+  same a h row l = lower-kept w i few done a h row (omega (arith, rows-are fit))
+
+  labelled : Labelled plan (marked w new) own i
+  labelled row l =
+      own-mark w i few (labelOf plan (marked w old) own) label-done row (subst (λ (m : ℕ). row < m) (rows-are fit) l)
+      ∙ label-same plan (own-cycle fit) (marked w old) (marked w new) i same (z .channels) own fits row l
+
+  -- its equation is met,
+  pub label-met : OnRows plan (marked w new) (view.Operator o) i
+  label-met = label-meets plan (own-cycle fit) (marked w new) own i labelled
+
+  -- and whether it closes is what it was before.
+  pub closing-kept : closingOutcome plan (marked w new) (view.Operator o) i ≡ closingOutcome plan (marked w old) (view.Operator o) i
+  closing-kept = sym (closing-same plan (own-cycle fit) (marked w old) (marked w new) i same (z .channels) own fits)
 
 -- ---- by the view
 
@@ -71,50 +100,35 @@ module _ (plan : List ℕ) {z : Sizes} (fit : Fitting plan z) (n i : ℕ) {p : V
         subst⁻¹ (λ (q : View). (r ≡ closingOutcome plan (marked (allRows z) old) q i) × RowsLabelled old new (allRows z) i r (labelOf plan (marked (allRows z) old) q)) e (d, w)
 
   module _ (o : Operator) (e : p ≡ view.Operator o) where
+    pub own-fits : viewFits (z .channels) i (view.Operator o) ≡ true
+    own-fits = subst (λ (q : View). viewFits (z .channels) i q ≡ true) e fits
+
     pub operator-there : namesLower i o ≡ true
-    operator-there = operator-fits (z .channels) i o (subst (λ (q : View). viewFits (z .channels) i q ≡ true) e fits)
+    operator-there = operator-fits (z .channels) i o own-fits
 
     module _ {old new : List ℕ}
         (done : Stored old new (4 + i * allRows z) 0 (allRows z) (λ row. byteOf (operatorLabel (z .start) (z .cycle) (marked (allRows z) old) o row))) where
-      abbrev own : View
-      own = view.Operator o
+      all : allRows z ≤ allRows z
+      all = omega arith
 
-      own-fits : viewFits (z .channels) i own ≡ true
-      own-fits = subst (λ (q : View). viewFits (z .channels) i q ≡ true) e fits
-
-      -- the rows hold the part's marks
-      label-done : Stored old new (4 + i * allRows z) 0 (allRows z) (λ row. byteOf (labelOf plan (marked (allRows z) old) own row))
-      unfolding labelOf
-      label-done =
-          at-sizes fit (λ P C. Stored old new (4 + i * (P + C)) 0 (P + C) (λ row. byteOf (operatorLabel P C (marked (P + C) old) o row))
-          → Stored old new (4 + i * (P + C)) 0 (P + C) (λ row. byteOf (labelOf plan (marked (P + C) old) (view.Operator o) row))) (λ w. w) done
-
-      same : SameBelow plan (marked (allRows z) old) (marked (allRows z) new) i
-      same a h row l = lower-kept (allRows z) i done a h row (subst (λ (w : ℕ). row < w) (rows-are fit) l)
-
-      labelled : Labelled plan (marked (allRows z) new) own i
-      labelled row l =
-          own-mark (allRows z) i (labelOf plan (marked (allRows z) old) own) label-done row (subst (λ (w : ℕ). row < w) (rows-are fit) l)
-          ∙ label-same plan (own-cycle fit) (marked (allRows z) old) (marked (allRows z) new) i same (z .channels) own own-fits row l
-
-      -- its equation is met,
+      -- Refusal 9 turns nothing away,
       pub operator-met : Met plan new z (view.Operator o) i
       unfolding Met
-      operator-met = equation-clear plan (marked (allRows z) new) own i .1 (label-meets plan (own-cycle fit) (marked (allRows z) new) own i labelled)
+      operator-met = equation-clear plan (marked (allRows z) new) (view.Operator o) i .1 (label-met plan fit (allRows z) i all o own-fits done)
 
       pub operator-readable : Sized old n (allRows z) → i < n → Readable plan new n z i (view.Operator o)
       operator-readable s l = record {
         fits = fit;
-        sized = still-sized (allRows z) i done s;
+        sized = stored-sized n (allRows z) done s;
         present = l;
-        part-fits = view-more (z .channels) (z .channels) (omega arith) i n (omega arith) own own-fits;
+        part-fits = view-more (z .channels) (z .channels) (omega arith) i n (omega arith) (view.Operator o) own-fits;
       }
 
-      -- and whether it closes is what it was before.
+      -- and 10 says of the part made what it says of the part to be made.
       pub operator-made : {r : Outcome} → r ≡ closingOutcome plan (marked (allRows z) new) (view.Operator o) i
           → (r ≡ closingOutcome plan (marked (allRows z) old) p i) × RowsLabelled old new (allRows z) i r (labelOf plan (marked (allRows z) old) p)
       operator-made {r} d =
           subst⁻¹ (λ (q : View). (r ≡ closingOutcome plan (marked (allRows z) old) q i) × RowsLabelled old new (allRows z) i r (labelOf plan (marked (allRows z) old) q)) e (
-            d ∙ sym (closing-same plan (own-cycle fit) (marked (allRows z) old) (marked (allRows z) new) i same (z .channels) own own-fits),
-            record { rows-alone = (_, done); made = λ _. label-done },
+            d ∙ closing-kept plan fit (allRows z) i all o own-fits done,
+            record { rows-alone = (_, done); made = λ _. label-done plan fit (allRows z) i all o own-fits done },
           )

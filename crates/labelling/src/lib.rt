@@ -35,7 +35,7 @@ pub fn label_part(
     match view {
         View::Atom(atom) => label_atom(plan, table, n, sizes, i, atom),
         View::Operator(operator) => {
-            label_operator(table, n, sizes, i, operator);
+            label_operator(table, n, sizes.start + sizes.cycle, sizes, i, operator);
             check_closing(plan, table, n, sizes, i, view)
         }
     }

@@ -1,0 +1,5 @@
+pub mod CanBeLaid
+pub mod LaidRuns
+pub mod LaidPlans
+pub mod Words
+pub mod NextPass

@@ -1,1 +1,2 @@
 pub mod LaidOut
+pub mod inner

@@ -1,4 +1,2 @@
-// A stand-in.
-pub fn keep(x: u64) -> u64 {
-    x
-}
+// A plan with passes of its cycle laid out as start rows: how many passes can be laid out, and the plan that is written then.
+pub mod fits;

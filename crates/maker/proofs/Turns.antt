@@ -245,10 +245,6 @@ at-most n w sized =
 pub witness-room : {table : List ℕ} (n w : ℕ) → Sized table n w → (i : ℕ) → i < n → (4 + n * w + 2 * i + 2 ≤ length table) × (length table ≤ mostBytes)
 witness-room n w sized i l = let whole = sized .whole in (omega arith, at-most n w sized .1)
 
--- the table after its first numbers are written is as long as before
-pub stored-sized : {old new : List ℕ} (n w : ℕ) {at high : ℕ} {g : ℕ → ℕ} → Stored old new at 0 high g → Sized old n w → Sized new n w
-stored-sized n w done s = record { few-parts = s .few-parts; few-rows = s .few-rows; whole = done .long ∙ s .whole }
-
 -- ---- what the loop leaves
 
 -- a loop that is left at a part that does not close,

@@ -104,18 +104,26 @@ pub fn expected_mark(
     }
 }
 
-// An operator that looks back meets its equation on row P after row W - 1; of others it is true.
-pub fn wraps_round(table: &[u8], n: usize, sizes: Sizes, i: usize, operator: Operator) -> bool
-    requires { ⌜ (Sized (now table) n (allRows sizes)) × (1 ≤ sizes .cycle) × (i < n) × (namesLower n operator ≡ true) ⌝ }
-    ensures { λ r. ⌜ r ≡ wraps (sizes .start) (sizes .cycle) (marked (allRows sizes) (now (table .entry))) operator i ⌝ }
+// An operator that looks back meets its equation on row P after row W - 1; of others it is true. The table has room for `w` rows of
+// each part, as many as there are or more.
+pub fn wraps_round(
+    table: &[u8],
+    n: usize,
+    w: usize,
+    sizes: Sizes,
+    i: usize,
+    operator: Operator,
+) -> bool
+    requires { ⌜ (Sized (now table) n w) × (allRows sizes ≤ w) × (1 ≤ sizes .cycle) × (i < n) × (namesLower n operator ≡ true) ⌝ }
+    ensures { λ r. ⌜ r ≡ wraps (sizes .start) (sizes .cycle) (marked w (now (table .entry))) operator i ⌝ }
 {
-    let w = sizes.start + sizes.cycle;
     let p = sizes.start;
     let side = beside_of(operator);
     match side {
         Beside::After => true,
         Beside::Before(_) => {
-            let before = mark_at(table, n, w, watched(operator, i), w - 1);
+            let end = p + sizes.cycle - 1;
+            let before = mark_at(table, n, w, watched(operator, i), end);
             agree(
                 mark_at(table, n, w, i, p),
                 step_on(table, n, w, operator, p, before),

@@ -120,7 +120,8 @@ pub fn check_closing(
         View::Atom(atom) => check_steady(plan, sizes, i, atom),
         View::Operator(operator) => {
             let p = sizes.start;
-            if wraps_round(table, n, sizes, i, operator) {
+            let w = p + sizes.cycle;
+            if wraps_round(table, n, w, sizes, i, operator) {
                 Outcome::Clear
             } else {
                 Outcome::Refused(Refusal::Closing { part: i, row: p })

@@ -10,8 +10,8 @@ use mathlib.Core.List.{List}
 use mathlib.Core.Logic.{by-cases}
 use lib.Dec.{eqb}
 use lib.ListN.{length, take, drop, length-take, length-drop}
-use lib.IntN.{ℤ, pos}
-use borrow.Author.Tests.{eq-eqb, ne-eqb, eqb-true}
+use lib.IntN.{ℤ, pos, negsuc}
+use borrow.Author.Tests.{eq-eqb, ne-eqb, eqb-true, not-false}
 use Rattle.fields.specs.LittleEndian.{numberAt}
 use Rattle.fields.specs.TwosComplement.{signedOf, signedAt}
 use Rattle.fields.proofs.Differences.{sub-pos, sub-neg}
@@ -44,6 +44,13 @@ module _ (f : ℕ → Bool) where
       by-cases (decLt k n)
       (λ l. ap (λ (b : Bool). b || f n) (lower l e))
       (λ l. let same : k ≡ n = omega arith in ap (λ (b : Bool). anyBelow f n || b) (subst (λ (i : ℕ). f i ≡ true) same e) ∙ or-true (anyBelow f n))
+
+  pub none-each : (n : ℕ) → anyBelow f n ≡ false → (k : ℕ) → k < n → f k ≡ false
+  none-each n e k h = go (f k) refl
+    where
+      go : (b : Bool) → f k ≡ b → f k ≡ false
+      go true g = absurd (false≢true (sym e ∙ one-here k n h g))
+      go false g = g
 
 -- A field is 0 where it is kept as 2 ^ 31.
 zero-field : (n : ℕ) {z : ℤ} → unbiased n ≡ z → n ≡ bias → isZero z ≡ true
@@ -80,6 +87,16 @@ module _ {plan : List ℕ} {z : Sizes} (fits : Fitting plan z) (k : ℕ) where
 pub row-quiet : (plan : List ℕ) (k : ℕ) → ((channel : ℕ) → channel < channels plan → storedDrift plan k channel ≡ pos 0) → drifting plan k ≡ false
 unfolding drifting driftsAt isZero
 row-quiet plan k h = none-below (driftsAt plan k) (channels plan) (λ channel l. rw (h channel l) refl)
+
+zero-is : (z : ℤ) → isZero z ≡ true → z ≡ pos 0
+unfolding isZero
+zero-is (pos n) e = ap pos (eqb-true n 0 e)
+zero-is (negsuc n) e = absurd (false≢true e)
+
+pub quiet-row : (plan : List ℕ) (k : ℕ) → drifting plan k ≡ false → (channel : ℕ) → channel < channels plan → storedDrift plan k channel ≡ pos 0
+unfolding drifting driftsAt
+quiet-row plan k e channel l =
+    zero-is (storedDrift plan k channel) (not-false (isZero (storedDrift plan k channel)) (none-each (driftsAt plan k) (channels plan) e channel l))
 
 -- ---- many at once
 

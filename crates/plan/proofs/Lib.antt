@@ -8,3 +8,4 @@ pub mod Fits
 pub mod Drifts
 pub mod Outcomes
 pub mod PlanNames
+pub mod PlanBytes

@@ -1,0 +1,3 @@
+pub mod Settle
+pub mod Promise
+pub mod inner

@@ -1,4 +1,11 @@
-// A stand-in: the code of this crate comes later. What is proved here is proofs/.
-pub fn keep(x: u64) -> u64 {
-    x
+// Settling: the fewest passes of a plan's cycle are laid out as start rows after which every part of a rule closes.
+pub mod comparisons;
+pub mod extend;
+
+use refusal::Refusal;
+
+// What settling answers: how many passes are laid out, or the first refusal that applies.
+pub enum Laid {
+    Passes(usize),
+    Refused(Refusal),
 }

@@ -14,7 +14,7 @@ use lib.Seq.{getD-set-same, getD-set-other, getD-take, getD-drop, length-take-le
 use borrow.Rule.Slice.PartMut.{midOf, putMid}
 use Rattle.fields.proofs.Pieces.{behind}
 use Rattle.table.specs.Bytes.{zeroed}
-use Rattle.table.specs.inner.Tables.{flipped}
+use Rattle.table.specs.inner.Tables.{flipped, Sized}
 use Rattle.table.specs.inner.Stored.{Stored}
 use Rattle.table.specs.inner.Sweeps.{marksFrom}
 
@@ -121,3 +121,7 @@ unfolding zeroed
 stored-zeros old new k h w =
     ext-getD 0 new (map (λ _. 0) old) (w .long ∙ sym (length-map old (λ _. 0))) (λ j l.
     ap (λ (i : ℕ). getD new i 0) (sym (zero-add j)) ∙ w .inside j (omega arith) (let n = w .long in omega arith) ∙ sym (List·getD-map (λ _. 0) old j 0))
+
+-- A table is as large as it was.
+pub stored-sized : {old new : List ℕ} (n w : ℕ) {at low high : ℕ} {g : ℕ → ℕ} → Stored old new at low high g → Sized old n w → Sized new n w
+stored-sized n w done s = record { few-parts = s .few-parts; few-rows = s .few-rows; whole = done .long ∙ s .whole }

@@ -111,7 +111,7 @@ fn join_first(
 }
 
 // The verdict on the passes from a position of the cycle on. Where the two shifts land is found once, ahead of the passes.
-fn judge_cycle(plan: &[u8], sizes: Sizes, comparison: Comparison, row: usize) -> Verdict
+pub fn judge_cycle(plan: &[u8], sizes: Sizes, comparison: Comparison, row: usize) -> Verdict
     requires { ⌜ (Fitting (now plan) sizes) × (TermsFit sizes comparison) × (sizes .start ≤ row) × (row ≤ latestFrom sizes) ⌝ }
     ensures { λ r. ⌜ r ≡ judgeCycle (now (plan .entry)) comparison 4 row ⌝ }
 {

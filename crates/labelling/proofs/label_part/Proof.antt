@@ -1,3 +1,4 @@
+use native.Mathlib.Omega.{arith}
 use denote.Ref.{now}
 use Rattle.labelling.proofs.OnePart.{atom-there, atom-made, operator-there, operator-met, operator-readable, operator-made}
 use borrow.Author.Needs.{needs}
@@ -15,29 +16,23 @@ enum-known-view c = search needs
 
 -- src/lib.rt:36:29
 label-atom-requires : tie.Need-label-atom-requires
-label-atom-requires c κs =
-    let start = c .before .before .before .before .before .before in
-    let view = c .before .before .view in
-    (start .pre .0, start .pre .1, start .pre .2, atom-there (now (start .args .plan)) (start .pre .0) (start .args .n) (start .args .i) (start .pre .3) _ (view .given .1))
+label-atom-requires c κs = (c .before .before .before .before .before .before .pre .0, c .before .before .before .before .before .before .pre .1, c .before .before .before .before .before .before .pre .2, atom-there (now (c .before .before .before .before .before .before .args .plan)) (c .before .before .before .before .before .before .pre .0) (c .before .before .before .before .before .before .args .n) (c .before .before .before .before .before .before .args .i) (c .before .before .before .before .before .before .pre .3) _ (c .before .before .view .given .1))
 
 -- src/lib.rt:37:24
 enum-known-view-2 : tie.Need-enum-known-view-2
 enum-known-view-2 c = search needs
 
+-- src/lib.rt:38:38
+add-label-operator : tie.Need-add-label-operator
+add-label-operator c = search needs
+
 -- src/lib.rt:38:13
 label-operator-requires : tie.Need-label-operator-requires
-label-operator-requires c κs =
-    let start = c .before .before .before .before .before .before in
-    let view2 = c .before .before .view2 in
-    (start .pre .1, start .pre .0 .a-cycle, start .pre .2, operator-there (now (start .args .plan)) (start .pre .0) (start .args .n) (start .args .i) (start .pre .3) _ (view2 .given .1))
+label-operator-requires c κs = (c .before .before .before .before .before .before .before .pre .1, omega arith, c .before .before .before .before .before .before .before .pre .0 .a-cycle, c .before .before .before .before .before .before .before .pre .2, operator-there (now (c .before .before .before .before .before .before .before .args .plan)) (c .before .before .before .before .before .before .before .pre .0) (c .before .before .before .before .before .before .before .args .n) (c .before .before .before .before .before .before .before .args .i) (c .before .before .before .before .before .before .before .pre .3) _ (c .before .before .before .view2 .given .1))
 
 -- src/lib.rt:39:13
 check-closing-requires : tie.Need-check-closing-requires
-check-closing-requires c κs =
-    let start = c .before .before .before .before .before .before .before .before .before .before in
-    let view2 = c .before .before .before .before .before .before .view2 in
-    let label-operator = c .before .before .before .label-operator in
-    (operator-readable (now (start .args .plan)) (start .pre .0) (start .args .n) (start .args .i) (start .pre .3) _ (view2 .given .1) (label-operator .ensures) (start .pre .1) (start .pre .2), operator-met (now (start .args .plan)) (start .pre .0) (start .args .n) (start .args .i) (start .pre .3) _ (view2 .given .1) (label-operator .ensures))
+check-closing-requires c κs = (operator-readable (now (c .before .before .before .before .before .before .before .before .before .before .before .args .plan)) (c .before .before .before .before .before .before .before .before .before .before .before .pre .0) (c .before .before .before .before .before .before .before .before .before .before .before .args .n) (c .before .before .before .before .before .before .before .before .before .before .before .args .i) (c .before .before .before .before .before .before .before .before .before .before .before .pre .3) _ (c .before .before .before .before .before .before .before .view2 .given .1) (c .before .before .before .label-operator .ensures) (c .before .before .before .before .before .before .before .before .before .before .before .pre .1) (c .before .before .before .before .before .before .before .before .before .before .before .pre .2), operator-met (now (c .before .before .before .before .before .before .before .before .before .before .before .args .plan)) (c .before .before .before .before .before .before .before .before .before .before .before .pre .0) (c .before .before .before .before .before .before .before .before .before .before .before .args .n) (c .before .before .before .before .before .before .before .before .before .before .before .args .i) (c .before .before .before .before .before .before .before .before .before .before .before .pre .3) _ (c .before .before .before .before .before .before .before .view2 .given .1) (c .before .before .before .label-operator .ensures))
 
 -- src/lib.rt:24:1
 same-length : tie.Need-same-length
@@ -45,11 +40,7 @@ same-length c = search needs
 
 -- src/lib.rt:24:1
 returns : tie.Need-returns
-returns c =
-    let start = c .before .before .before .before .before .before .before .before .before in
-    let view = c .before .before .before .before .before .view in
-    let label-atom = c .before .before .label-atom in
-    atom-made (now (start .args .plan)) (start .pre .0) (start .args .n) (start .args .i) (start .pre .3) _ (view .given .1) (label-atom .ensures .0) (label-atom .ensures .1)
+returns c = atom-made (now (c .before .before .before .before .before .before .before .before .before .args .plan)) (c .before .before .before .before .before .before .before .before .before .pre .0) (c .before .before .before .before .before .before .before .before .before .args .n) (c .before .before .before .before .before .before .before .before .before .args .i) (c .before .before .before .before .before .before .before .before .before .pre .3) _ (c .before .before .before .before .before .view .given .1) (c .before .before .label-atom .ensures .0) (c .before .before .label-atom .ensures .1)
 
 -- src/lib.rt:24:1
 same-length-2 : tie.Need-same-length-2
@@ -57,12 +48,7 @@ same-length-2 c = search needs
 
 -- src/lib.rt:24:1
 returns-2 : tie.Need-returns-2
-returns-2 c =
-    let start = c .before .before .before .before .before .before .before .before .before .before .before in
-    let view2 = c .before .before .before .before .before .before .before .view2 in
-    let label-operator = c .before .before .before .before .label-operator in
-    let check-closing = c .check-closing in
-    operator-made (now (start .args .plan)) (start .pre .0) (start .args .n) (start .args .i) (start .pre .3) _ (view2 .given .1) (label-operator .ensures) (check-closing .ensures)
+returns-2 c = operator-made (now (c .before .before .before .before .before .before .before .before .before .before .before .before .args .plan)) (c .before .before .before .before .before .before .before .before .before .before .before .before .pre .0) (c .before .before .before .before .before .before .before .before .before .before .before .before .args .n) (c .before .before .before .before .before .before .before .before .before .before .before .before .args .i) (c .before .before .before .before .before .before .before .before .before .before .before .before .pre .3) _ (c .before .before .before .before .before .before .before .before .view2 .given .1) (c .before .before .before .before .label-operator .ensures) (c .check-closing .ensures)
 
 pub label-part-spec : {M : Type 1} → statement M
 label-part-spec =
@@ -71,6 +57,7 @@ label-part-spec =
     enum-known-view
     label-atom-requires
     enum-known-view-2
+    add-label-operator
     label-operator-requires
     check-closing-requires
     same-length

@@ -4,7 +4,7 @@ use Rattle.refusal.specs.declared.Outcome.the-variants.{Refused}
 use Rattle.refusal.specs.declared.Refusal.the-variants.{NoTable}
 use Rattle.refusal.specs.declared.Report.{Report}
 use Rattle.inputs.proofs.Parts.{always-taken, taken-fitting}
-use Rattle.labelling.proofs.OnePart.{still-sized}
+use Rattle.table.proofs.Stores.{stored-sized}
 use Rattle.maker.proofs.Turns.{part-open, part-closed, left-open, left-made, witness-room}
 use borrow.Author.Needs.{needs}
 use Rattle.maker.proofs.make_part.Statement.{statement}
@@ -102,7 +102,7 @@ lowest-witness-requires c κs =
     let view-of = c .before .before .before .before .before .before .before .view-of in
     let label-part = c .before .before .before .before .before .label-part in
     let enum-told2 = c .before .enum-told2 in
-    let sized = still-sized _ (start .args .i) (label-part .ensures .1 .made (enum-told2 .given .1)) (start .pre .1 .sized) in
+    let sized = stored-sized _ _ (label-part .ensures .1 .made (enum-told2 .given .1)) (start .pre .1 .sized) in
     (start .pre .0 .fits, sized, start .pre .2, taken-fitting (now (start .args .rule)) (now (start .args .plan)) (start .pre .0) _ (start .pre .2) (take .ensures .isTake) (taken .given .1) (view-of .ensures))
 
 -- src/lib.rt:54:27
@@ -128,7 +128,7 @@ put-number-requires c κs =
     let label-part = c .before .before .before .before .before .before .before .label-part in
     let enum-told2 = c .before .before .before .enum-told2 in
     let lowest-witness = c .before .lowest-witness in
-    let room = witness-room (start .args .n) _ (still-sized _ (start .args .i) (label-part .ensures .1 .made (enum-told2 .given .1)) (start .pre .1 .sized)) (start .args .i) (start .pre .2) in
+    let room = witness-room (start .args .n) _ (stored-sized _ _ (label-part .ensures .1 .made (enum-told2 .given .1)) (start .pre .1 .sized)) (start .args .i) (start .pre .2) in
     (room .0, room .1, lowest-witness .ensures .1)
 
 -- src/lib.rt:28:1

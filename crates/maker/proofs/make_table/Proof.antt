@@ -2,7 +2,8 @@ use denote.Ref.{now}
 use Rattle.table.proofs.Places.{area}
 use Rattle.inputs.proofs.Parts.{few-there, last-there}
 use native.Mathlib.Omega.{arith}
-use Rattle.maker.proofs.Turns.{other-length, right-sized, zero-left, table-left, made-left, at-most, stored-sized}
+use Rattle.maker.proofs.Turns.{other-length, right-sized, zero-left, table-left, made-left, at-most}
+use Rattle.table.proofs.Stores.{stored-sized}
 use borrow.Author.Needs.{needs}
 use Rattle.maker.proofs.make_table.Statement.{statement}
 use Rattle.maker.proofs.make_table.Tie as tie

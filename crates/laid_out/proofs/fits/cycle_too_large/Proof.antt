@@ -1,0 +1,68 @@
+use Prim.Native.Nat.{_+_, _-_, _≤_}
+use native.Mathlib.Omega.{arith}
+use mathlib.Core.Path.{_≡_, sym, _∙_}
+use mathlib.Core.Bool.{false}
+use denote.Ref.{now}
+use Rattle.plan.specs.Refusals.{anyBelow}
+use Rattle.plan.proofs.Drifts.{none-below, none-more}
+use Rattle.laid_out.specs.inner.NextPass.{rowTooLarge}
+use Rattle.laid_out.proofs.NextPass.{row-large, cycle-fits}
+use borrow.Author.Needs.{needs}
+use Rattle.laid_out.proofs.fits.cycle_too_large.Statement.{statement}
+use Rattle.laid_out.proofs.fits.cycle_too_large.Tie as tie
+use Rattle.laid_out.proofs.fits.cycle_too_large.Reads as reads
+use Rattle.laid_out.proofs.fits.cycle_too_large.Lts as lts
+use Rattle.laid_out.proofs.fits.row_too_large.Reads as row-too-large-reads
+
+abbrev Inv-loop : tie.InvT-loop
+Inv-loop plan sizes pass j₀ j = (j ≤ sizes .cycle) × (anyBelow (λ i. rowTooLarge plan (sizes .start + i) pass) j ≡ false)
+
+abbrev μ-loop : tie.MeasureT-loop
+μ-loop plan sizes pass j₀ j = sizes .cycle - j
+
+-- src/fits.rt:54:5
+loop-holds : tie.Need-loop-holds Inv-loop μ-loop
+loop-holds c = (omega arith, none-below _ 0 (λ k l. absurd (omega arith)))
+
+-- src/fits.rt:55:39
+add-row-too-large : tie.Need-add-row-too-large Inv-loop μ-loop
+add-row-too-large c = search needs
+
+-- src/fits.rt:55:12
+row-too-large-requires : tie.Need-row-too-large-requires Inv-loop μ-loop
+row-too-large-requires c κs = (c .before .before .before .before .before .pre .0, omega arith, c .before .before .before .before .before .pre .1)
+
+-- src/fits.rt:56:13
+returns : tie.Need-returns Inv-loop μ-loop
+returns c = row-large (c .before .before .before .before .before .before .before .pre .0) (c .before .before .before .before .before .before .before .args .pass) (c .before .before .before .before .before .loop .j) (c .before .before .before .if1 .taken) (sym (c .if2 .taken) ∙ c .before .row-too-large .ensures)
+
+-- src/fits.rt:58:9
+add-j : tie.Need-add-j Inv-loop μ-loop
+add-j c = search needs
+
+-- src/fits.rt:54:5
+loop-less : tie.Need-loop-less Inv-loop μ-loop
+loop-less c = omega arith
+
+-- src/fits.rt:54:5
+loop-again : tie.Need-loop-again Inv-loop μ-loop
+loop-again c = (omega arith, none-more _ (c .before .before .before .before .before .loop .j) (c .before .before .before .before .before .loop .inv .1) (sym (c .before .row-too-large .ensures) ∙ c .if2 .left))
+
+-- src/fits.rt:49:1
+returns-2 : tie.Need-returns-2 Inv-loop μ-loop
+returns-2 c = cycle-fits (c .before .before .before .before .pre .0) (c .before .before .before .before .args .pass) (c .before .before .loop .j) (omega arith) (c .before .before .loop .inv .1)
+
+pub cycle-too-large-spec : {M : Type 1} → statement M
+cycle-too-large-spec =
+    tie.close
+    (tie.spec
+    Inv-loop
+    μ-loop
+    loop-holds
+    add-row-too-large
+    row-too-large-requires
+    returns
+    add-j
+    loop-less
+    loop-again
+    returns-2)

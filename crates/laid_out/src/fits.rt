@@ -1,0 +1,72 @@
+// Whether one pass more can be laid out. Of the rows that are laid out then only those that come last are looked at.
+ghost use mathlib.Core.Path.{_≡_};
+ghost use mathlib.Core.Bool.{true};
+ghost use Prim.Native.Nat.{_+_, _<_};
+ghost use Rattle.fields.specs.TwosComplement.{signedFits};
+ghost use Rattle.plan.specs.inner.Lifted.{passes, lowered};
+ghost use Rattle.plan.specs.inner.Sizes.{allRows, Fitting};
+ghost use Rattle.laid_out.specs.LaidOut.{canBeLaid};
+ghost use Rattle.laid_out.specs.inner.NextPass.{rowTooLarge, cycleTooLarge};
+use fields::BIAS;
+use plan::lookup::LAST_PASS;
+use plan::lookup::number_at;
+use plan::sizes::Sizes;
+
+// The most rows of a plan but for its lead-in.
+const MOST_ROWS: usize = 256;
+
+// The numbers of 32 bits, lifted as values are: the least of them, and the end of them.
+const LEAST: u64 = LAST_PASS * BIAS;
+
+const END: u64 = LEAST + 2 * BIAS;
+
+// A value fits 32 bits.
+fn fits_word(value: u64) -> bool
+    ensures { λ r. ⌜ r ≡ signedFits 4 (lowered value) ⌝ }
+{
+    if value < LEAST {
+        return false;
+    }
+    value < END
+}
+
+// The reading of some channel on a row and a pass takes more than 32 bits.
+fn row_too_large(plan: &[u8], sizes: Sizes, row: usize, pass: usize) -> bool
+    requires { ⌜ (Fitting (now plan) sizes) × (row < allRows sizes) × (pass < passes) ⌝ }
+    ensures { λ r. ⌜ r ≡ rowTooLarge (now (plan .entry)) row pass ⌝ }
+{
+    let mut channel = 0;
+    while channel < sizes.channels {
+        if !fits_word(number_at(plan, sizes, channel, row, pass)) {
+            return true;
+        }
+        channel += 1;
+    }
+    false
+}
+
+// So on some row of the cycle.
+fn cycle_too_large(plan: &[u8], sizes: Sizes, pass: usize) -> bool
+    requires { ⌜ (Fitting (now plan) sizes) × (pass < passes) ⌝ }
+    ensures { λ r. ⌜ r ≡ cycleTooLarge (now (plan .entry)) pass ⌝ }
+{
+    let mut j = 0;
+    while j < sizes.cycle {
+        if row_too_large(plan, sizes, sizes.start + j, pass) {
+            return true;
+        }
+        j += 1;
+    }
+    false
+}
+
+// With n passes laid out the plan can be written, and so it can with one more.
+pub fn fits_next(plan: &[u8], sizes: Sizes, n: usize) -> bool
+    requires { ⌜ (Fitting (now plan) sizes) × (canBeLaid (now plan) n ≡ true) ⌝ }
+    ensures { λ r. ⌜ r ≡ canBeLaid (now (plan .entry)) (n + 1) ⌝ }
+{
+    if MOST_ROWS < sizes.start + (n + 2) * sizes.cycle {
+        return false;
+    }
+    !cycle_too_large(plan, sizes, n + 1)
+}
