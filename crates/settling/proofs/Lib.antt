@@ -3,3 +3,4 @@ pub mod OneRun
 pub mod Bound
 pub mod Later
 pub mod Closings
+pub mod Searched
