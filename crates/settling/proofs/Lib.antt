@@ -4,3 +4,5 @@ pub mod Bound
 pub mod Later
 pub mod Closings
 pub mod Searched
+pub mod Promised
+pub mod Ways
