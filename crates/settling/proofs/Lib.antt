@@ -3,3 +3,5 @@ pub mod OneRun
 pub mod Bound
 pub mod Later
 pub mod Closings
+pub mod Looked
+pub mod Extending
