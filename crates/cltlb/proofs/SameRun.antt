@@ -22,7 +22,8 @@ use Rattle.cltlb.specs.declared.View.the-variants as view
 use Rattle.cltlb.proofs.Fits.{reading-fits, less-fits, equal-fits, atom-fits, operator-fits, one-lower, two-lower}
 
 module _ (r q : Run) (v : ℕ) (same : (c : ℕ) → c < v → (z : ℤ) → r c z ≡ q c z) where
-  value-same : (x : Term) → termFits v x ≡ true → (t : ℕ) → valueAt r x t ≡ valueAt q x t
+  -- A term that fits is seen alike.
+  pub value-same : (x : Term) → termFits v x ≡ true → (t : ℕ) → valueAt r x t ≡ valueAt q x t
   unfolding valueAt
   value-same (Constant z) h t = refl
   value-same (Reading c s) h t = same c (reading-fits v c s h .0) (pos t +ℤ s)

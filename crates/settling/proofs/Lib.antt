@@ -6,3 +6,5 @@ pub mod Closings
 pub mod Searched
 pub mod Promised
 pub mod Ways
+pub mod Looked
+pub mod Extending

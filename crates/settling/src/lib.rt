@@ -1,6 +1,8 @@
 // Settling: the fewest passes of a plan's cycle are laid out as start rows after which every part of a rule closes.
 pub mod comparisons;
 pub mod extend;
+pub mod parts;
+pub mod search;
 
 use refusal::Refusal;
 

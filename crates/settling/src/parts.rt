@@ -1,0 +1,100 @@
+// One part of a rule, tried on the layout of so many passes, whose rows are the first positions of the plan's run. Nothing of the
+// layout is written: the scratch holds marks, with room for 256 rows of each of 64 parts.
+ghost use mathlib.Core.Path.{_≡_};
+ghost use mathlib.Core.Bool.{true};
+ghost use Prim.Native.Nat.{_+_, _*_, _≤_, _<_};
+ghost use Rattle.cltlb.specs.Fits.{atomFits, viewFits};
+ghost use Rattle.cltlb.specs.declared.View.the-variants as view;
+ghost use Rattle.plan.specs.inner.Sizes.{Fitting};
+ghost use Rattle.inputs.specs.inner.Read.{Ready};
+ghost use Rattle.laid_out.specs.LaidOut.{laidOut, canBeLaid};
+ghost use Rattle.laid_out.specs.inner.LaidSizes.{laidSizes};
+ghost use Rattle.settling.specs.inner.Scratch.{mostParts, mostRows, Room, Tried, MadeTo, closesOn};
+use crate::comparisons::put_truths;
+use crate::comparisons::steady;
+use cltlb::Atom;
+use cltlb::View;
+use labelling::operators::label_operator;
+use marks::equations::wraps_round;
+use plan::sizes::Sizes;
+use rule::Taken;
+use table::bytes::place;
+use verdict::rows::comparison_of;
+
+// The sizes of the layout.
+pub fn laid_sizes(sizes: Sizes, passes: usize) -> Sizes
+    requires { ⌜ (sizes .start + passes * sizes .cycle ≤ mostRows) ⌝ }
+    ensures { λ r. ⌜ r ≡ laidSizes sizes passes ⌝ }
+{
+    Sizes {
+        channels: sizes.channels,
+        start: sizes.start + passes * sizes.cycle,
+        cycle: sizes.cycle,
+        lead: sizes.lead,
+    }
+}
+
+// A comparison: its verdicts on the cycle rows, from that pass on, come first, and its marks once it is steady.
+fn try_atom(
+    plan: &[u8],
+    scratch: &mut [u8],
+    sizes: Sizes,
+    passes: usize,
+    i: usize,
+    atom: Atom,
+) -> bool
+    requires { ⌜ (Fitting (now plan) sizes) × (canBeLaid (now plan) passes ≡ true) × (Room (now scratch)) × (i < mostParts) × (atomFits (sizes .channels) atom ≡ true) ⌝ }
+    ensures { λ r. ⌜ Tried (laidOut (now (plan .entry)) passes) (now (scratch .entry)) (now (scratch .exit)) i (view.Atom atom) r ⌝ }
+{
+    let comparison = comparison_of(atom);
+    let laid = laid_sizes(sizes, passes);
+    let start = laid.start;
+    if !steady(plan, sizes, comparison, start) {
+        return false;
+    }
+    let own = place(256, i, 0);
+    put_truths(scratch, plan, sizes, comparison, own, start + laid.cycle);
+    true
+}
+
+// A part by its view. An operator is labelled first, by the marks of the lower parts, and closes by its marks or not.
+fn try_view(
+    plan: &[u8],
+    scratch: &mut [u8],
+    sizes: Sizes,
+    passes: usize,
+    i: usize,
+    view: View,
+) -> bool
+    requires { ⌜ (Fitting (now plan) sizes) × (canBeLaid (now plan) passes ≡ true) × (Room (now scratch)) × (i < mostParts) × (viewFits (sizes .channels) i view ≡ true) ⌝ }
+    ensures { λ r. ⌜ Tried (laidOut (now (plan .entry)) passes) (now (scratch .entry)) (now (scratch .exit)) i view r ⌝ }
+{
+    match view {
+        View::Atom(atom) => try_atom(plan, scratch, sizes, passes, i, atom),
+        View::Operator(operator) => {
+            let laid = laid_sizes(sizes, passes);
+            label_operator(scratch, 64, 256, laid, i, operator);
+            wraps_round(scratch, 64, 256, laid, i, operator)
+        }
+    }
+}
+
+// Part `i` of a rule of `n` parts, of which the marks of the lower ones are made: whether it closes, and if so, its marks.
+pub fn try_part(
+    rule: &[u8],
+    plan: &[u8],
+    scratch: &mut [u8],
+    n: usize,
+    sizes: Sizes,
+    passes: usize,
+    i: usize,
+) -> bool
+    requires { ⌜ (Ready (now rule) (now plan) n sizes) × (canBeLaid (now plan) passes ≡ true) × (MadeTo (now rule) (laidOut (now plan) passes) (now scratch) i) × (i < n) ⌝ }
+    ensures { λ r. ⌜ (r ≡ closesOn (now (rule .entry)) (laidOut (now (plan .entry)) passes) i) × (MadeTo (now (rule .entry)) (laidOut (now (plan .entry)) passes) (now (scratch .exit)) i) × (r ≡ true → MadeTo (now (rule .entry)) (laidOut (now (plan .entry)) passes) (now (scratch .exit)) (i + 1)) ⌝ }
+{
+    let taken = rule::take(rule, i);
+    let Taken::Part(part) = taken else {
+        return false;
+    };
+    try_view(plan, scratch, sizes, passes, i, cltlb::view_of(part))
+}

@@ -1,0 +1,40 @@
+// The search for the fewest passes. Closing is monotone in the passes, so that parts are gone through once, the lowest first: one that
+// does not close asks for a pass more, on which the lower parts close too, with marks that repeat.
+ghost use mathlib.Core.Path.{_≡_};
+ghost use Rattle.inputs.specs.inner.Read.{Ready};
+ghost use Rattle.settling.specs.Settle.{fewestPasses, laidBy};
+ghost use Rattle.settling.specs.inner.Scratch.{Room};
+use crate::Laid;
+use crate::extend::extend;
+use crate::parts::laid_sizes;
+use crate::parts::try_part;
+use laid_out::fits::fits_next;
+use plan::sizes::Sizes;
+use refusal::Refusal;
+
+// Of a rule of `n` parts.
+pub fn fewest_passes(
+    rule: &[u8],
+    plan: &[u8],
+    scratch: &mut [u8],
+    n: usize,
+    sizes: Sizes,
+) -> Laid
+    requires { ⌜ (Ready (now rule) (now plan) n sizes) × (Room (now scratch)) ⌝ }
+    ensures { λ r. ⌜ r ≡ laidBy (fewestPasses (now (rule .entry)) (now (plan .entry))) ⌝ }
+{
+    let mut passes = 0;
+    let mut i = 0;
+    while i < n {
+        if try_part(rule, plan, scratch, n, sizes, passes, i) {
+            i += 1;
+        } else {
+            if !fits_next(plan, sizes, passes) {
+                return Laid::Refused(Refusal::NoLayout);
+            }
+            extend(scratch, laid_sizes(sizes, passes), i);
+            passes += 1;
+        }
+    }
+    Laid::Passes(passes)
+}
