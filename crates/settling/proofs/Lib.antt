@@ -5,3 +5,4 @@ pub mod Later
 pub mod Closings
 pub mod Looked
 pub mod Extending
+pub mod Trying
