@@ -49,7 +49,7 @@ use Rattle.maker.specs.inner.Parts.{AgreeOn, MadeBelow, MadeTo}
 use Rattle.maker.proofs.InMaking.{agree-below, marks-next, witness-is, witnesses-kept, witnesses-next, marks-kept, whole-table}
 
 -- Zero bytes, as many as there are.
-zeroed-same : (x y : List ℕ) → length x ≡ length y → zeroed x ≡ zeroed y
+pub zeroed-same : (x y : List ℕ) → length x ≡ length y → zeroed x ≡ zeroed y
 unfolding zeroed
 zeroed-same x y e =
     ext-getD 0 (map (λ _. 0) x) (map (λ _. 0) y) (length-map x (λ _. 0) ∙ e ∙ sym (length-map y (λ _. 0)))

@@ -3,6 +3,9 @@ pub mod OneRun
 pub mod Bound
 pub mod Later
 pub mod Closings
+pub mod Searched
+pub mod Promised
+pub mod Ways
 pub mod Looked
 pub mod Extending
 pub mod Trying
