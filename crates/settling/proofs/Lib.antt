@@ -9,3 +9,5 @@ pub mod Ways
 pub mod Looked
 pub mod Extending
 pub mod Trying
+pub mod Making
+pub mod Searching
