@@ -4,7 +4,7 @@ use Prim.Native.Nat.{ℕ, _+_, _*_, _-_, _≤_, _<_}
 use native.Mathlib.Nat.{mul-le-mul-left}
 use native.Mathlib.Omega.{arith}
 use mathlib.Core.Path.{_≡_, refl, sym, ap, ap₂, _∙_}
-use mathlib.Core.Bool.{true, false}
+use mathlib.Core.Bool.{true}
 use mathlib.Core.List.{List, [], _++_, append-assoc}
 use lib.IntN.{ℤ}
 use lib.ListN.{length, drop, length-append}
@@ -15,14 +15,16 @@ use Rattle.fields.specs.Pieces.{pieces}
 use Rattle.fields.proofs.Widths.{length-bytes}
 use Rattle.plan.specs.Layout.{headLength, arrayLength}
 use Rattle.plan.specs.Bytes.{word, headOf, arrayOf, planOf}
-use Rattle.plan.specs.inner.Sizes.{allStored, Fitting}
+use Rattle.plan.specs.inner.Sizes.{allRows, allStored, mostArray, Fitting}
 use Rattle.plan.specs.declared.sizes.Sizes.{Sizes}
+use Rattle.plan.proofs.Arrays.{array-le}
+use Rattle.plan.proofs.Fits.{few-stored}
 use Rattle.plan.proofs.PlanBytes.{rowBytes, length-word, length-array, length-head}
-use Rattle.laid_out.specs.LaidOut.{startAfter, laidReading, laidDrift, laidOut}
-use Rattle.laid_out.specs.inner.LaidSizes.{laidSizes}
-use Rattle.laid_out.specs.inner.LaidNumbers.{laidNumber}
+use Rattle.laid_out.specs.LaidOut.{startAfter, laidReading, laidDrift, laidOut, canBeLaid}
+use Rattle.laid_out.specs.inner.LaidSizes.{laidSizes, mostPlan}
 use Rattle.laid_out.specs.inner.Fronted.{fronted}
-use Rattle.laid_out.proofs.Fronts.{as-front, front-none, front-more}
+use Rattle.laid_out.proofs.LaidRuns.{laid-fitting}
+use Rattle.laid_out.proofs.Fronts.{as-front, front-more}
 
 -- ---- sizes
 
@@ -86,22 +88,46 @@ module _ {plan : List ℕ} {z : Sizes} (fits : Fitting plan z) (n : ℕ) where
   unfolding laidOut planOf startAfter
   laid-parts = rw (fits .v-is, fits .p-is, fits .c-is, fits .l-is) refl
 
-  -- The readings are written behind the head,
-  pub readings-behind : (s l ys : List ℕ) (a : ℕ) → a ≡ headLength → headLength + arrayLength (z .channels) w ≤ length s → l ≡ fronted s head → ys ≡ fronted (midOf a (length l - a) l) (array (laidReading plan))
-      → putMid a (length l - a) l ys ≡ fronted s (head ++ array (laidReading plan))
-  readings-behind s l ys a e room h g =
-      front-more s l head (array (laidReading plan)) ys a (length-head (z .channels) (z .start + n * z .cycle) (z .cycle) (z .lead) ∙ sym e)
-      (omega (arith, length-array (z .channels) (laidReading plan) w)) h g
+  module _ (can : canBeLaid plan n ≡ true) {r : Sizes} (e : r ≡ laidSizes z n) where
+    -- The sizes are small,
+    pub laid-small : (r .channels ≤ 8) × (allRows r ≤ 256) × (r .lead ≤ 4)
+    laid-small = let own = laid-fitting plan fits n can in rw e (own .few-channels, own .few-rows, own .few-lead)
 
-  -- and the drifts behind them.
-  pub drifts-behind : (s l ys : List ℕ) (b : ℕ) → b ≡ headLength + arrayLength (z .channels) w → headLength + 2 * arrayLength (z .channels) w ≤ length s
-      → l ≡ fronted s (head ++ array (laidReading plan)) → ys ≡ fronted (midOf b (length l - b) l) (array (laidDrift plan n))
-      → putMid b (length l - b) l ys ≡ laidOut plan n ++ drop (length (laidOut plan n)) s
-  unfolding fronted
-  drifts-behind s l ys b e room h g =
-      front-more s l (head ++ array (laidReading plan)) (array (laidDrift plan n)) ys b
-      (length-append head (array (laidReading plan))
-      ∙ ap₂ _+_ (length-head (z .channels) (z .start + n * z .cycle) (z .cycle) (z .lead)) (length-array (z .channels) (laidReading plan) w)
-      ∙ sym e)
-      (omega (arith, length-array (z .channels) (laidDrift plan n) w)) h g
-      ∙ ap (fronted s) (append-assoc head (array (laidReading plan)) (array (laidDrift plan n)) ∙ sym laid-parts)
+    -- and so is an array.
+    pub stored-is : allStored r ≡ w
+    stored-is = ap (λ (y : Sizes). allStored y) e
+
+    pub array-is : arrayLength (r .channels) (allStored r) ≡ arrayLength (z .channels) w
+    array-is = ap (λ (y : Sizes). arrayLength (y .channels) (allStored y)) e
+
+    pub array-few : arrayLength (z .channels) (allStored r) ≤ mostArray
+    unfolding arrayLength
+    array-few = let own = laid-fitting plan fits n can in rw e (let most = array-le (z .channels) w (fits .few-channels) (few-stored own) in omega arith)
+
+    few : arrayLength (z .channels) w ≤ mostArray
+    few = rw stored-is at array-few
+
+    module _ (s l ys : List ℕ) (room : length s ≡ mostPlan) where
+      -- The readings are written behind the head,
+      pub readings-behind : (a : ℕ) → a ≡ headLength → l ≡ fronted s (headOf (r .channels) (r .start) (r .cycle) (r .lead))
+          → ys ≡ fronted (midOf a (length l - a) l) (arrayOf (z .channels) (allStored r) (laidReading plan))
+          → putMid a (length l - a) l ys ≡ fronted s (head ++ array (laidReading plan))
+      readings-behind a f h g =
+          front-more s l head (array (laidReading plan)) ys a (length-head (z .channels) (z .start + n * z .cycle) (z .cycle) (z .lead) ∙ sym f)
+          (omega (arith, length-array (z .channels) (laidReading plan) w, few))
+          (h ∙ ap (λ (y : Sizes). fronted s (headOf (y .channels) (y .start) (y .cycle) (y .lead))) e)
+          (g ∙ ap (λ (k : ℕ). fronted (midOf a (length l - a) l) (arrayOf (z .channels) k (laidReading plan))) stored-is)
+
+      -- and the drifts behind them.
+      pub drifts-behind : (b : ℕ) → b ≡ headLength + arrayLength (r .channels) (allStored r) → l ≡ fronted s (head ++ array (laidReading plan))
+          → ys ≡ fronted (midOf b (length l - b) l) (arrayOf (z .channels) (allStored r) (laidDrift plan n))
+          → putMid b (length l - b) l ys ≡ laidOut plan n ++ drop (length (laidOut plan n)) s
+      unfolding fronted
+      drifts-behind b f h g =
+          front-more s l (head ++ array (laidReading plan)) (array (laidDrift plan n)) ys b
+          (length-append head (array (laidReading plan))
+          ∙ ap₂ _+_ (length-head (z .channels) (z .start + n * z .cycle) (z .cycle) (z .lead)) (length-array (z .channels) (laidReading plan) w ∙ sym array-is)
+          ∙ sym f)
+          (omega (arith, length-array (z .channels) (laidDrift plan n) w, few, array-is)) h
+          (g ∙ ap (λ (k : ℕ). fronted (midOf b (length l - b) l) (arrayOf (z .channels) k (laidDrift plan n))) stored-is)
+          ∙ ap (fronted s) (append-assoc head (array (laidReading plan)) (array (laidDrift plan n)) ∙ sym laid-parts)
