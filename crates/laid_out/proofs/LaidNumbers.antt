@@ -4,7 +4,7 @@
 use Prim.Native.Nat.{ℕ, _+_, _*_, _-_, _≤_, _<_}
 use native.Mathlib.Nat.{mul-le-mul}
 use native.Mathlib.Omega.{arith}
-use mathlib.Core.Path.{_≡_, refl, sym, ap, _∙_}
+use mathlib.Core.Path.{_≡_, refl, sym, ap, _∙_, subst⁻¹}
 use mathlib.Core.Bool.{Bool, true, false}
 use mathlib.Core.List.{List}
 use lib.IntN.{ℤ, pos, _+ℤ_, _*ℤ_}
@@ -77,6 +77,10 @@ module _ {plan : List ℕ} {z : Sizes} (fits : Fitting plan z) (n : ℕ) (can : 
   pub few-laid-rows : allStored (laidSizes z n) ≤ mostStored
   few-laid-rows = few-stored (laid-fitting plan fits n can)
 
-  pub number-fits : Bytes plan → (drifts : Bool) (k channel : ℕ) → k < allStored (laidSizes z n) → channel < z .channels → SignedFits 4 (laidNumber plan n drifts k channel)
-  number-fits bytes true k channel h l = laid-drift-fits plan bytes n k channel
-  number-fits bytes false k channel h l = laid-reading-fits plan fits n can bytes k channel (omega (arith, laid-stored fits n)) (omega (arith, fits .v-is))
+  laid-fits : Bytes plan → (drifts : Bool) (k channel : ℕ) → k < allStored (laidSizes z n) → channel < z .channels → SignedFits 4 (laidNumber plan n drifts k channel)
+  laid-fits bytes true k channel h l = laid-drift-fits plan bytes n k channel
+  laid-fits bytes false k channel h l = laid-reading-fits plan fits n can bytes k channel (omega (arith, laid-stored fits n)) (omega (arith, fits .v-is))
+
+  -- A number that was looked up fits.
+  pub number-fits : Bytes plan → (drifts : Bool) (k channel : ℕ) → k < allStored (laidSizes z n) → channel < z .channels → {x : ℤ} → x ≡ laidNumber plan n drifts k channel → SignedFits 4 x
+  number-fits bytes drifts k channel h l e = subst⁻¹ (SignedFits 4) e (laid-fits bytes drifts k channel h l)

@@ -56,7 +56,14 @@ fn put_array(t: &mut [u8], plan: &[u8], sizes: Sizes, n: usize, drifts: bool, st
 {
     let mut k = 0;
     while k < stored {
-        put_row(&mut t[4 * (sizes.channels * k)..], plan, sizes, n, drifts, k);
+        put_row(
+            &mut t[4 * (sizes.channels * k)..],
+            plan,
+            sizes,
+            n,
+            drifts,
+            k,
+        );
         k += 1;
     }
 }
@@ -70,5 +77,12 @@ pub fn put_layout(buffer: &mut [u8], plan: &[u8], sizes: Sizes, n: usize)
     let stored = laid.lead + (laid.start + laid.cycle);
     put_head(buffer, laid);
     put_array(&mut buffer[head_length()..], plan, sizes, n, false, stored);
-    put_array(&mut buffer[drifts_start(laid)..], plan, sizes, n, true, stored);
+    put_array(
+        &mut buffer[drifts_start(laid)..],
+        plan,
+        sizes,
+        n,
+        true,
+        stored,
+    );
 }

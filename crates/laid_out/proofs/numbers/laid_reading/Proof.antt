@@ -1,5 +1,5 @@
+-- `laid_out::numbers::laid_reading` meets its contract. Assumes nothing.
 use native.Mathlib.Omega.{arith}
-use mathlib.Core.Path.{_∙_}
 use Rattle.plan.proofs.Fits.{reached}
 use Rattle.laid_out.proofs.LaidNumbers.{lead-value, in-reach, later-value}
 use borrow.Author.Needs.{needs}
@@ -12,30 +12,35 @@ use Rattle.plan.proofs.lookup.stored_number.Reads as stored-number-reads
 use Rattle.plan.proofs.positions.pass_of.Reads as pass-of-reads
 use Rattle.plan.proofs.positions.row_of.Reads as row-of-reads
 
--- src/numbers.rt:47:9
 stored-number-requires : tie.Need-stored-number-requires
 stored-number-requires c κs = search needs
 
--- src/numbers.rt:47:9
 returns : tie.Need-returns
-returns c = lead-value (c .before .before .before .before .pre .0) (c .before .before .before .before .args .k) (c .before .before .before .before .args .channel) (c .before .if1 .taken) (c .stored-number .ensures .0)
+returns c =
+    let start = c .before .before .before .before in
+    let if1 = c .before .if1 in
+    lead-value (start .pre .0) (start .args .k) (start .args .channel) (if1 .taken) (c .stored-number .ensures .0)
 
--- src/numbers.rt:50:37
 row-of-requires : tie.Need-row-of-requires
 row-of-requires c κs = search needs
 
--- src/numbers.rt:50:55
 pass-of-requires : tie.Need-pass-of-requires
 pass-of-requires c κs = search needs
 
--- src/numbers.rt:50:5
 number-at-requires : tie.Need-number-at-requires
-number-at-requires c κs = let there = reached (c .before .before .before .before .before .before .pre .0) _ (in-reach (c .before .before .before .before .before .before .pre .0) (c .before .before .before .before .before .before .args .k) (c .before .before .before .before .before .before .args .channel) (c .before .before .before .before .before .before .pre .1)) in
-    (c .before .before .before .before .before .before .pre .0, c .before .before .before .before .before .before .pre .2, omega (arith, c .before .row-of .ensures, there .0), omega (arith, c .pass-of .ensures, there .1))
+number-at-requires c κs =
+    let start = c .before .before .before .before .before .before in
+    let row-of = c .before .row-of in
+    let there = reached (start .pre .0) _ (in-reach (start .pre .0) (start .args .k) (start .args .channel) (start .pre .1)) in
+    (start .pre .0, start .pre .2, omega (arith, row-of .ensures, there .0), omega (arith, c .pass-of .ensures, there .1))
 
--- src/numbers.rt:42:1
 returns-2 : tie.Need-returns-2
-returns-2 c = later-value (c .before .before .before .before .before .before .before .pre .0) (c .before .before .before .before .before .before .before .args .k) (c .before .before .before .before .before .before .before .args .channel) (c .before .before .before .before .if1 .left) (c .before .before .row-of .ensures) (c .before .pass-of .ensures) (c .number-at .ensures .0)
+returns-2 c =
+    let start = c .before .before .before .before .before .before .before in
+    let if1 = c .before .before .before .before .if1 in
+    let row-of = c .before .before .row-of in
+    let pass-of = c .before .pass-of in
+    later-value (start .pre .0) (start .args .k) (start .args .channel) (if1 .left) (row-of .ensures) (pass-of .ensures) (c .number-at .ensures .0)
 
 pub laid-reading-spec : {M : Type 1} → statement M
 laid-reading-spec =

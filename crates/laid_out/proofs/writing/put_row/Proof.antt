@@ -1,20 +1,13 @@
+-- `laid_out::writing::put_row` meets its contract. Assumes nothing.
 use Rattle.laid_out.proofs.Fronts.{lent-long, Put, put-none, put-long, put-more, put-all}
 use Rattle.laid_out.proofs.LaidBytes.{words, each-word, as-word}
-use Prim.Native.Nat.{_+_, _*_, _-_, _≤_}
+use Prim.Native.Nat.{_*_, _-_}
 use native.Mathlib.Omega.{arith}
-use mathlib.Core.Path.{subst⁻¹}
-use borrow.Author.Needs.{needs}
 use denote.Ref.{now}
-use lib.ListN.{length}
-use Rattle.fields.specs.inner.Ranges.{SignedFits}
 use Rattle.fields.proofs.ByteParts.{as-bytes}
-use Rattle.plan.specs.Bytes.{word}
-use Rattle.plan.proofs.PlanBytes.{length-word}
 use Rattle.laid_out.specs.inner.LaidNumbers.{laidNumber}
 use Rattle.laid_out.proofs.NextPass.{few-passes}
 use Rattle.laid_out.proofs.LaidNumbers.{few-laid-rows, number-fits}
-use Rattle.laid_out.proofs.Fronts.{Put, put-none, put-long, put-more, put-all}
-use Rattle.laid_out.proofs.LaidBytes.{as-word}
 use Rattle.laid_out.proofs.writing.put_row.Statement.{statement}
 use Rattle.laid_out.proofs.writing.put_row.Tie as tie
 use Rattle.laid_out.proofs.writing.put_row.Reads as reads
@@ -29,59 +22,90 @@ Inv-loop t₀ plan sizes n drifts k channel₀ t channel = Put t₀ 4 (sizes .ch
 abbrev μ-loop : tie.MeasureT-loop
 μ-loop t₀ plan sizes n drifts k channel₀ t channel = sizes .channels - channel
 
--- src/writing.rt:45:5
 loop-holds : tie.Need-loop-holds Inv-loop μ-loop
-loop-holds c = put-none (now (c .before .before .args .t)) 4 (c .before .before .args .sizes .channels) (words (laidNumber (now (c .before .before .args .plan)) (c .before .before .args .n) (c .before .before .args .drifts)) (c .before .before .args .k))
+loop-holds c =
+    let start = c .before .before in
+    put-none (now (start .args .t)) 4 (start .args .sizes .channels) (words (laidNumber (now (start .args .plan)) (start .args .n) (start .args .drifts)) (start .args .k))
 
--- src/writing.rt:46:13
 laid-number-requires : tie.Need-laid-number-requires Inv-loop μ-loop
-laid-number-requires c κs = (c .before .before .before .before .before .pre .0, few-passes (c .before .before .before .before .before .pre .0) (c .before .before .before .before .before .args .n) (c .before .before .before .before .before .pre .1), omega (arith, few-laid-rows (c .before .before .before .before .before .pre .0) (c .before .before .before .before .before .args .n) (c .before .before .before .before .before .pre .1), c .before .before .before .before .before .pre .2), c .if1 .taken)
+laid-number-requires c κs =
+    let start = c .before .before .before .before .before in
+    (start .pre .0, few-passes (start .pre .0) (start .args .n) (start .pre .1), omega (arith, few-laid-rows (start .pre .0) (start .args .n) (start .pre .1), start .pre .2), c .if1 .taken)
 
--- src/writing.rt:47:24
 mul-put-u32 : tie.Need-mul-put-u32 Inv-loop μ-loop
-mul-put-u32 c = omega (arith, c .before .before .before .before .before .before .pre .3, c .before .before .before .before .before .before .pre .4)
+mul-put-u32 c =
+    let start = c .before .before .before .before .before .before in
+    omega (arith, start .pre .3, start .pre .4)
 
--- src/writing.rt:47:17
 sub-put-u32 : tie.Need-sub-put-u32 Inv-loop μ-loop
-sub-put-u32 c = let number = laidNumber (now (c .before .before .before .before .before .before .args .plan)) (c .before .before .before .before .before .before .args .n) (c .before .before .before .before .before .before .args .drifts) in let long = put-long (now (c .before .before .before .before .before .before .args .t)) 4 (c .before .before .before .before .before .before .args .sizes .channels) (words number (c .before .before .before .before .before .before .args .k)) (each-word number (c .before .before .before .before .before .before .args .k)) (omega (arith, c .before .before .before .before .before .before .pre .3)) (c .before .before .before .loop .inv) in omega (arith, c .before .before .before .before .before .before .pre .3, c .before .if1 .taken)
+sub-put-u32 c =
+    let start = c .before .before .before .before .before .before in
+    let loop = c .before .before .before .loop in
+    let if1 = c .before .if1 in
+    let number = laidNumber (now (start .args .plan)) (start .args .n) (start .args .drifts) in
+    let long = put-long (now (start .args .t)) 4 (start .args .sizes .channels) (words number (start .args .k)) (each-word number (start .args .k)) (omega (arith, start .pre .3)) (loop .inv) in
+    omega (arith, start .pre .3, if1 .taken)
 
--- src/writing.rt:47:17
 part-put-u32-start : tie.Need-part-put-u32-start Inv-loop μ-loop
-part-put-u32-start c = let number = laidNumber (now (c .before .before .before .before .before .before .args .plan)) (c .before .before .before .before .before .before .args .n) (c .before .before .before .before .before .before .args .drifts) in let long = put-long (now (c .before .before .before .before .before .before .args .t)) 4 (c .before .before .before .before .before .before .args .sizes .channels) (words number (c .before .before .before .before .before .before .args .k)) (each-word number (c .before .before .before .before .before .before .args .k)) (omega (arith, c .before .before .before .before .before .before .pre .3)) (c .before .before .before .loop .inv) in omega (arith, c .before .before .before .before .before .before .pre .3, c .before .if1 .taken)
+part-put-u32-start c =
+    let start = c .before .before .before .before .before .before in
+    let loop = c .before .before .before .loop in
+    let if1 = c .before .if1 in
+    let number = laidNumber (now (start .args .plan)) (start .args .n) (start .args .drifts) in
+    let long = put-long (now (start .args .t)) 4 (start .args .sizes .channels) (words number (start .args .k)) (each-word number (start .args .k)) (omega (arith, start .pre .3)) (loop .inv) in
+    omega (arith, start .pre .3, if1 .taken)
 
--- src/writing.rt:47:17
 part-put-u32-end : tie.Need-part-put-u32-end Inv-loop μ-loop
 part-put-u32-end c = omega arith
 
--- src/writing.rt:47:40
 pattern-of-requires : tie.Need-pattern-of-requires Inv-loop μ-loop
-pattern-of-requires c κs = subst⁻¹ (SignedFits 4) (c .before .laid-number .ensures) (number-fits (c .before .before .before .before .before .before .before .pre .0) (c .before .before .before .before .before .before .before .args .n) (c .before .before .before .before .before .before .before .pre .1) (as-bytes _ (λ i. omega (arith, c .before .before .before .before .before .shared-slice-known .given i))) (c .before .before .before .before .before .before .before .args .drifts) (c .before .before .before .before .before .before .before .args .k) (c .before .before .before .before .loop .channel) (c .before .before .before .before .before .before .before .pre .2) (c .before .before .if1 .taken))
+pattern-of-requires c κs =
+    let start = c .before .before .before .before .before .before .before in
+    let shared-slice-known = c .before .before .before .before .before .shared-slice-known in
+    let loop = c .before .before .before .before .loop in
+    let if1 = c .before .before .if1 in
+    let laid-number = c .before .laid-number in
+    number-fits (start .pre .0) (start .args .n) (start .pre .1) (as-bytes _ (λ i. omega (arith, shared-slice-known .given i))) (start .args .drifts) (start .args .k) (loop .channel) (start .pre .2) (if1 .taken) (laid-number .ensures)
 
--- src/writing.rt:47:9
 put-u32-requires : tie.Need-put-u32-requires Inv-loop μ-loop
-put-u32-requires c κs = let number = laidNumber (now (c .before .before .before .before .before .before .before .before .args .plan)) (c .before .before .before .before .before .before .before .before .args .n) (c .before .before .before .before .before .before .before .before .args .drifts) in let long = put-long (now (c .before .before .before .before .before .before .before .before .args .t)) 4 (c .before .before .before .before .before .before .before .before .args .sizes .channels) (words number (c .before .before .before .before .before .before .before .before .args .k)) (each-word number (c .before .before .before .before .before .before .before .before .args .k)) (omega (arith, c .before .before .before .before .before .before .before .before .pre .3)) (c .before .before .before .before .before .loop .inv) in
-    lent-long (c .before .before .before .before .before .loop .t) (4 * c .before .before .before .before .before .loop .channel) 4 (omega (arith, c .before .before .before .before .before .before .before .before .pre .3, c .before .before .before .if1 .taken)) .0
+put-u32-requires c κs =
+    let start = c .before .before .before .before .before .before .before .before in
+    let loop = c .before .before .before .before .before .loop in
+    let if1 = c .before .before .before .if1 in
+    let number = laidNumber (now (start .args .plan)) (start .args .n) (start .args .drifts) in
+    let long = put-long (now (start .args .t)) 4 (start .args .sizes .channels) (words number (start .args .k)) (each-word number (start .args .k)) (omega (arith, start .pre .3)) (loop .inv) in
+    lent-long (loop .t) (4 * loop .channel) 4 (omega (arith, start .pre .3, if1 .taken)) .0
 
--- src/writing.rt:48:9
 add-channel : tie.Need-add-channel Inv-loop μ-loop
-add-channel c = omega (arith, c .before .before .before .before .before .before .before .before .before .before .before .pre .3, c .before .before .before .before .before .before .before .before .before .before .before .pre .4)
+add-channel c =
+    let start = c .before .before .before .before .before .before .before .before .before .before .before in
+    omega (arith, start .pre .3, start .pre .4)
 
--- src/writing.rt:45:5
 loop-less : tie.Need-loop-less Inv-loop μ-loop
 loop-less c = omega arith
 
--- src/writing.rt:45:5
 loop-again : tie.Need-loop-again Inv-loop μ-loop
-loop-again c = let number = laidNumber (now (c .before .before .before .before .before .before .before .before .before .before .before .args .plan)) (c .before .before .before .before .before .before .before .before .before .before .before .args .n) (c .before .before .before .before .before .before .before .before .before .before .before .args .drifts) in
-    put-more (now (c .before .before .before .before .before .before .before .before .before .before .before .args .t)) 4 (c .before .before .before .before .before .before .before .before .before .before .before .args .sizes .channels) (words number (c .before .before .before .before .before .before .before .before .before .before .before .args .k)) (each-word number (c .before .before .before .before .before .before .before .before .before .before .before .args .k)) (omega (arith, c .before .before .before .before .before .before .before .before .before .before .before .pre .3)) (c .before .before .before .before .before .before .if1 .taken) (omega arith) (c .before .before .before .before .before .before .before .before .loop .inv) (as-word _ _ (c .before .before .before .pattern-of .ensures) (c .before .before .before .before .before .laid-number .ensures) (c .before .before .put-u32 .ensures))
+loop-again c =
+    let start = c .before .before .before .before .before .before .before .before .before .before .before in
+    let loop = c .before .before .before .before .before .before .before .before .loop in
+    let if1 = c .before .before .before .before .before .before .if1 in
+    let laid-number = c .before .before .before .before .before .laid-number in
+    let pattern-of = c .before .before .before .pattern-of in
+    let put-u32 = c .before .before .put-u32 in
+    let number = laidNumber (now (start .args .plan)) (start .args .n) (start .args .drifts) in
+    put-more (now (start .args .t)) 4 (start .args .sizes .channels) (words number (start .args .k)) (each-word number (start .args .k)) (omega (arith, start .pre .3)) (if1 .taken) (omega arith) (loop .inv) (as-word _ _ {z = number (start .args .k) (loop .channel)} (pattern-of .ensures) (laid-number .ensures) (put-u32 .ensures))
 
--- src/writing.rt:40:1
 same-length : tie.Need-same-length Inv-loop μ-loop
-same-length c = let number = laidNumber (now (c .before .before .before .before .before .args .plan)) (c .before .before .before .before .before .args .n) (c .before .before .before .before .before .args .drifts) in put-long (now (c .before .before .before .before .before .args .t)) 4 (c .before .before .before .before .before .args .sizes .channels) (words number (c .before .before .before .before .before .args .k)) (each-word number (c .before .before .before .before .before .args .k)) (omega (arith, c .before .before .before .before .before .pre .3)) (c .before .before .loop .inv)
+same-length c =
+    let start = c .before .before .before .before .before in
+    let loop = c .before .before .loop in
+    let number = laidNumber (now (start .args .plan)) (start .args .n) (start .args .drifts) in put-long (now (start .args .t)) 4 (start .args .sizes .channels) (words number (start .args .k)) (each-word number (start .args .k)) (omega (arith, start .pre .3)) (loop .inv)
 
--- src/writing.rt:40:1
 returns : tie.Need-returns Inv-loop μ-loop
-returns c = let number = laidNumber (now (c .before .before .before .before .before .args .plan)) (c .before .before .before .before .before .args .n) (c .before .before .before .before .before .args .drifts) in put-all (now (c .before .before .before .before .before .args .t)) 4 (c .before .before .before .before .before .args .sizes .channels) (words number (c .before .before .before .before .before .args .k)) (each-word number (c .before .before .before .before .before .args .k)) (omega (arith, c .before .before .before .before .before .pre .3)) (c .if1 .left) (c .before .before .loop .inv)
+returns c =
+    let start = c .before .before .before .before .before in
+    let loop = c .before .before .loop in
+    let number = laidNumber (now (start .args .plan)) (start .args .n) (start .args .drifts) in put-all (now (start .args .t)) 4 (start .args .sizes .channels) (words number (start .args .k)) (each-word number (start .args .k)) (omega (arith, start .pre .3)) (c .if1 .left) (loop .inv)
 
 pub put-row-spec : {M : Type 1} → statement M
 put-row-spec =
