@@ -99,13 +99,15 @@ same-length : tie.Need-same-length Inv-loop μ-loop
 same-length c =
     let start = c .before .before .before .before .before in
     let loop = c .before .before .loop in
-    let number = laidNumber (now (start .args .plan)) (start .args .n) (start .args .drifts) in put-long (now (start .args .t)) 4 (start .args .sizes .channels) (words number (start .args .k)) (each-word number (start .args .k)) (omega (arith, start .pre .3)) (loop .inv)
+    let number = laidNumber (now (start .args .plan)) (start .args .n) (start .args .drifts) in
+    put-long (now (start .args .t)) 4 (start .args .sizes .channels) (words number (start .args .k)) (each-word number (start .args .k)) (omega (arith, start .pre .3)) (loop .inv)
 
 returns : tie.Need-returns Inv-loop μ-loop
 returns c =
     let start = c .before .before .before .before .before in
     let loop = c .before .before .loop in
-    let number = laidNumber (now (start .args .plan)) (start .args .n) (start .args .drifts) in put-all (now (start .args .t)) 4 (start .args .sizes .channels) (words number (start .args .k)) (each-word number (start .args .k)) (omega (arith, start .pre .3)) (c .if1 .left) (loop .inv)
+    let number = laidNumber (now (start .args .plan)) (start .args .n) (start .args .drifts) in
+    put-all (now (start .args .t)) 4 (start .args .sizes .channels) (words number (start .args .k)) (each-word number (start .args .k)) (omega (arith, start .pre .3)) (c .if1 .left) (loop .inv)
 
 pub put-row-spec : {M : Type 1} → statement M
 put-row-spec =
