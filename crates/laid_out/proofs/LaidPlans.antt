@@ -4,18 +4,15 @@ use Prim.Native.Nat.{ℕ, _+_, _*_, _-_, _≤_, _<_}
 use native.Mathlib.Decide.{decLt}
 use native.Mathlib.Omega.{arith}
 use mathlib.Core.Path.{_≡_, sym, ap, _∙_, subst}
-use mathlib.Core.Bool.{true, false}
+use mathlib.Core.Bool.{true}
 use mathlib.Core.List.{List}
 use mathlib.Core.Logic.{by-cases}
-use lib.IntN.{pos}
 use borrow.Author.Tests.{eq-eqb}
 use Rattle.fields.specs.inner.Ranges.{Bytes}
 use Rattle.refusal.specs.declared.Outcome.the-variants.{Clear}
 use Rattle.refusal.specs.declared.Refusal.the-variants.{PlanSizes, Channels}
-use Rattle.refusal.specs.First.{_orElse_, unless, atLowest}
 use Rattle.refusal.proofs.First.{orElse-clear, unless-clear, atLowest-clear}
 use Rattle.plan.specs.Layout.{channels, startRows, cycleRows, leadRows, rows, storedRows, storedReading, storedDrift, readingOf, driftOf}
-use Rattle.plan.specs.Positions.{rowOf}
 use Rattle.plan.specs.Refusals.{drifting, driftRefusal, planOutcome}
 use Rattle.plan.specs.inner.Sizes.{sizesIn, Fitting}
 use Rattle.plan.proofs.Rows.{row-start}

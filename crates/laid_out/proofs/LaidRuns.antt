@@ -3,21 +3,21 @@
 use Prim.Native.Nat.{ℕ, suc, _+_, _*_, _-_, _≤_, _<_}
 use native.Mathlib.Decide.{decLt}
 use native.Mathlib.Omega.{arith}
-use mathlib.Core.Path.{_≡_, refl, sym, ap, ap₂, _∙_, subst⁻¹}
+use mathlib.Core.Path.{_≡_, sym, ap, ap₂, _∙_, subst⁻¹}
 use mathlib.Core.Bool.{true}
 use mathlib.Core.List.{List}
 use mathlib.Core.Logic.{by-cases}
 use lib.IntN.{ℤ, pos, negsuc, _+ℤ_, _*ℤ_}
 use lib.ListN.{length}
 use borrow.Author.Tests.{lt-ltb, le-ltb, le-leb, lt-leb}
-use Rattle.cltlb.specs.Run.{number, beforeRun}
+use Rattle.cltlb.specs.Run.{number}
 use Rattle.fields.specs.inner.Ranges.{Bytes, SignedFits}
 use Rattle.plan.specs.Layout.{channels, startRows, cycleRows, leadRows, rows, headLength, arrayLength, storedReading, storedDrift, readingOf, driftOf}
 use Rattle.plan.specs.Positions.{rowOf, passOf}
 use Rattle.plan.specs.Run.{readingOn, readingAt, leadAt, runOf}
 use Rattle.plan.specs.inner.Sizes.{Fitting}
 use Rattle.plan.specs.declared.sizes.Sizes.{Sizes}
-use Rattle.plan.proofs.Rows.{row-start, pass-start, row-lt, row-ge, row-split}
+use Rattle.plan.proofs.Rows.{row-lt, row-ge, row-split}
 use Rattle.plan.proofs.Lines.{reading-on-pass-0, readingAt-later}
 use Rattle.plan.proofs.Arrays.{array-le}
 use Rattle.plan.proofs.Fits.{few-stored}

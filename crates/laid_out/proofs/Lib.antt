@@ -3,3 +3,6 @@ pub mod LaidRuns
 pub mod LaidPlans
 pub mod Words
 pub mod NextPass
+pub mod Fronts
+pub mod LaidNumbers
+pub mod LaidBytes

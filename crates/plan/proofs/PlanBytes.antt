@@ -102,6 +102,10 @@ array-again l v w b n =
 
 -- ---- a plan made from its numbers
 
+pub length-head : (v p c l : ℕ) → length (headOf v p c l) ≡ headLength
+unfolding headOf
+length-head v p c l = simp (length-append, length-bytes)
+
 module _ (v p c l : ℕ) (reading drift : ℕ → ℕ → ℤ) where
   abbrev made : List ℕ
   made = planOf v p c l reading drift
@@ -118,16 +122,12 @@ module _ (v p c l : ℕ) (reading drift : ℕ → ℕ → ℤ) where
   abbrev long : ℕ
   long = arrayLength v (l + (p + c))
 
-  pub length-head : length head ≡ headLength
-  unfolding headOf
-  length-head = simp (length-append, length-bytes)
-
   -- Its length.
   pub made-length : length made ≡ headLength + 2 * long
   unfolding planOf
   made-length =
       length-append head (readingsMade ++ driftsMade)
-      ∙ ap₂ _+_ length-head (length-append readingsMade driftsMade ∙ ap₂ _+_ (length-array v reading (l + (p + c))) (length-array v drift (l + (p + c))))
+      ∙ ap₂ _+_ (length-head v p c l) (length-append readingsMade driftsMade ∙ ap₂ _+_ (length-array v reading (l + (p + c))) (length-array v drift (l + (p + c))))
       ∙ omega arith
 
   -- the fields of the sizes, one after another
@@ -182,13 +182,13 @@ module _ (v p c l : ℕ) (reading drift : ℕ → ℕ → ℤ) where
     unfolding readings planOf
     made-readings =
         rw (made-channels, made-stored)
-        (ap (take long) (drop-at head (readingsMade ++ driftsMade) headLength length-head) ∙ take-at readingsMade driftsMade long (length-array v reading (l + (p + c))))
+        (ap (take long) (drop-at head (readingsMade ++ driftsMade) headLength (length-head v p c l)) ∙ take-at readingsMade driftsMade long (length-array v reading (l + (p + c))))
 
     pub made-drifts : drifts made ≡ driftsMade
     unfolding drifts planOf
     made-drifts =
         let front : length (head ++ readingsMade) ≡ headLength + long =
-        length-append head readingsMade ∙ ap₂ _+_ length-head (length-array v reading (l + (p + c))) in
+        length-append head readingsMade ∙ ap₂ _+_ (length-head v p c l) (length-array v reading (l + (p + c))) in
         rw (made-channels, made-stored)
         (ap (λ (x : List ℕ). take long (drop (headLength + long) x)) (sym (append-assoc head readingsMade driftsMade))
         ∙ ap (take long) (drop-at (head ++ readingsMade) driftsMade (headLength + long) front)

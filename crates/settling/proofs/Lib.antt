@@ -8,3 +8,6 @@ pub mod Promised
 pub mod Ways
 pub mod Looked
 pub mod Extending
+pub mod Trying
+pub mod Making
+pub mod Searching

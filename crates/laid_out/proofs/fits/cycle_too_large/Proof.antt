@@ -1,8 +1,8 @@
+-- `laid_out::fits::cycle_too_large` meets its contract. Assumes nothing.
 use Prim.Native.Nat.{_+_, _-_, _≤_}
 use native.Mathlib.Omega.{arith}
 use mathlib.Core.Path.{_≡_, sym, _∙_}
 use mathlib.Core.Bool.{false}
-use denote.Ref.{now}
 use Rattle.plan.specs.Refusals.{anyBelow}
 use Rattle.plan.proofs.Drifts.{none-below, none-more}
 use Rattle.laid_out.specs.inner.NextPass.{rowTooLarge}
@@ -20,37 +20,42 @@ Inv-loop plan sizes pass j₀ j = (j ≤ sizes .cycle) × (anyBelow (λ i. rowTo
 abbrev μ-loop : tie.MeasureT-loop
 μ-loop plan sizes pass j₀ j = sizes .cycle - j
 
--- src/fits.rt:54:5
 loop-holds : tie.Need-loop-holds Inv-loop μ-loop
 loop-holds c = (omega arith, none-below _ 0 (λ k l. absurd (omega arith)))
 
--- src/fits.rt:55:39
 add-row-too-large : tie.Need-add-row-too-large Inv-loop μ-loop
 add-row-too-large c = search needs
 
--- src/fits.rt:55:12
 row-too-large-requires : tie.Need-row-too-large-requires Inv-loop μ-loop
-row-too-large-requires c κs = (c .before .before .before .before .before .pre .0, omega arith, c .before .before .before .before .before .pre .1)
+row-too-large-requires c κs =
+    let start = c .before .before .before .before .before in
+    (start .pre .0, omega arith, start .pre .1)
 
--- src/fits.rt:56:13
 returns : tie.Need-returns Inv-loop μ-loop
-returns c = row-large (c .before .before .before .before .before .before .before .pre .0) (c .before .before .before .before .before .before .before .args .pass) (c .before .before .before .before .before .loop .j) (c .before .before .before .if1 .taken) (sym (c .if2 .taken) ∙ c .before .row-too-large .ensures)
+returns c =
+    let start = c .before .before .before .before .before .before .before in
+    let loop = c .before .before .before .before .before .loop in
+    let if1 = c .before .before .before .if1 in
+    let row-too-large = c .before .row-too-large in
+    row-large (start .pre .0) (start .args .pass) (loop .j) (if1 .taken) (sym (c .if2 .taken) ∙ row-too-large .ensures)
 
--- src/fits.rt:58:9
 add-j : tie.Need-add-j Inv-loop μ-loop
 add-j c = search needs
 
--- src/fits.rt:54:5
 loop-less : tie.Need-loop-less Inv-loop μ-loop
 loop-less c = omega arith
 
--- src/fits.rt:54:5
 loop-again : tie.Need-loop-again Inv-loop μ-loop
-loop-again c = (omega arith, none-more _ (c .before .before .before .before .before .loop .j) (c .before .before .before .before .before .loop .inv .1) (sym (c .before .row-too-large .ensures) ∙ c .if2 .left))
+loop-again c =
+    let loop = c .before .before .before .before .before .loop in
+    let row-too-large = c .before .row-too-large in
+    (omega arith, none-more _ (loop .j) (loop .inv .1) (sym (row-too-large .ensures) ∙ c .if2 .left))
 
--- src/fits.rt:49:1
 returns-2 : tie.Need-returns-2 Inv-loop μ-loop
-returns-2 c = cycle-fits (c .before .before .before .before .pre .0) (c .before .before .before .before .args .pass) (c .before .before .loop .j) (omega arith) (c .before .before .loop .inv .1)
+returns-2 c =
+    let start = c .before .before .before .before in
+    let loop = c .before .before .loop in
+    cycle-fits (start .pre .0) (start .args .pass) (loop .j) (omega arith) (loop .inv .1)
 
 pub cycle-too-large-spec : {M : Type 1} → statement M
 cycle-too-large-spec =

@@ -1,8 +1,8 @@
+-- `laid_out::fits::row_too_large` meets its contract. Assumes nothing.
 use Prim.Native.Nat.{_-_, _≤_}
 use native.Mathlib.Omega.{arith}
 use mathlib.Core.Path.{_≡_}
 use mathlib.Core.Bool.{false}
-use denote.Ref.{now}
 use Rattle.plan.specs.Refusals.{anyBelow}
 use Rattle.plan.proofs.Drifts.{none-below, none-more}
 use Rattle.laid_out.specs.inner.NextPass.{numberTooLarge}
@@ -21,37 +21,43 @@ Inv-loop plan sizes row pass channel₀ channel = (channel ≤ sizes .channels) 
 abbrev μ-loop : tie.MeasureT-loop
 μ-loop plan sizes row pass channel₀ channel = sizes .channels - channel
 
--- src/fits.rt:39:5
 loop-holds : tie.Need-loop-holds Inv-loop μ-loop
 loop-holds c = (omega arith, none-below _ 0 (λ k l. absurd (omega arith)))
 
--- src/fits.rt:40:23
 number-at-requires : tie.Need-number-at-requires Inv-loop μ-loop
 number-at-requires c κs = search needs
 
--- src/fits.rt:40:13
 fits-word-requires : tie.Need-fits-word-requires Inv-loop μ-loop
 fits-word-requires c κs = search needs
 
--- src/fits.rt:41:13
 returns : tie.Need-returns Inv-loop μ-loop
-returns c = number-large (c .before .before .before .before .before .before .before .pre .0) (c .before .before .before .before .before .before .before .args .row) (c .before .before .before .before .before .before .before .args .pass) (c .before .before .before .before .before .loop .channel) (c .before .before .number-at .ensures .0) (c .before .fits-word .ensures) (c .if2 .taken) (c .before .before .before .if1 .taken)
+returns c =
+    let start = c .before .before .before .before .before .before .before in
+    let loop = c .before .before .before .before .before .loop in
+    let if1 = c .before .before .before .if1 in
+    let number-at = c .before .before .number-at in
+    let fits-word = c .before .fits-word in
+    number-large (start .pre .0) (start .args .row) (start .args .pass) (loop .channel) (number-at .ensures .0) (fits-word .ensures) (c .if2 .taken) (if1 .taken)
 
--- src/fits.rt:43:9
 add-channel : tie.Need-add-channel Inv-loop μ-loop
 add-channel c = search needs
 
--- src/fits.rt:39:5
 loop-less : tie.Need-loop-less Inv-loop μ-loop
 loop-less c = omega arith
 
--- src/fits.rt:39:5
 loop-again : tie.Need-loop-again Inv-loop μ-loop
-loop-again c = (omega arith, none-more _ (c .before .before .before .before .before .loop .channel) (c .before .before .before .before .before .loop .inv .1) (number-fits (c .before .before .before .before .before .before .before .pre .0) (c .before .before .before .before .before .before .before .args .row) (c .before .before .before .before .before .before .before .args .pass) (c .before .before .before .before .before .loop .channel) (c .before .before .number-at .ensures .0) (c .before .fits-word .ensures) (c .if2 .left)))
+loop-again c =
+    let start = c .before .before .before .before .before .before .before in
+    let loop = c .before .before .before .before .before .loop in
+    let number-at = c .before .before .number-at in
+    let fits-word = c .before .fits-word in
+    (omega arith, none-more _ (loop .channel) (loop .inv .1) (number-fits (start .pre .0) (start .args .row) (start .args .pass) (loop .channel) (number-at .ensures .0) (fits-word .ensures) (c .if2 .left)))
 
--- src/fits.rt:34:1
 returns-2 : tie.Need-returns-2 Inv-loop μ-loop
-returns-2 c = row-fits (c .before .before .before .before .pre .0) (c .before .before .before .before .args .row) (c .before .before .before .before .args .pass) (c .before .before .loop .channel) (omega arith) (c .before .before .loop .inv .1)
+returns-2 c =
+    let start = c .before .before .before .before in
+    let loop = c .before .before .loop in
+    row-fits (start .pre .0) (start .args .row) (start .args .pass) (loop .channel) (omega arith) (loop .inv .1)
 
 pub row-too-large-spec : {M : Type 1} → statement M
 row-too-large-spec =

@@ -1,0 +1,191 @@
+-- The search for the fewest passes, turn after turn: a part closes, or one more pass is laid out, on which the lower parts close too.
+-- Assumes nothing.
+use Prim.Native.Nat.{ℕ, _+_, _*_, _-_, _≤_, _<_}
+use native.Mathlib.Decide.{decLt}
+use native.Mathlib.Omega.{arith}
+use mathlib.Core.Path.{_≡_, refl, sym, ap, _∙_, subst, subst⁻¹}
+use mathlib.Core.Bool.{Bool, true, false, not, true≢false, false≢true}
+use mathlib.Core.List.{List}
+use mathlib.Core.Logic.{by-cases}
+use lib.IntN.{ℤ}
+use Rattle.fields.specs.inner.Ranges.{Bytes}
+use Rattle.cltlb.specs.Fits.{viewFits}
+use Rattle.cltlb.specs.Views.{viewOf}
+use Rattle.cltlb.specs.declared.Part.{Part}
+use Rattle.cltlb.specs.declared.View.{View}
+use Rattle.refusal.specs.declared.Refusal.the-variants.{NoLayout}
+use Rattle.rule.specs.Layout.{partCount, channelCount}
+use Rattle.rule.specs.Take.{takeOf, viewsOf}
+use Rattle.rule.specs.declared.Taken.{Taken}
+use Rattle.rule.specs.declared.Taken.the-variants as K
+use Rattle.plan.specs.Layout.{channels, startRows, cycleRows, rows}
+use Rattle.plan.specs.Run.{runOf}
+use Rattle.plan.specs.declared.sizes.Sizes.{Sizes}
+use Rattle.plan.specs.inner.Sizes.{allRows, Fitting}
+use Rattle.plan.proofs.Fits.{rows-are}
+use Rattle.inputs.specs.inner.Read.{Ready}
+use Rattle.inputs.proofs.Parts.{few-there, all-fit, taken-same}
+use Rattle.marks.proofs.PartsChecked.{own-cycle}
+use Rattle.labelling.specs.Labels.{madeMark}
+use Rattle.labelling.proofs.Made.{Closed}
+use Rattle.laid_out.specs.LaidOut.{laidOut, canBeLaid}
+use Rattle.laid_out.specs.inner.LaidSizes.{laidSizes}
+use Rattle.laid_out.proofs.CanBeLaid.{first-fits, passes-few}
+use Rattle.laid_out.proofs.LaidRuns.{laid-fitting, laid-run}
+use Rattle.settling.specs.declared.Laid.{Laid}
+use Rattle.settling.specs.declared.Laid.the-variants as L
+use Rattle.settling.specs.Settle.{settlesAfter, fewestPasses, laidBy}
+use Rattle.settling.specs.inner.Scratch.{mostParts, mostRows, Room, markAt, Tried, MadeTo, closesOn, Extended}
+use Rattle.settling.proofs.Later.{later-closed, later-kept, later-again}
+use Rattle.settling.proofs.Searched.{closed-as, none-yet, none-next, part-open, all-closed, search-found, search-ended}
+use Rattle.settling.proofs.Making.{tried-closes, tried-lower, tried-made}
+
+not-true : (c : Bool) → not c ≡ true → c ≡ false
+not-true true e = absurd (false≢true e)
+not-true false e = refl
+
+pub not-false : {c d : Bool} → c ≡ d → not c ≡ false → d ≡ true
+not-false {c} e h = sym e ∙ go c h
+  where
+    go : (c : Bool) → not c ≡ false → c ≡ true
+    go true e = refl
+    go false e = absurd (true≢false e)
+
+-- At `passes` and part i: so many passes can be laid out, no fewer settle, and the parts below i close there and are made.
+pub record Searching (rule plan : List ℕ) (n : ℕ) (scratch : List ℕ) (passes i : ℕ) : Type 0 where
+  pub few : i ≤ n
+  pub can : canBeLaid plan passes ≡ true
+  pub none-fewer : (m : ℕ) → m < passes → settlesAfter rule plan m ≡ false
+  pub closed : (a : ℕ) → a < i → closesOn rule (laidOut plan passes) a ≡ true
+  pub made : MadeTo rule (laidOut plan passes) scratch i
+
+module _ (rule plan : List ℕ) {n : ℕ} {z : Sizes} (ready : Ready rule plan n z) where
+  -- ---- the layout of so many passes
+
+  module _ (k : ℕ) (can : canBeLaid plan k ≡ true) where
+    laid : Fitting (laidOut plan k) (laidSizes z k)
+    laid = laid-fitting plan (ready .fits) k can
+
+    few-rows : rows (laidOut plan k) ≤ mostRows
+    few-rows = subst⁻¹ (λ (w : ℕ). w ≤ mostRows) (rows-are laid) (laid .few-rows)
+
+    pub few-passes : k < 256
+    few-passes = passes-few plan k (own-cycle (ready .fits)) can
+
+    -- One part tried on it, as the code takes it.
+    module _ (i : ℕ) (l : i < n) {t : Taken} (e : t ≡ takeOf rule i) {part : Part} (f : t ≡ K.Part part) {p : View} (g : p ≡ viewOf part)
+        {old new : List ℕ} (made : MadeTo rule (laidOut plan k) old i) {b : Bool} (tried : Tried (laidOut plan k) old new i p b) where
+      pub part-tried : (b ≡ closesOn rule (laidOut plan k) i) × MadeTo rule (laidOut plan k) new i × (b ≡ true → MadeTo rule (laidOut plan k) new (i + 1))
+      part-tried =
+          let is = taken-same rule plan ready i l e f g in (
+            tried-closes rule (laidOut plan k) (own-cycle laid) few-rows (channelCount rule) n (all-fit rule plan ready) i l is made tried,
+            tried-lower rule (laidOut plan k) (own-cycle laid) few-rows (channelCount rule) n (all-fit rule plan ready) i l is made tried,
+            tried-made rule (laidOut plan k) (own-cycle laid) few-rows (channelCount rule) n (all-fit rule plan ready) i l is made tried,
+          )
+
+  -- There is room for every part.
+  pub few-parts : {i : ℕ} → i ≤ n → i ≤ mostParts
+  few-parts l = let few = few-there rule plan ready .0 in omega arith
+
+  -- ---- before the first turn
+
+  pub searching-first : Bytes plan → {scratch : List ℕ} → Room scratch → Searching rule plan n scratch 0 0
+  searching-first bytes room = record {
+    few = omega arith;
+    can = first-fits plan bytes (ready .fits);
+    none-fewer = none-yet rule plan;
+    closed = λ a l. absurd (omega arith);
+    made = record { room = room; marks = λ a l. absurd (omega arith) };
+  }
+
+  module _ {old : List ℕ} {k i : ℕ} (s : Searching rule plan n old k i) {b : Bool} (is : b ≡ closesOn rule (laidOut plan k) i) where
+    -- ---- part i closes
+
+    pub part-closes : i < n → b ≡ true → {new : List ℕ} → MadeTo rule (laidOut plan k) new (i + 1) → Searching rule plan n new k (i + 1)
+    part-closes l h {new} made = record {
+      few = omega arith;
+      can = s .can;
+      none-fewer = s .none-fewer;
+      closed = λ a q. by-cases (decLt a i) (s .closed a)
+          (λ t. let same : i ≡ a = omega arith in subst (λ (c : ℕ). closesOn rule (laidOut plan k) c ≡ true) same (sym is ∙ h));
+      made = made;
+    }
+
+    -- ---- it does not: so many passes do not settle
+
+    module _ (l : i < n) (h : b ≡ false) where
+      no-fewer : (m : ℕ) → m < k + 1 → settlesAfter rule plan m ≡ false
+      no-fewer = none-next rule plan k (s .none-fewer) (part-open rule plan k i (subst (λ (m : ℕ). i < m) (ready .parts) l) (sym is ∙ h))
+
+      -- and one more can't be laid out,
+      pub no-more : {c : Bool} → c ≡ canBeLaid plan (k + 1) → not c ≡ true → L.Refused NoLayout ≡ laidBy (fewestPasses rule plan)
+      no-more {c} e t = sym (ap laidBy (search-ended rule plan (k + 1) no-fewer (sym e ∙ not-true c t)))
+
+      -- or it can, and the lower parts, which repeat, are made on its layout.
+      module _ (bytes : Bytes plan) (more : canBeLaid plan (k + 1) ≡ true) {mid new : List ℕ} (lower : MadeTo rule (laidOut plan k) mid i)
+          {y : Sizes} (sizes : y ≡ laidSizes z k) (extended : Extended mid new (y .start) (y .cycle) i) where
+        longer : Extended mid new (z .start + k * z .cycle) (z .cycle) i
+        longer = subst (λ (q : Sizes). Extended mid new (q .start) (q .cycle) i) sizes extended
+
+        this : Fitting (laidOut plan k) (laidSizes z k)
+        this = laid k (s .can)
+
+        next : Fitting (laidOut plan (k + 1)) (laidSizes z (k + 1))
+        next = laid (k + 1) more
+
+        this-cycle : 1 ≤ cycleRows (laidOut plan k)
+        this-cycle = own-cycle this
+
+        next-cycle : 1 ≤ cycleRows (laidOut plan (k + 1))
+        next-cycle = own-cycle next
+
+        same-cycle : cycleRows (laidOut plan (k + 1)) ≡ cycleRows (laidOut plan k)
+        same-cycle = next .c-is ∙ sym (this .c-is)
+
+        pass-later : startRows (laidOut plan (k + 1)) ≡ startRows (laidOut plan k) + cycleRows (laidOut plan k)
+        pass-later = let a = next .p-is in let b = this .p-is in let c = this .c-is in omega arith
+
+        same-run : (c : ℕ) → c < channelCount rule → (t : ℤ) → runOf (laidOut plan (k + 1)) c t ≡ runOf (laidOut plan k) c t
+        same-run c q t =
+            let within : c < channels plan = let a = ready .channels in let b = ready .fits .v-is in omega arith in
+            laid-run plan (ready .fits) (k + 1) more bytes c within t ∙ sym (laid-run plan (ready .fits) k (s .can) bytes c within t)
+
+        closed-this : (a : ℕ) → a < i → Closed (laidOut plan k) this-cycle (viewsOf rule) (channelCount rule) n (all-fit rule plan ready) a
+        closed-this a q = closed-as rule (laidOut plan k) this-cycle (channelCount rule) n (all-fit rule plan ready) a .0 (s .closed a q)
+
+        closed-next : (a : ℕ) → a < i → closesOn rule (laidOut plan (k + 1)) a ≡ true
+        closed-next a q =
+            closed-as rule (laidOut plan (k + 1)) next-cycle (channelCount rule) n (all-fit rule plan ready) a .1
+            (later-closed (laidOut plan k) (laidOut plan (k + 1)) this-cycle same-cycle pass-later (viewsOf rule) (channelCount rule) n (all-fit rule plan ready) same-run i (s .few) closed-this a q)
+
+        marks : (a : ℕ) → a < i → (row : ℕ) → row < rows (laidOut plan (k + 1)) → madeMark (viewsOf rule) (laidOut plan (k + 1)) a row ≡ markAt new a row
+        marks a q row r =
+            let these = rows-are this in
+            let those = rows-are next in
+            by-cases (decLt row (rows (laidOut plan k)))
+            (λ t. later-kept (laidOut plan k) (laidOut plan (k + 1)) this-cycle same-cycle pass-later (viewsOf rule) (channelCount rule) n (all-fit rule plan ready) same-run i (s .few) closed-this a row q t
+            ∙ lower .marks a q row t
+            ∙ sym (longer .kept a q row (omega arith)))
+            (λ t. let c = this .c-is in
+            let back : row - cycleRows (laidOut plan k) ≡ row - z .cycle = ap (λ (m : ℕ). row - m) c in
+            later-again (laidOut plan k) (laidOut plan (k + 1)) this-cycle same-cycle pass-later (viewsOf rule) (channelCount rule) n (all-fit rule plan ready) same-run i (s .few) closed-this a row q (omega arith) r
+            ∙ lower .marks a q (row - cycleRows (laidOut plan k)) (omega arith)
+            ∙ ap (markAt mid a) back
+            ∙ sym (longer .again a q row (omega arith) (omega arith)))
+
+        pub one-more : Searching rule plan n new (k + 1) i
+        one-more = record {
+          few = s .few;
+          can = more;
+          none-fewer = no-fewer;
+          closed = closed-next;
+          made = record { room = longer .room; marks = marks };
+        }
+
+  -- ---- after the last turn
+
+  pub all-close : {scratch : List ℕ} {k i : ℕ} → Searching rule plan n scratch k i → n ≤ i → L.Passes k ≡ laidBy (fewestPasses rule plan)
+  all-close {k = k} s h =
+      let few = s .few in
+      let parts = ready .parts in
+      sym (ap laidBy (search-found rule plan k (s .none-fewer) (own-cycle (ready .fits)) (all-closed rule plan k (s .can) (λ a q. s .closed a (omega arith)))))

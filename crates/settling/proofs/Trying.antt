@@ -1,0 +1,219 @@
+-- One part tried on the layout of k passes, whose rows are the first positions of the plan's run: it closes there, and has the marks,
+-- as on the plan that would be written. Assumes nothing.
+use Prim.Native.Nat.{ℕ, _+_, _*_, _≤_, _<_}
+use native.Mathlib.Omega.{arith}
+use mathlib.Core.Path.{_≡_, refl, sym, ap, ap₂, _∙_, subst, subst⁻¹}
+use mathlib.Core.Bool.{Bool, true, false, not, true≢false, false≢true}
+use mathlib.Core.List.{List}
+use mathlib.Core.Option.{Option, none, some}
+use mathlib.Core.Logic.{_↔_, Iff·rfl, Iff·symm, Iff·trans}
+use lib.IntN.{ℤ}
+use lib.ListN.{length, getD}
+use borrow.Author.Tests.{le-ltb}
+use Rattle.fields.specs.inner.Ranges.{Bytes}
+use Rattle.cltlb.specs.Fits.{atomFits, viewFits}
+use Rattle.cltlb.specs.declared.Atom.{Atom}
+use Rattle.cltlb.specs.declared.Operator.{Operator}
+use Rattle.cltlb.specs.declared.View.{View}
+use Rattle.cltlb.specs.declared.View.the-variants as view
+use Rattle.cltlb.proofs.SameRun.{value-same}
+use Rattle.refusal.specs.First.{unless, refusedAt}
+use Rattle.refusal.specs.declared.Refusal.{Refusal}
+use Rattle.refusal.specs.declared.Refusal.the-variants.{Closing}
+use Rattle.refusal.specs.Lowest.{lowestFrom}
+use Rattle.refusal.proofs.Lowest.{from-ext}
+use Rattle.plan.specs.Layout.{startRows, cycleRows, rows}
+use Rattle.plan.specs.Run.{runOf}
+use Rattle.plan.specs.declared.sizes.Sizes.{Sizes}
+use Rattle.plan.specs.inner.Sizes.{allRows, Fitting}
+use Rattle.plan.proofs.Fits.{rows-are}
+use Rattle.verdict.specs.Comparisons.{testOf, tested, comparisonOf}
+use Rattle.verdict.specs.Rows.{testAt, judgeCycle, judgeRow, atomAt, verdictOf}
+use Rattle.verdict.specs.declared.Comparison.{Comparison}
+use Rattle.verdict.specs.inner.Reach.{TermsFit}
+use Rattle.verdict.proofs.Passes.{means-iff, means-one}
+use Rattle.verdict.proofs.Cycles.{ComparedAt, test-decides, cycle-means, inside-4}
+use Rattle.verdict.proofs.Values.{atom-fit}
+use Rattle.table.specs.Layout.{marked}
+use Rattle.table.specs.Bytes.{byteOf}
+use Rattle.table.specs.inner.Stored.{Stored}
+use Rattle.table.specs.inner.Tables.{mostBytes}
+use Rattle.table.proofs.Stores.{stored-none, stored-same}
+use Rattle.marks.specs.inner.Tables.{wraps}
+use Rattle.marks.specs.Parts.{isChanges, closes, steadyOutcome, closingOutcome}
+use Rattle.marks.proofs.PartsChecked.{at-sizes, own-cycle}
+use Rattle.marks.proofs.Unrolled.{closes-by-marks}
+use Rattle.labelling.specs.Labels.{operatorLabel, labelOf}
+use Rattle.labelling.proofs.OnePart.{label-done, label-met, closing-kept}
+use Rattle.laid_out.specs.LaidOut.{laidOut, canBeLaid}
+use Rattle.laid_out.specs.inner.LaidSizes.{laidSizes}
+use Rattle.laid_out.proofs.LaidRuns.{laid-fitting, laid-run}
+use Rattle.settling.specs.Settle.{isClear}
+use Rattle.settling.specs.inner.Scratch.{mostParts, mostRows, Room, markAt, changingFrom, isNone, Tried}
+
+-- ---- what refuses nothing
+
+none-clear : (r : ℕ → Refusal) (o : Option ℕ) → isNone o ≡ isClear (refusedAt r o)
+unfolding refusedAt
+none-clear r none = refl
+none-clear r (some k) = refl
+
+met-clear : (b : Bool) (r : Refusal) → b ≡ isClear (unless b r)
+unfolding unless
+met-clear true r = refl
+met-clear false r = refl
+
+not-true : (b : Bool) → not b ≡ true → false ≡ b
+not-true true e = absurd (false≢true e)
+not-true false e = refl
+
+not-false : (b : Bool) → not b ≡ false → true ≡ b
+not-false true e = refl
+not-false false e = absurd (true≢false e)
+
+-- the bytes of a slice
+pub bytes-of : (s : List ℕ) → ((i : ℕ) → getD s i 0 < 256) → Bytes s
+unfolding Bytes
+bytes-of s h = h
+
+-- what is known of a part by its view
+pub tried-view : {layout old new : List ℕ} {i : ℕ} {p q : View} {b : Bool} → p ≡ q → Tried layout old new i q b → Tried layout old new i p b
+tried-view {layout} {old} {new} {i} {b = b} e t = subst⁻¹ (λ (p : View). Tried layout old new i p b) e t
+
+module _ (plan : List ℕ) {z : Sizes} (fit : Fitting plan z) (k : ℕ) (can : canBeLaid plan k ≡ true) where
+  abbrev layout : List ℕ
+  layout = laidOut plan k
+
+  laid : Fitting (laidOut plan k) (laidSizes z k)
+  laid = laid-fitting plan fit k can
+
+  -- the first row of the layout's cycle
+  abbrev S : ℕ
+  S = z .start + k * z .cycle
+
+  -- The rows of the layout are few, and its cycle begins in the plan's cycle.
+  pub laid-rows : (S + z .cycle ≤ mostRows) × (S ≤ mostRows) × (z .start ≤ S)
+  laid-rows = let few = laid .few-rows in (omega arith, omega arith, omega arith)
+
+  -- There is room for them in the scratch.
+  pub laid-room : {scratch : List ℕ} → Room scratch → (i : ℕ) → i < mostParts → {own : ℕ} → own ≡ 4 + (i * mostRows + 0)
+      → (own + (S + z .cycle) ≤ length scratch) × (length scratch ≤ mostBytes)
+  laid-room room i l e = let whole = room .whole in let few = laid .few-rows in (omega arith, omega arith)
+
+  same-cycle : cycleRows (laidOut plan k) ≡ cycleRows plan
+  same-cycle = laid .c-is ∙ sym (fit .c-is)
+
+  module _ (bytes : Bytes plan) where
+    seen-same : (c : ℕ) → c < z .channels → (t : ℤ) → runOf (laidOut plan k) c t ≡ runOf plan c t
+    seen-same c l t = laid-run plan fit k can bytes c (subst⁻¹ (λ (v : ℕ). c < v) (fit .v-is) l) t
+
+    -- ---- comparisons
+
+    module _ (a : Atom) (fits : atomFits (z .channels) a ≡ true) {x : Comparison} (is : x ≡ comparisonOf a) where
+      terms : TermsFit z x
+      terms = atom-fit z a fits is
+
+      -- A comparison has the same truth at a position on both plans,
+      test-same : (t : ℕ) → testAt (laidOut plan k) x t ≡ testAt plan x t
+      unfolding testAt
+      test-same t =
+          ap₂ (tested (testOf (x .relation)))
+          (value-same (runOf (laidOut plan k)) (runOf plan) (z .channels) seen-same (x .left) (terms .0) t)
+          (value-same (runOf (laidOut plan k)) (runOf plan) (z .channels) seen-same (x .right) (terms .1) t)
+
+      compared-same : (t : ℕ) → ComparedAt (laidOut plan k) x t ↔ ComparedAt plan x t
+      compared-same t =
+          Iff·trans (Iff·symm (test-decides (laidOut plan k) x t))
+          (Iff·trans (subst (λ (b : Bool). (testAt (laidOut plan k) x t ≡ true) ↔ (b ≡ true)) (test-same t) Iff·rfl) (test-decides plan x t))
+
+      -- and the same verdict on the passes from a position of the layout's cycle on.
+      verdict-same : (t : ℕ) → S ≤ t → judgeCycle plan x 4 t ≡ judgeCycle (laidOut plan k) x 4 t
+      verdict-same t h =
+          means-one _ _ (λ j. ComparedAt plan x (t + j * cycleRows plan))
+          (cycle-means plan x (own-cycle fit) t 4 (inside-4 plan x (z .channels) t (terms .0) (terms .1) (own-cycle fit) (omega (arith, fit .p-is))))
+          (means-iff _ (λ j. ComparedAt (laidOut plan k) x (t + j * cycleRows (laidOut plan k))) (λ j. ComparedAt plan x (t + j * cycleRows plan))
+          (λ j. subst (λ (c : ℕ). ComparedAt (laidOut plan k) x (t + j * cycleRows (laidOut plan k)) ↔ ComparedAt plan x (t + j * c)) same-cycle
+          (compared-same (t + j * cycleRows (laidOut plan k))))
+          (cycle-means (laidOut plan k) x (own-cycle laid) t 4
+          (inside-4 (laidOut plan k) x (z .channels) t (terms .0) (terms .1) (own-cycle laid) (omega (arith, laid .p-is)))))
+
+      on-row : (t : ℕ) → S ≤ t → judgeCycle plan x 4 t ≡ verdictOf (laidOut plan k) a t
+      unfolding verdictOf judgeRow
+      on-row t h =
+          verdict-same t h
+          ∙ ap (λ (y : Comparison). judgeCycle (laidOut plan k) y 4 t) is
+          ∙ sym (simp (le-ltb t (startRows (laidOut plan k)) (omega (arith, laid .p-is))))
+
+      -- So it changes on no cycle row of the layout where it changes on none of those positions.
+      steady-as : (i : ℕ) (mark : ℕ → ℕ → Bool) → isNone (changingFrom plan x S (z .cycle)) ≡ isClear (closingOutcome (laidOut plan k) mark (view.Atom a) i)
+      unfolding changingFrom closingOutcome steadyOutcome
+      steady-as i mark =
+          ap isNone (from-ext (λ t. isChanges (judgeCycle plan x 4 t)) (λ t. isChanges (verdictOf (laidOut plan k) a t)) S (z .cycle) (λ t low _. ap isChanges (on-row t low)))
+          ∙ at-sizes laid (λ p c. isNone (lowestFrom (λ t. isChanges (verdictOf (laidOut plan k) a t)) p c)
+          ≡ isClear (refusedAt (Closing i) (lowestFrom (λ t. isChanges (verdictOf (laidOut plan k) a t)) (startRows (laidOut plan k)) (cycleRows (laidOut plan k)))))
+          (none-clear (Closing i) _)
+
+      module _ {s c : ℕ} (at-s : s ≡ S) (at-c : c ≡ z .cycle) {b : Bool} (e : b ≡ isNone (changingFrom plan x s (z .cycle))) (i : ℕ) where
+        closes-as : (old : List ℕ) → b ≡ isClear (closingOutcome (laidOut plan k) (markAt old) (view.Atom a) i)
+        closes-as old = e ∙ ap (λ (m : ℕ). isNone (changingFrom plan x m (z .cycle))) at-s ∙ steady-as i (markAt old)
+
+        -- It changes: nothing is written.
+        pub atom-open : not b ≡ true → {old : List ℕ} → Tried (laidOut plan k) old old i (view.Atom a) false
+        atom-open h {old} = record {
+          outcome = not-true b h ∙ closes-as old;
+          rows-alone = (
+            λ j. getD old (4 + i * mostRows + j) 0,
+            record { long = refl; inside = λ j _ _. refl; outside = λ j _. refl },
+          );
+          made = λ t. absurd (false≢true t);
+        }
+
+        -- It does not: its marks are written.
+        pub atom-closed : not b ≡ false → {old new : List ℕ} {own : ℕ} → own ≡ 4 + (i * mostRows + 0)
+            → Stored old new own 0 (s + c) (λ t. byteOf (testAt plan x t)) → Tried (laidOut plan k) old new i (view.Atom a) true
+        unfolding labelOf atomAt
+        atom-closed h {old} {new} {own} at done = record { outcome = not-false b h ∙ closes-as old; rows-alone = (_, marks); made = λ _. marks }
+          where
+            place : own ≡ 4 + i * mostRows
+            place = omega arith
+
+            whole : s + c ≡ rows (laidOut plan k)
+            whole = ap₂ (λ (m n : ℕ). m + n) at-s at-c ∙ sym (rows-are laid)
+
+            marks : Stored old new (4 + i * mostRows) 0 (rows (laidOut plan k)) (λ t. byteOf (testAt (laidOut plan k) (comparisonOf a) t))
+            marks =
+                stored-same (subst (λ (m : ℕ). Stored old new m 0 (rows (laidOut plan k)) (λ t. byteOf (testAt plan x t))) place
+                (subst (λ (m : ℕ). Stored old new own 0 m (λ t. byteOf (testAt plan x t))) whole done))
+                (λ t _ _. ap byteOf (sym (test-same t) ∙ ap (λ (y : Comparison). testAt (laidOut plan k) y t) is))
+
+  -- ---- operators
+
+  module _ (i : ℕ) (o : Operator) (fits : viewFits (z .channels) i (view.Operator o) ≡ true) {y : Sizes} (is : y ≡ laidSizes z k) {old new : List ℕ} where
+    -- It is labelled, and closes by its marks or not.
+    pub operator-tried : Stored old new (4 + i * mostRows) 0 (allRows y) (λ row. byteOf (operatorLabel (y .start) (y .cycle) (markAt old) o row))
+        → {b : Bool} → b ≡ wraps (y .start) (y .cycle) (markAt new) o i → Tried (laidOut plan k) old new i (view.Operator o) b
+    unfolding closingOutcome
+    operator-tried written {b} e = record {
+      outcome = closed
+          ∙ met-clear (closes (startRows (laidOut plan k)) (cycleRows (laidOut plan k)) (markAt new) o) (Closing i (startRows (laidOut plan k)))
+          ∙ ap isClear (closing-kept (laidOut plan k) laid mostRows i few o fits done);
+      rows-alone = (_, marks);
+      made = λ _. marks;
+    }
+      where
+        few : allRows (laidSizes z k) ≤ mostRows
+        few = laid .few-rows
+
+        done : Stored old new (4 + i * mostRows) 0 (allRows (laidSizes z k)) (λ row. byteOf (operatorLabel (z .start + k * z .cycle) (z .cycle) (markAt old) o row))
+        done = subst (λ (q : Sizes). Stored old new (4 + i * mostRows) 0 (allRows q) (λ row. byteOf (operatorLabel (q .start) (q .cycle) (markAt old) o row))) is written
+
+        marks : Stored old new (4 + i * mostRows) 0 (rows (laidOut plan k)) (λ row. byteOf (labelOf (laidOut plan k) (markAt old) (view.Operator o) row))
+        marks =
+            subst⁻¹ (λ (m : ℕ). Stored old new (4 + i * mostRows) 0 m (λ row. byteOf (labelOf (laidOut plan k) (markAt old) (view.Operator o) row))) (rows-are laid)
+            (label-done (laidOut plan k) laid mostRows i few o fits done)
+
+        closed : b ≡ closes (startRows (laidOut plan k)) (cycleRows (laidOut plan k)) (markAt new) o
+        closed =
+            subst (λ (q : Sizes). b ≡ wraps (q .start) (q .cycle) (markAt new) o i) is e
+            ∙ sym (at-sizes laid (λ p c. closes (startRows (laidOut plan k)) (cycleRows (laidOut plan k)) (markAt new) o ≡ wraps p c (markAt new) o i)
+            (closes-by-marks (laidOut plan k) (markAt new) (own-cycle laid) o i (label-met (laidOut plan k) laid mostRows i few o fits done)))

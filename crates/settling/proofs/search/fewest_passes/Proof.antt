@@ -1,0 +1,105 @@
+use borrow.Author.Needs.{needs}
+use native.Mathlib.Omega.{arith}
+use mathlib.Core.Path.{ap}
+use denote.Ref.{now}
+use Prim.Native.Nat.{_+_, _-_}
+use Rattle.plan.specs.declared.sizes.Sizes.{Sizes}
+use Rattle.settling.proofs.Searching.{Searching, few-passes, few-parts, searching-first, part-closes, no-more, one-more, all-close}
+use Rattle.settling.proofs.Trying.{bytes-of, laid-rows}
+use Rattle.settling.proofs.Searching.{not-false}
+use Rattle.settling.proofs.search.fewest_passes.Statement.{statement}
+use Rattle.settling.proofs.search.fewest_passes.Tie as tie
+use Rattle.settling.proofs.search.fewest_passes.Reads as reads
+use Rattle.settling.proofs.search.fewest_passes.Lts as lts
+use Rattle.laid_out.proofs.fits.fits_next.Reads as fits-next-reads
+use Rattle.settling.proofs.extend.extend.Reads as extend-reads
+use Rattle.settling.proofs.parts.laid_sizes.Reads as laid-sizes-reads
+use Rattle.settling.proofs.parts.try_part.Reads as try-part-reads
+
+abbrev Inv-loop : tie.InvT-loop
+Inv-loop rule plan scratch₀ n sizes passes₀ i₀ scratch passes i = Searching rule plan n scratch passes i
+
+abbrev μ-loop : tie.MeasureT-loop
+μ-loop rule plan scratch₀ n sizes passes₀ i₀ scratch passes i = (n - i) + (256 - passes)
+
+-- src/search.rt:28:5
+loop-holds : tie.Need-loop-holds Inv-loop μ-loop
+loop-holds c = searching-first (now (c .before .before .before .args .rule)) (now (c .before .before .before .args .plan)) (c .before .before .before .pre .0) (bytes-of (now (c .before .before .before .args .plan)) (λ i. omega (arith, c .before .shared-slice-known2 .given i))) (c .before .before .before .pre .1)
+
+-- src/search.rt:29:12
+try-part-requires : tie.Need-try-part-requires Inv-loop μ-loop
+try-part-requires c κs = (c .before .before .before .before .before .before .pre .0, c .before .before .loop .inv .can, c .before .before .loop .inv .made, c .before .loop-test .taken)
+
+-- src/search.rt:30:13
+add-i : tie.Need-add-i Inv-loop μ-loop
+add-i c = search needs
+
+-- src/search.rt:28:5
+loop-less : tie.Need-loop-less Inv-loop μ-loop
+loop-less c = omega (arith, c .before .before .before .before .before .loop-test .taken)
+
+-- src/search.rt:28:5
+loop-again : tie.Need-loop-again Inv-loop μ-loop
+loop-again c = part-closes (now (c .before .before .before .before .before .before .before .before .before .before .args .rule)) (now (c .before .before .before .before .before .before .before .before .before .before .args .plan)) (c .before .before .before .before .before .before .before .before .before .before .pre .0) (c .before .before .before .before .before .before .loop .inv) (c .before .before .before .try-part .ensures .0) (c .before .before .before .before .before .loop-test .taken) (c .if1 .taken) (c .before .before .before .try-part .ensures .2 (c .if1 .taken))
+
+-- src/search.rt:32:17
+fits-next-requires : tie.Need-fits-next-requires Inv-loop μ-loop
+fits-next-requires c κs = (c .before .before .before .before .before .before .before .before .before .before .pre .0 .fits, c .before .before .before .before .before .before .loop .inv .can)
+
+-- src/search.rt:33:17
+same-length : tie.Need-same-length Inv-loop μ-loop
+same-length c = search needs
+
+-- src/search.rt:33:17
+returns : tie.Need-returns Inv-loop μ-loop
+returns c = no-more (now (c .before .before .before .before .before .before .before .before .before .before .before .before .args .rule)) (now (c .before .before .before .before .before .before .before .before .before .before .before .before .args .plan)) (c .before .before .before .before .before .before .before .before .before .before .before .before .pre .0) (c .before .before .before .before .before .before .before .before .loop .inv) (c .before .before .before .before .before .try-part .ensures .0) (c .before .before .before .before .before .before .before .loop-test .taken) (c .before .before .if1 .left) (c .before .fits-next .ensures) (c .if2 .taken)
+
+-- src/search.rt:35:29
+laid-sizes-requires : tie.Need-laid-sizes-requires Inv-loop μ-loop
+laid-sizes-requires c κs = laid-rows (now (c .before .before .before .before .before .before .before .before .before .before .before .before .before .args .plan)) (c .before .before .before .before .before .before .before .before .before .before .before .before .before .pre .0 .fits) (c .before .before .before .before .before .before .before .before .before .loop .passes) (c .before .before .before .before .before .before .before .before .before .loop .inv .can) .1
+
+-- src/search.rt:35:13
+extend-requires : tie.Need-extend-requires Inv-loop μ-loop
+extend-requires c κs = (c .before .before .before .before .before .before .before .try-part .ensures .1 .room, omega (arith, ap (λ (q : Sizes). q .start) (c .laid-sizes .ensures), ap (λ (q : Sizes). q .cycle) (c .laid-sizes .ensures), laid-rows (now (c .before .before .before .before .before .before .before .before .before .before .before .before .before .before .args .plan)) (c .before .before .before .before .before .before .before .before .before .before .before .before .before .before .pre .0 .fits) (c .before .before .before .before .before .before .before .before .before .before .loop .passes + 1) (not-false (c .before .before .before .fits-next .ensures) (c .before .before .if2 .left)) .0), few-parts (now (c .before .before .before .before .before .before .before .before .before .before .before .before .before .before .args .rule)) (now (c .before .before .before .before .before .before .before .before .before .before .before .before .before .before .args .plan)) (c .before .before .before .before .before .before .before .before .before .before .before .before .before .before .pre .0) (c .before .before .before .before .before .before .before .before .before .before .loop .inv .few))
+
+-- src/search.rt:36:13
+add-passes : tie.Need-add-passes Inv-loop μ-loop
+add-passes c = omega (arith, few-passes (now (c .before .before .before .before .before .before .before .before .before .before .before .before .before .before .before .before .before .args .rule)) (now (c .before .before .before .before .before .before .before .before .before .before .before .before .before .before .before .before .before .args .plan)) (c .before .before .before .before .before .before .before .before .before .before .before .before .before .before .before .before .before .pre .0) (c .before .before .before .before .before .before .before .before .before .before .before .before .before .loop .passes) (c .before .before .before .before .before .before .before .before .before .before .before .before .before .loop .inv .can))
+
+-- src/search.rt:28:5
+loop-less-2 : tie.Need-loop-less-2 Inv-loop μ-loop
+loop-less-2 c = omega (arith, few-passes (now (c .before .before .before .before .before .before .before .before .before .before .before .before .before .before .before .before .before .args .rule)) (now (c .before .before .before .before .before .before .before .before .before .before .before .before .before .before .before .before .before .args .plan)) (c .before .before .before .before .before .before .before .before .before .before .before .before .before .before .before .before .before .pre .0) (c .before .before .before .before .before .before .before .before .before .before .before .before .before .loop .passes) (c .before .before .before .before .before .before .before .before .before .before .before .before .before .loop .inv .can))
+
+-- src/search.rt:28:5
+loop-again-2 : tie.Need-loop-again-2 Inv-loop μ-loop
+loop-again-2 c = one-more (now (c .before .before .before .before .before .before .before .before .before .before .before .before .before .before .before .before .before .args .rule)) (now (c .before .before .before .before .before .before .before .before .before .before .before .before .before .before .before .before .before .args .plan)) (c .before .before .before .before .before .before .before .before .before .before .before .before .before .before .before .before .before .pre .0) (c .before .before .before .before .before .before .before .before .before .before .before .before .before .loop .inv) (c .before .before .before .before .before .before .before .before .before .before .try-part .ensures .0) (c .before .before .before .before .before .before .before .before .before .before .before .before .loop-test .taken) (c .before .before .before .before .before .before .before .if1 .left) (bytes-of (now (c .before .before .before .before .before .before .before .before .before .before .before .before .before .before .before .before .before .args .plan)) (λ i. omega (arith, c .before .before .before .before .before .before .before .before .before .before .before .before .before .before .before .shared-slice-known2 .given i))) (not-false (c .before .before .before .before .before .before .fits-next .ensures) (c .before .before .before .before .before .if2 .left)) (c .before .before .before .before .before .before .before .before .before .before .try-part .ensures .1) (c .before .before .before .laid-sizes .ensures) (c .before .before .extend .ensures)
+
+-- src/search.rt:16:1
+same-length-2 : tie.Need-same-length-2 Inv-loop μ-loop
+same-length-2 c = search needs
+
+-- src/search.rt:16:1
+returns-2 : tie.Need-returns-2 Inv-loop μ-loop
+returns-2 c = all-close (now (c .before .before .before .before .before .args .rule)) (now (c .before .before .before .before .before .args .plan)) (c .before .before .before .before .before .pre .0) (c .before .loop .inv) (c .loop-test .left)
+
+pub fewest-passes-spec : {M : Type 1} → statement M
+fewest-passes-spec =
+    tie.close
+    (tie.spec
+    Inv-loop
+    μ-loop
+    loop-holds
+    try-part-requires
+    add-i
+    loop-less
+    loop-again
+    fits-next-requires
+    same-length
+    returns
+    laid-sizes-requires
+    extend-requires
+    add-passes
+    loop-less-2
+    loop-again-2
+    same-length-2
+    returns-2)
