@@ -101,8 +101,9 @@ more =
     ∷ settles ruleE1 planA planA lentScratch planA lentScratch 55834574848  -- 13, 0, 0
     ∷ settles ruleE8 planHigh lentPlan [] lentPlan [] 55834574848  -- 13, 0, 0
     ∷ settles ruleE1 planStartDrift [] [] [] [] 25769803777  -- 6, 0, 1
-    -- 15: the readings of a pass more take more than 32 bits. The scratch is all zero bytes.
+    -- 15: with a pass more a reading takes more than 32 bits, or the rows are more than 256. The scratch is all zero bytes.
     ∷ settles ruleE8 planHigh lentPlan lentScratch lentPlan clearedScratch 64424509440  -- 15, 0, 0
+    ∷ settles ruleE2 planMostRows lentPlan lentScratch lentPlan clearedScratch 64424509440  -- 15, 0, 0
     -- Judged on start rows and on cycle rows: 0 always false, 1 always true, 2 changes.
     ∷ judges ruleKinds planThree 0 0 1
     ∷ judges ruleKinds planThree 0 1 0
