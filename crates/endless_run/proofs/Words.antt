@@ -29,7 +29,7 @@ use Rattle.maker.proofs.Promised.{make-names}
 use Rattle.endless_run.specs.Packing.{refusalWord, unpacked, verdictBit, checkWord, makeWord, verdictWord, judgeWord}
 use Rattle.endless_run.specs.Promise.{CheckWordPromise, MakeWordPromise, JudgeWordPromise}
 
--- numbers are 1 to 14, so that a refusal is no small number
+-- numbers are 1 to 15, so that a refusal is no small number
 pub number-within : (r : Refusal) → (1 ≤ reportOf r .number) × (reportOf r .number ≤ 15)
 number-within RuleSizes = omega arith
 number-within (Kind p) = omega arith
@@ -48,10 +48,10 @@ number-within (NoTable p r) = omega arith
 number-within NoLayout = omega arith
 
 -- 0 is no number of a refusal
-no-number : {p w : ℕ} (q : Refusal) → report 0 p w ≡ reportOf q → ⊥
+pub no-number : {p w : ℕ} (q : Refusal) → report 0 p w ≡ reportOf q → ⊥
 no-number q e = let n : 0 ≡ reportOf q .number = ap (λ (x : Report). x .number) e in omega (arith, number-within q)
 
-refusal-large : (r : Refusal) → 3 ≤ refusalWord r
+pub refusal-large : (r : Refusal) → 4294967296 ≤ refusalWord r
 unfolding refusalWord
 refusal-large r = omega (arith, number-within r)
 
@@ -92,7 +92,7 @@ module _ {A : Type 0} (word : A → ℕ) (verdict : Bool → A) (refused : Refus
     small-answer a h =
         ⊎-elim (λ p. p) (λ p. let large = refusal-of a (p .0) (p .1) in absurd (omega (arith, refusal-large (p .0)))) (packed .cases a)
 
-    answer-small : (a : A) (v : Bool) → a ≡ verdict v → word a < 2
+    pub answer-small : (a : A) (v : Bool) → a ≡ verdict v → word a < 2
     answer-small a v e = subst⁻¹ (λ (n : ℕ). n < 2) (word-of a v e) (bit-small v)
 
     -- and 1 is that of a true one.
@@ -123,7 +123,7 @@ check-packed = record { cases = either; verdict-word = λ v. refl; refused-word 
     either (C.Accepted v) = inl (v, refl)
     either (C.Refused r) = inr (r, refl)
 
-make-packed : Packed makeWord M.Table M.Refused
+pub make-packed : Packed makeWord M.Table M.Refused
 unfolding makeWord
 make-packed = record { cases = either; verdict-word = λ v. refl; refused-word = λ r. refl }
   where

@@ -12,6 +12,8 @@ use Rattle.acceptance.specs.declared.Checked.{Checked}
 use Rattle.acceptance.specs.declared.Checked.the-variants as C
 use Rattle.maker.specs.declared.Made.{Made}
 use Rattle.maker.specs.declared.Made.the-variants as M
+use Rattle.settling.specs.declared.Laid.{Laid}
+use Rattle.settling.specs.declared.Laid.the-variants as L
 
 -- refused: number × 2^32 + part × 2^16 + row
 unfoldable pub refusalWord : Refusal → ℕ
@@ -34,6 +36,11 @@ checkWord (C.Refused r) = refusalWord r
 unfoldable pub makeWord : Made → ℕ
 makeWord (M.Table v) = verdictBit v
 makeWord (M.Refused r) = refusalWord r
+
+-- settled: how many passes are laid out
+unfoldable pub settleWord : Laid → ℕ
+settleWord (L.Passes n) = n
+settleWord (L.Refused r) = refusalWord r
 
 -- judged: 0 always false, 1 always true, 2 changes
 abbrev pub verdictWord : Verdict → ℕ

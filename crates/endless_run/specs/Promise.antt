@@ -1,15 +1,21 @@
 -- What the exported functions promise of the numbers that they return, on all inputs. Assumes nothing.
-use Prim.Native.Nat.{ℕ, _-_, _<_}
+use Prim.Native.Nat.{ℕ, _+_, _*_, _-_, _≤_, _<_}
 use mathlib.Core.Path.{_≡_}
-use mathlib.Core.List.{List}
+use mathlib.Core.Bool.{true}
+use mathlib.Core.List.{List, _++_}
 use mathlib.Core.Logic.{_↔_}
+use lib.IntN.{ℤ}
+use lib.ListN.{length, drop}
 use Rattle.cltlb.specs.Truth.{Holds}
 use Rattle.cltlb.specs.Parts.{formulaOf}
-use Rattle.rule.specs.Layout.{partCount}
+use Rattle.rule.specs.Layout.{partCount, channelCount}
 use Rattle.rule.specs.Take.{viewsOf}
-use Rattle.plan.specs.Layout.{startRows, cycleRows}
+use Rattle.plan.specs.Layout.{channels, startRows, cycleRows, rows}
+use Rattle.plan.specs.Refusals.{planOutcome}
 use Rattle.plan.specs.Run.{runOf}
+use Rattle.laid_out.specs.LaidOut.{rowsAfter, laidOut, canBeLaid}
 use Rattle.refusal.specs.declared.Refusal.{Refusal}
+use Rattle.refusal.specs.declared.Outcome.the-variants.{Clear}
 use Rattle.refusal.specs.Report.{report, reportOf}
 use Rattle.verdict.specs.declared.Verdict.{Verdict}
 use Rattle.verdict.specs.Meaning.{VerdictMeans}
@@ -21,7 +27,11 @@ use Rattle.acceptance.specs.Promise.{Cleared, RuleTruth, TableRight, EquationMe
 use Rattle.maker.specs.declared.Made.the-variants as M
 use Rattle.maker.specs.Make.{makeOf, bytesAfter}
 use Rattle.maker.specs.Promise.{Lent, NoneAccepted, LowestWitness, OpenMeans}
-use Rattle.endless_run.specs.Packing.{unpacked, checkWord, makeWord, verdictWord, judgeWord}
+use Rattle.settling.specs.declared.Laid.the-variants as L
+use Rattle.settling.specs.Settle.{settleOf, laidAfter, scratchAfter}
+use Rattle.settling.specs.Promise.{SettledAfter, FewestSettle, NoDrift, mostPasses}
+use Rattle.settling.specs.Promise as settling
+use Rattle.endless_run.specs.Packing.{unpacked, checkWord, makeWord, settleWord, verdictWord, judgeWord}
 
 -- endless_run_check
 pub record CheckWordPromise (rule plan table : List ℕ) (word : ℕ) : Type 0 where
@@ -54,6 +64,33 @@ pub record MakeWordPromise (rule plan before after : List ℕ) (word : ℕ) : Ty
   pub reports : (r : Refusal) → makeOf rule plan before ≡ M.Refused r → unpacked word ≡ reportOf r
   -- what 14 of part i says of the published truth
   pub opened : (i row : ℕ) → unpacked word ≡ report 14 i row → OpenMeans rule plan i row
+
+-- endless_run_settle, with the two lent buffers before and after, which a prime marks
+pub record SettleWordPromise (rule plan laid scratch laid′ scratch′ : List ℕ) (word : ℕ) : Type 0 where
+  pub isSettle : word ≡ settleWord (settleOf rule plan laid scratch)
+  -- the plan buffer is as it was, or holds the new plan at its front; the scratch is as it was, or all zero bytes
+  pub planBytes : laid′ ≡ laidAfter rule plan laid scratch
+  pub scratchBytes : scratch′ ≡ scratchAfter rule plan laid scratch
+  -- a number below 256 is how many passes are laid out: the new plan is at the front of the buffer,
+  pub front : word < 256 → laid′ ≡ laidOut plan word ++ drop (length (laidOut plan word)) laid
+  -- clears refusals 4 to 6 for the rule, and has the same reading at every position and channel as the first, before the start too;
+  pub clears : word < 256 → planOutcome (channelCount rule) (laidOut plan word) ≡ Clear
+  pub sameRun : word < 256 → (channel : ℕ) → channel < channels plan → (t : ℤ) → runOf (laidOut plan word) channel t ≡ runOf plan channel t
+  -- its passes are the fewest after which every part closes, so that endless_run_make answers 0 or 1 for it;
+  pub fewest : word < 256 → FewestSettle rule plan word
+  pub makes : word < 256 → (table : List ℕ) → length table ≡ 4 + partCount rule * rows (laidOut plan word) + 2 * partCount rule
+      → makeWord (makeOf rule (laidOut plan word) table) < 2
+  -- 0 says that the new plan is the first plan
+  pub copied : word ≡ 0 → laidOut plan 0 ≡ plan
+  -- whatever clears refusals 1 to 6 and 13: 15 exactly where no number works that keeps the rows at 256 or fewer and all readings
+  -- in 32 bits
+  pub refuses : settling.Lent rule plan laid scratch
+      → (unpacked word ≡ report 15 0 0) ↔ ((n : ℕ) → canBeLaid plan n ≡ true → ¬ SettledAfter rule plan n)
+  -- when all drifts are 0, the passes are at most 4 plus the deepest nesting, and 15 says that 256 rows are not enough for so many
+  pub bound : NoDrift plan → word < 256 → word ≤ mostPasses rule
+  pub tooLong : NoDrift plan → unpacked word ≡ report 15 0 0 → 256 < rowsAfter plan (mostPasses rule)
+  -- a refusal, taken apart, is the document's number, part and row
+  pub reports : (r : Refusal) → settleOf rule plan laid scratch ≡ L.Refused r → unpacked word ≡ reportOf r
 
 -- endless_run_judge: 0 always false, 1 always true, 2 changes
 pub record JudgeWordPromise (rule plan : List ℕ) (part row word : ℕ) : Type 0 where

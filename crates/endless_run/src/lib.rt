@@ -1,14 +1,15 @@
-// What C calls: the whole check, the maker and judge over byte slices, each answer packed into one number.
+// What C calls: the whole check, the maker, settling and judge over byte slices, each answer packed into one number.
 ghost use mathlib.Core.Path.{_≡_};
 ghost use Prim.Native.Nat.{_<_};
 ghost use Rattle.refusal.specs.Report.{reportOf};
 ghost use Rattle.endless_run.specs.Packing.{refusalWord, unpacked, verdictWord};
-ghost use Rattle.endless_run.specs.Promise.{CheckWordPromise, MakeWordPromise, JudgeWordPromise};
+ghost use Rattle.endless_run.specs.Promise.{CheckWordPromise, MakeWordPromise, SettleWordPromise, JudgeWordPromise};
 use acceptance::Checked;
 use judge::Judged;
 use maker::Made;
 use refusal::Refusal;
 use refusal::Report;
+use settling::Laid;
 use verdict::Verdict;
 
 // A refusal as one number: number × 2^32 + part × 2^16 + row.
@@ -61,6 +62,21 @@ pub extern "C" fn endless_run_make(rule: &[u8], plan: &[u8], marks: &mut [u8]) -
     match maker::make(rule, plan, marks) {
         Made::Table(holds) => { if holds { 1 } else { 0 } }
         Made::Refused(refusal) => refusal_word(refusal),
+    }
+}
+
+#[no_mangle]
+pub extern "C" fn endless_run_settle(
+    rule: &[u8],
+    plan: &[u8],
+    laid: &mut [u8],
+    scratch: &mut [u8],
+) -> u64
+    ensures { λ r. ⌜ SettleWordPromise (now (rule .entry)) (now (plan .entry)) (now (laid .entry)) (now (scratch .entry)) (now (laid .exit)) (now (scratch .exit)) r ⌝ }
+{
+    match settling::settle(rule, plan, laid, scratch) {
+        Laid::Passes(n) => n as u64,
+        Laid::Refused(refusal) => refusal_word(refusal),
     }
 }
 

@@ -137,7 +137,7 @@ module _ (rule plan : List ℕ) (bytes : Bytes plan) (clear : inputsOutcome rule
 
 -- ---- the answers, by their outcomes
 
-passes-by : (o : Option ℕ) (n : ℕ) → laidBy o ≡ L.Passes n → o ≡ some n
+pub passes-by : (o : Option ℕ) (n : ℕ) → laidBy o ≡ L.Passes n → o ≡ some n
 passes-by none n e = absurd (let z : _≡_ {A = ℕ} 0 1 = cc in omega arith)
 passes-by (some m) n e = cc
 

@@ -1,6 +1,7 @@
 -- Settling's answer and the bytes that it leaves, one law for each way out of the code. Assumes nothing.
 use Prim.Native.Nat.{ℕ}
 use mathlib.Core.Path.{_≡_, sym, ap, _∙_}
+use mathlib.Core.Bool.{true}
 use mathlib.Core.List.{List, _++_}
 use lib.ListN.{length, drop}
 use borrow.Author.Tests.{eq-eqb, ne-eqb}
@@ -8,16 +9,27 @@ use Rattle.refusal.specs.First.{_orElse_, unless}
 use Rattle.refusal.specs.declared.Outcome.the-variants.{Clear, Refused}
 use Rattle.refusal.specs.declared.Refusal.{Refusal}
 use Rattle.refusal.specs.declared.Refusal.the-variants.{BufferLength}
+use Rattle.refusal.proofs.Lowest.{lowest-some}
 use Rattle.plan.specs.declared.sizes.Sizes.{Sizes}
 use Rattle.inputs.specs.Outcome.{inputsOutcome}
 use Rattle.inputs.specs.inner.Read.{Ready}
 use Rattle.inputs.proofs.Ways.{both-ready}
 use Rattle.table.specs.Bytes.{zeroed}
-use Rattle.laid_out.specs.LaidOut.{laidOut}
+use Rattle.laid_out.specs.LaidOut.{laidOut, canBeLaid}
 use Rattle.maker.proofs.Turns.{zeroed-same}
 use Rattle.settling.specs.declared.Laid.{Laid}
 use Rattle.settling.specs.declared.Laid.the-variants as L
-use Rattle.settling.specs.Settle.{laidOutLength, scratchLength, fewestPasses, laidBy, lentOutcome, answered, settleOf, laidWith, laidAfter, scratchWith, scratchAfter}
+use Rattle.settling.specs.Settle.{laidOutLength, scratchLength, settlesAfter, fewestPasses, laidBy, lentOutcome, answered, settleOf, laidWith, laidAfter, scratchWith, scratchAfter}
+use Rattle.settling.proofs.Searched.{settles-as}
+use Rattle.settling.proofs.Promised.{passes-by}
+
+-- As many passes as the search answers can be laid out.
+pub answer-fits : (rule plan : List ℕ) {answer : Laid} → answer ≡ laidBy (fewestPasses rule plan) → {n : ℕ} → answer ≡ L.Passes n
+    → canBeLaid plan n ≡ true
+unfolding fewestPasses
+answer-fits rule plan searched {n} e =
+    let lowest-at = lowest-some (settlesAfter rule plan) 256 n .0 (passes-by (fewestPasses rule plan) n (sym searched ∙ e)) in
+    settles-as rule plan n .0 (lowest-at .1) .0
 
 module _ (rule plan laid scratch : List ℕ) where
   -- what is answered, and what the two buffers hold
@@ -75,7 +87,7 @@ module _ (rule plan laid scratch : List ℕ) where
 
           -- or n passes are: the new plan is at its front.
           pub found : {n : ℕ} → answer ≡ L.Passes n → {laid′ : List ℕ} → laid′ ≡ laidOut plan n ++ drop (length (laidOut plan n)) laid
-              → Left answer laid′ scratch′
+              → Left (L.Passes n) laid′ scratch′
           unfolding laidAfter laidWith
           found e put =
-              (searched ∙ answer-is, put ∙ sym (ap (laidWith rule plan laid scratch) (sym (searched ∙ answer-is) ∙ e)), zeros ∙ scratch-is mid long)
+              (sym e ∙ searched ∙ answer-is, put ∙ sym (ap (laidWith rule plan laid scratch) (sym (searched ∙ answer-is) ∙ e)), zeros ∙ scratch-is mid long)

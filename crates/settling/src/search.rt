@@ -13,13 +13,7 @@ use plan::sizes::Sizes;
 use refusal::Refusal;
 
 // Of a rule of `n` parts.
-pub fn fewest_passes(
-    rule: &[u8],
-    plan: &[u8],
-    scratch: &mut [u8],
-    n: usize,
-    sizes: Sizes,
-) -> Laid
+pub fn fewest_passes(rule: &[u8], plan: &[u8], scratch: &mut [u8], n: usize, sizes: Sizes) -> Laid
     requires { ⌜ (Ready (now rule) (now plan) n sizes) × (Room (now scratch)) ⌝ }
     ensures { λ r. ⌜ r ≡ laidBy (fewestPasses (now (rule .entry)) (now (plan .entry))) ⌝ }
 {

@@ -10,6 +10,12 @@ unfolding All
 all-same f g P law [] e = tt
 all-same f g P law (row ∷ rows) e = (law row cc, all-same f g P law rows cc)
 
+-- the same of rows of each of which another statement is known
+pub all-same-of : {A B : Type 0} (f g : A → B) (Q P : A → Type 0) → ((row : A) → Q row → f row ≡ g row → P row) → (rows : List A) → All Q rows → map f rows ≡ map g rows → All P rows
+unfolding All
+all-same-of f g Q P law [] known e = tt
+all-same-of f g Q P law (row ∷ rows) (q, known) e = (law row q cc, all-same-of f g Q P law rows known cc)
+
 -- a test is true of every row
 unfoldable pub allPass : {A : Type 0} → (A → Bool) → List A → Bool
 allPass test [] = true

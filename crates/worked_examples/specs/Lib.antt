@@ -5,6 +5,7 @@ pub mod Calls
 pub mod MoreSheets
 pub mod MorePlans
 pub mod MoreMarks
+pub mod Layouts
 pub mod SheetsRead
 pub mod PlansRead
 pub mod Handed

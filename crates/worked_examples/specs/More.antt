@@ -4,14 +4,15 @@ use Prim.Native.Nat.{ℕ, _<_}
 use mathlib.Core.List.{List, [], _∷_}
 use Rattle.fields.specs.inner.Ranges.{Bytes}
 use Rattle.worked_examples.specs.Rows.{All}
-use Rattle.worked_examples.specs.Calls.{Call, checks, makes, judges, Gives}
+use Rattle.worked_examples.specs.Calls.{Call, checks, makes, settles, judges, Gives}
 use Rattle.worked_examples.specs.SheetsRead.{sheets, ReadsAs}
 use Rattle.worked_examples.specs.PlansRead.{plans, sights, SizedAs, SeesAs}
 use Rattle.worked_examples.specs.Handed.{questionBytes, callBytes}
 use Rattle.worked_examples.specs.Table.{examples, ruleE1, ruleE2, ruleE4, ruleE8, planA, planB, planE10, marksE4-2}
 use Rattle.worked_examples.specs.MoreSheets.{ruleKinds, ruleRelease, rulePast, ruleLimit, ruleMet, ruleReach, ruleEightChannels, ruleNoParts, ruleLong, ruleNineChannels, ruleKind0, ruleKind13, ruleShiftedConstant, ruleShiftCode9, ruleForm2, ruleChannel1, ruleNamesItself, ruleSpareByte, ruleMostParts, ruleTooManyParts}
-use Rattle.worked_examples.specs.MorePlans.{planThree, planStartDrift, planNoCycle, planLong, planLead, planLeadDrift, planBehindLeadDrift, planSevenBytes, planMostLead, planTooMuchLead, planMostRows, planTooManyRows, planMostChannels, planTooManyChannels}
+use Rattle.worked_examples.specs.MorePlans.{planThree, planStartDrift, planNoCycle, planLong, planLead, planLeadDrift, planBehindLeadDrift, planSevenBytes, planMostLead, planTooMuchLead, planMostRows, planTooManyRows, planMostChannels, planTooManyChannels, planHigh}
 use Rattle.worked_examples.specs.MoreMarks.{marksKinds, marksLead, marksLeadSeen, marksRelease-1, marksRelease-0, marksRelease-spare, marksLong, marksByte2, marksBytes2, marksBroken, marksSpare, marksSpareBroken, marksPast, marksLimit, marksLimitBroken, marksLimitSpare, lentFull, lentSevens, zeros}
+use Rattle.worked_examples.specs.Layouts.{lentPlan, lentScratch, clearedScratch, laidA-0, laidA-1, laidB-1}
 
 -- A refusal is number × 2^32 + part × 2^16 + row; beside it stand its number, part and row.
 unfoldable pub more : List Call
@@ -92,6 +93,16 @@ more =
     -- 14: part and row as in 10. The buffer is all zero bytes.
     ∷ makes rulePast planThree marksPast zeros 60129607682  -- 14, 1, 2
     ∷ makes ruleLimit planThree marksLimit zeros 60129607683  -- 14, 1, 3
+    -- Settled, whatever the buffers held: after no pass; after one, when each cycle row has another before it that is of the cycle too.
+    ∷ settles ruleE1 planA lentPlan lentScratch laidA-0 clearedScratch 0
+    ∷ settles ruleE2 planA lentPlan lentScratch laidA-1 clearedScratch 1
+    ∷ settles ruleE8 planB lentPlan lentScratch laidB-1 clearedScratch 1
+    -- 13: either buffer. It comes after 1 to 6 and before 15, and both buffers are as they were.
+    ∷ settles ruleE1 planA planA lentScratch planA lentScratch 55834574848  -- 13, 0, 0
+    ∷ settles ruleE8 planHigh lentPlan [] lentPlan [] 55834574848  -- 13, 0, 0
+    ∷ settles ruleE1 planStartDrift [] [] [] [] 25769803777  -- 6, 0, 1
+    -- 15: the readings of a pass more take more than 32 bits. The scratch is all zero bytes.
+    ∷ settles ruleE8 planHigh lentPlan lentScratch lentPlan clearedScratch 64424509440  -- 15, 0, 0
     -- Judged on start rows and on cycle rows: 0 always false, 1 always true, 2 changes.
     ∷ judges ruleKinds planThree 0 0 1
     ∷ judges ruleKinds planThree 0 1 0

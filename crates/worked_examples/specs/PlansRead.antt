@@ -7,7 +7,7 @@ use Rattle.cltlb.specs.Run.{Seen, number, beforeRun}
 use Rattle.plan.specs.Layout.{channels, startRows, cycleRows, leadRows}
 use Rattle.plan.specs.Run.{runOf}
 use Rattle.worked_examples.specs.Table.{planA, planB, planE8-lead, planE9, planE10}
-use Rattle.worked_examples.specs.MorePlans.{planThree, planStartDrift, planNoCycle, planLong, planLead, planLeadTwo, planLeadDrift, planBehindLeadDrift}
+use Rattle.worked_examples.specs.MorePlans.{planThree, planStartDrift, planNoCycle, planLong, planLead, planLeadTwo, planLeadDrift, planBehindLeadDrift, planHigh}
 
 -- a plan with its V, P, C and L
 pub data PlanRow : Type 0 where
@@ -31,6 +31,7 @@ plans =
     ∷ sized planLeadTwo 2 0 1 2
     ∷ sized planLeadDrift 1 2 1 2
     ∷ sized planBehindLeadDrift 1 2 1 2
+    ∷ sized planHigh 1 0 1 0
     ∷ []
 
 -- what is seen of n channels from channel k on, at a position

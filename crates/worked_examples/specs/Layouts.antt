@@ -1,0 +1,36 @@
+-- The lent buffers of settling in more examples, before and after: their bytes. Assumes nothing.
+use Prim.Native.Nat.{ℕ}
+use mathlib.Core.List.{List, [], _∷_, _++_}
+use lib.ListN.{replicate}
+use Rattle.worked_examples.specs.Table.{planA}
+
+-- lent for the new plan: 16648 bytes, all 255
+abbrev pub lentPlan : List ℕ
+lentPlan = replicate 16648 0xFF
+
+-- lent as scratch: 16516 bytes, all 1; and all 0
+abbrev pub lentScratch : List ℕ
+lentScratch = replicate 16516 0x01
+
+abbrev pub clearedScratch : List ℕ
+clearedScratch = replicate 16516 0x00
+
+-- planA with no pass laid out: its own 32 bytes, and the bytes behind them
+abbrev pub laidA-0 : List ℕ
+laidA-0 = planA ++ replicate 16616 0xFF
+
+-- planA with a pass laid out: V 1, P 3, C 2, readings 10, 20, 30, 20, 30, no drift
+abbrev pub laidA-1 : List ℕ
+laidA-1 =
+    0x01 ∷ 0x00 ∷ 0x03 ∷ 0x00 ∷ 0x02 ∷ 0x00 ∷ 0x00 ∷ 0x00
+    ∷ 0x0A ∷ 0x00 ∷ 0x00 ∷ 0x00 ∷ 0x14 ∷ 0x00 ∷ 0x00 ∷ 0x00 ∷ 0x1E ∷ 0x00 ∷ 0x00 ∷ 0x00
+    ∷ 0x14 ∷ 0x00 ∷ 0x00 ∷ 0x00 ∷ 0x1E ∷ 0x00 ∷ 0x00 ∷ 0x00
+    ∷ 0x00 ∷ 0x00 ∷ 0x00 ∷ 0x00 ∷ 0x00 ∷ 0x00 ∷ 0x00 ∷ 0x00 ∷ 0x00 ∷ 0x00 ∷ 0x00 ∷ 0x00
+    ∷ 0x00 ∷ 0x00 ∷ 0x00 ∷ 0x00 ∷ 0x00 ∷ 0x00 ∷ 0x00 ∷ 0x00 ∷ replicate 16600 0xFF
+
+-- planB with a pass laid out: V 1, P 1, C 1, readings 4094, 4095, and the cycle row has the drift 1
+abbrev pub laidB-1 : List ℕ
+laidB-1 =
+    0x01 ∷ 0x00 ∷ 0x01 ∷ 0x00 ∷ 0x01 ∷ 0x00 ∷ 0x00 ∷ 0x00
+    ∷ 0xFE ∷ 0x0F ∷ 0x00 ∷ 0x00 ∷ 0xFF ∷ 0x0F ∷ 0x00 ∷ 0x00
+    ∷ 0x00 ∷ 0x00 ∷ 0x00 ∷ 0x00 ∷ 0x01 ∷ 0x00 ∷ 0x00 ∷ 0x00 ∷ replicate 16624 0xFF
