@@ -87,10 +87,7 @@ static uint8_t *guard_of(const struct lender *lender, uint8_t *buffer, size_t le
 
 static bool stands(const uint8_t *guard)
 {
-    for (int i = 0; i < GUARD; i++)
-        if (guard[i] != GUARD_BYTE)
-            return false;
-    return true;
+    return guard[0] == GUARD_BYTE && memcmp(guard, guard + 1, GUARD - 1) == 0;
 }
 
 /* A buffer that is lent to be written. */
