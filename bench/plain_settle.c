@@ -87,7 +87,8 @@ static const int64_t *lane_of(struct search *s, int channel)
         at[position] = get32(plan->readings + cell_of(plan, position, channel));
     int row = plan->start + (position - plan->start) % plan->cycle;
     for (; position < lane->end; position++) {
-        at[position] = at[position - plan->cycle] + get32(plan->drifts + cell_of(plan, row, channel));
+        int32_t drift = get32(plan->drifts + cell_of(plan, row, channel));
+        at[position] = at[position - plan->cycle] + drift;
         row = row + 1 < plan->rows ? row + 1 : plan->start;
     }
     return at;

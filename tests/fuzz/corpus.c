@@ -179,22 +179,28 @@ static void write_late(enum kind kind, int depth, int back, int start, int cycle
     write_input(name, LAID_OUT_LENGTH, SCRATCH_LENGTH - 1);
 }
 
-/* x crosses its limit after so many passes, and y has room in 32 bits for some. */
+/* x crosses its limit after so many passes, and y has room in 32 bits for some on the
+   first cycle row. */
 static void write_crossing(int passes, int room, int start, int cycle)
 {
+    static const unsigned lengths[][2] = {
+        { LAID_OUT_LENGTH - 1, SCRATCH_LENGTH }, { LAID_OUT_LENGTH + 1, SCRATCH_LENGTH },
+        { LAID_OUT_LENGTH, SCRATCH_LENGTH - 1 }, { LAID_OUT_LENGTH, SCRATCH_LENGTH + 1 },
+        { SCRATCH_LENGTH, LAID_OUT_LENGTH },     { 0, 0 },
+    };
     char name[64];
     start_rule(&rule, 2, 2);
     write_comparison(&rule, 0, LESS, reading(0, 0), constant(passes));
     write_comparison(&rule, 1, LESS, constant(0), constant(1));
     start_plan_with_lead(&plan, 2, 1, start, cycle);
-    for (int row = start; row < start + cycle; row++) {
+    for (int row = start; row < start + cycle; row++)
         write_drift(&plan, row, 0, 1);
-        write_reading(&plan, row, 1, room % 2 ? INT32_MAX - 3 * room : INT32_MIN + 3 * room);
-        write_drift(&plan, row, 1, room % 2 ? 3 : -3);
-    }
+    write_reading(&plan, start, 1, room % 2 ? INT32_MAX - 3 * room : INT32_MIN + 3 * room);
+    write_drift(&plan, start, 1, room % 2 ? 3 : -3);
     write_true_marks_of(&marks, &space, &rule, &plan);
-    snprintf(name, sizeof name, "crossing-%d-room-%d-start-%d-cycle-%d", passes, room, start, cycle);
-    write_input(name, LAID_OUT_LENGTH - 1, SCRATCH_LENGTH);
+    snprintf(name, sizeof name, "crossing-%d-room-%d-start-%d-cycle-%d", passes, room, start,
+             cycle);
+    write_input(name, lengths[passes % 6][0], lengths[passes % 6][1]);
 }
 
 static void write_all_late(void)
@@ -210,6 +216,8 @@ static void write_all_late(void)
             write_crossing(passes, room, 1, 2);
             write_crossing(passes, room, 256 - 4 * 7, 7);
         }
+    for (int passes = 254; passes <= 257; passes++)
+        write_crossing(passes, 300, 0, 1);
 }
 
 int main(int argc, char **argv)

@@ -14,7 +14,7 @@ enum late_style { STILL, CROSSING, AT_THE_EDGE };
 static void some_late_rows(int *start, int *cycle)
 {
     *start = chance(50) ? 0 : between(0, 6);
-    *cycle = chance(50) ? 1 : between(1, 5);
+    *cycle = chance(50) ? 1 : between(1, chance(80) ? 5 : 20);
     if (chance(12)) {
         int room = below(7), left = MOST_ROWS - (room + 1) * *cycle;
         *start = chance(60) ? left : between(left - *cycle, left);

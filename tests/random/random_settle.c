@@ -201,7 +201,8 @@ void print_settle_counts(unsigned long cases)
 
 static size_t some_length(size_t right, size_t other)
 {
-    size_t wrong[] = { 0, 1, right - 1, right + 1, other, case_plan.len, (size_t)below(SHEET_LONGEST) };
+    size_t wrong[] = { 0,     1,           right - 1, right + 1,
+                       other, case_plan.len, (size_t)below(SHEET_LONGEST) };
     return wrong[below(sizeof wrong / sizeof wrong[0])];
 }
 

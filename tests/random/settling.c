@@ -91,7 +91,8 @@ static void nested_in(enum kind kind, int depth, int back)
     write_nested(kind, depth, back);
     for (int lead = 0; lead <= MOST_LEAD; lead++) {
         int seen_late = back > lead ? back - lead : 0;
-        snprintf(name, sizeof name, "kind %d, %d deep, %d back, L %d", (int)kind, depth, back, lead);
+        snprintf(name, sizeof name, "kind %d, %d deep, %d back, L %d", (int)kind, depth, back,
+                 lead);
         write_rows_of_1(lead, 0, 0);
         settle(name, passes_due(kind, depth, back, 0));
         write_rows_of_1(lead, 1, 0);
@@ -307,7 +308,8 @@ static void unnamed(void)
    the second channel on row 2, and so on this row on passes 0 and 1. */
 static void by_hand(void)
 {
-    static const int32_t readings[5][2] = { { 7, -7 }, { 9, -9 }, { 1, 2 }, { 10, 20 }, { 30, 40 } };
+    static const int32_t readings[5][2] = { { 7, -7 }, { 9, -9 }, { 1, 2 }, { 10, 20 },
+                                            { 30, 40 } };
     static const int32_t later[4][2] = { { 11, 18 }, { 33, 36 }, { 12, 16 }, { 36, 32 } };
     start_plan_with_lead(&plan, 2, 2, 1, 2);
     start_plan_with_lead(&due, 2, 2, 5, 2);
