@@ -238,10 +238,10 @@ enum endless_run_refusal {
     ENDLESS_RUN_ABSENT = 12,
 
     /* The length of the buffer lent to endless_run_make() is not the one that
-       the mark table has, ENDLESS_RUN_MARKS_LENGTH(N, W). Of the two lent to
-       endless_run_settle(), one is not ENDLESS_RUN_LAID_OUT_LENGTH long or the
-       other not ENDLESS_RUN_SETTLE_SCRATCH_LENGTH. A longer buffer is refused
-       as well. */
+       the mark table has, ENDLESS_RUN_MARKS_LENGTH(N, W); or endless_run_settle()
+       is lent a laid_out that is not ENDLESS_RUN_LAID_OUT_LENGTH bytes long or a
+       scratch that is not ENDLESS_RUN_SETTLE_SCRATCH_LENGTH. A longer buffer is
+       refused as well. */
     ENDLESS_RUN_BUFFER_LENGTH = 13,
 
     /* A part does not close, so that no mark table of this rule and this plan
@@ -393,13 +393,14 @@ uint64_t endless_run_make(const uint8_t *rule, size_t rule_len,
  * the sizes at its front say: endless_run_plan_length(laid_out) is that length,
  * to be given on as plan_len.
  *
- * "Every part closes" counts parts that nobody names. For the new plan
- * endless_run_make() makes a table; with fewer passes laid out it would answer
- * 14. Where all drifts are 0, the answer is at most 4 plus the deepest nesting
- * of Y, Z, S and T in any part, if there is room for as many passes. Once
- * refusals 1 to 6 and 13 are cleared, the answer is refusal 15 exactly when no
- * number n works with which the new plan has 256 rows or fewer and all its
- * readings fit 4 bytes, also those of channels that the rule never reads.
+ * A part closes when it has on each cycle row the same truth on all passes.
+ * Every part counts, also one that nobody names. So for the new plan
+ * endless_run_make() makes a table, and with fewer passes laid out it would
+ * answer 14. Where all drifts are 0, the answer is at most 4 plus the deepest
+ * nesting of Y, Z, S and T in any part, if there is room for as many passes.
+ * Once refusals 1 to 6 and 13 are cleared, the answer is refusal 15 exactly
+ * when no number n works with which the new plan has 256 rows or fewer and all
+ * its readings fit 4 bytes, also those of channels that the rule never reads.
  */
 uint64_t endless_run_settle(const uint8_t *rule, size_t rule_len,
                             const uint8_t *plan, size_t plan_len,

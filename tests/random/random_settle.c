@@ -30,8 +30,8 @@ static struct {
     unsigned long open[13];  /* settled, and with a pass fewer a part of the kind is open */
     unsigned long unnamed;   /* settled, and with a pass fewer only unreached ones are */
     unsigned long rows;      /* refused 15 for the rows */
-    unsigned long above;     /* refused 15 for a reading above 32 bits */
-    unsigned long below;     /* refused 15 for one below */
+    unsigned long too_large; /* refused 15 for a reading above 32 bits */
+    unsigned long too_small; /* refused 15 for one below */
     unsigned long unread;    /* refused 15 for a channel that no comparison reads */
     unsigned long both[2];   /* refused 13 where the right lengths settle, and give 15 */
 } counts;
@@ -75,7 +75,8 @@ static int lowest_open(const struct rule *r, const struct plan *p, int passes, b
     return lowest;
 }
 
-/* The channels in which a pass more does not fit 32 bits: +1 above, -1 below. */
+/* Where one pass more of a channel does not fit 32 bits: 1 above, -1 below; 0 where it
+   does. */
 static int way_out(const struct plan *p, int channel)
 {
     for (int row = p->start; row < p->rows; row++) {
@@ -90,7 +91,8 @@ static void count_settled(const struct rule *r, const struct plan *p, int passes
 {
     struct plan new = *p;
     bool any_reached, is_last = false;
-    counts.passes[passes < FEW_PASSES ? passes : 0] += passes < FEW_PASSES;
+    if (passes < FEW_PASSES)
+        counts.passes[passes]++;
     counts.many += passes >= FEW_PASSES;
     counts.hundred += passes >= 100;
     if (passes == 0)
@@ -125,7 +127,7 @@ static bool is_read(const struct rule *r, int channel)
 
 static void count_no_room(const struct rule *r, struct plan p)
 {
-    bool above = false, below = false, read = false;
+    bool too_large = false, too_small = false, read = false;
     while (lay_out_pass(&p))
         ;
     if (p.rows + p.cycle > MOST_ROWS) {
@@ -134,12 +136,12 @@ static void count_no_room(const struct rule *r, struct plan p)
     }
     for (int channel = 0; channel < p.channels; channel++) {
         int way = way_out(&p, channel);
-        above |= way > 0;
-        below |= way < 0;
+        too_large |= way > 0;
+        too_small |= way < 0;
         read |= way != 0 && is_read(r, channel);
     }
-    counts.above += above;
-    counts.below += below;
+    counts.too_large += too_large;
+    counts.too_small += too_small;
     counts.unread += !read;
 }
 
@@ -192,8 +194,8 @@ void print_settle_counts(unsigned long cases)
     hold_to_floor("settle refused 13, right lengths settle", counts.both[0], cases, 100);
     hold_to_floor("settle refused 13, right lengths give 15", counts.both[1], cases, 50);
     hold_to_floor("settle refused 15 for the rows", counts.rows, cases, 200);
-    hold_to_floor("settle refused 15, a reading too large", counts.above, cases, 50);
-    hold_to_floor("settle refused 15, a reading too small", counts.below, cases, 50);
+    hold_to_floor("settle refused 15, a reading too large", counts.too_large, cases, 50);
+    hold_to_floor("settle refused 15, a reading too small", counts.too_small, cases, 50);
     hold_to_floor("settle refused 15, a channel not read", counts.unread, cases, 20);
 }
 
@@ -201,32 +203,31 @@ void print_settle_counts(unsigned long cases)
 
 static size_t some_length(size_t right, size_t other)
 {
-    size_t wrong[] = { 0,     1,           right - 1, right + 1,
-                       other, case_plan.len, (size_t)below(SHEET_LONGEST) };
+    size_t wrong[] = { 0, 1, right - 1, right + 1, other, case_plan.len,
+                       (size_t)below(SHEET_LONGEST) };
     return wrong[below(sizeof wrong / sizeof wrong[0])];
 }
 
-/* Mostly the right lengths; else one of them or both are others. */
-static void some_lengths(size_t *laid_out, size_t *scratch)
+/* What settle answers in buffers of the right lengths. */
+static uint64_t in_right_lengths(void)
 {
-    size_t plan = ENDLESS_RUN_LAID_OUT_LENGTH, work = ENDLESS_RUN_SETTLE_SCRATCH_LENGTH;
-    int wrong = chance(90) ? 0 : between(1, 3);
-    *laid_out = wrong & 1 ? some_length(plan, work) : plan;
-    *scratch = wrong & 2 ? some_length(work, plan) : work;
+    static uint8_t laid_out[LAID_OUT_LENGTH], scratch[SCRATCH_LENGTH];
+    return second_settle(&truth_space, slice_of(&case_rule), slice_of(&case_plan), laid_out,
+                         sizeof laid_out, scratch, sizeof scratch);
 }
 
+/* Mostly the buffers have the right lengths; else one of them has not, or both. */
 void ask_to_settle(const char *name)
 {
-    static struct sheet laid_out, scratch, due;
-    static uint8_t due_scratch[SCRATCH_LENGTH];
-    struct slice r = slice_of(&case_rule), p = slice_of(&case_plan);
-    some_lengths(&laid_out.len, &scratch.len);
-    resize(&due, ENDLESS_RUN_LAID_OUT_LENGTH);
-    bool is_right = laid_out.len == due.len && scratch.len == sizeof due_scratch;
-    uint64_t settled =
-        second_settle(&truth_space, r, p, due.at, due.len, due_scratch, sizeof due_scratch);
-    bool reaches_lengths = !endless_run_is_refusal(settled) || settled == refusal(15, 0, 0);
-    uint64_t answer = is_right || !reaches_lengths ? settled : refusal(13, 0, 0);
+    static struct sheet laid_out, scratch;
+    size_t right = ENDLESS_RUN_LAID_OUT_LENGTH, of_scratch = ENDLESS_RUN_SETTLE_SCRATCH_LENGTH;
+    int wrong = chance(90) ? 0 : between(1, 3);
+    resize(&laid_out, wrong & 1 ? some_length(right, of_scratch) : right);
+    resize(&scratch, wrong & 2 ? some_length(of_scratch, right) : of_scratch);
+    uint64_t settled = in_right_lengths(), answer = settled;
+    bool looks_at_lengths = !endless_run_is_refusal(settled) || settled == refusal(15, 0, 0);
+    if (looks_at_lengths && (laid_out.len != right || scratch.len != of_scratch))
+        answer = refusal(13, 0, 0);
     if (!expect_settle(name, &case_rule, &case_plan, &laid_out, &scratch, answer) && failed <= 3) {
         print_sheet("rule", &case_rule);
         print_sheet("plan", &case_plan);
