@@ -1,10 +1,13 @@
 /*
- * bench.c: times endless_run_check and endless_run_make, each beside C of the same
- * work.
+ * bench.c: times endless_run_check, endless_run_make and endless_run_settle, each beside
+ * C of the same work.
  *
  * The check is timed beside C written for speed (plain_check.c, plain_sweeps.c), the
- * maker beside plain C (plain_make.c). All tables are accepted ones: acceptance is
- * the slowest answer, as nothing is left out. The makers make that same table.
+ * maker and the settler beside plain C (plain_make.c, plain_settle.c). All tables are
+ * accepted ones: acceptance is the slowest answer, as nothing is left out. The makers
+ * make that same table. The settler has cases of its own: two of full size that settle
+ * only when nearly 256 rows are laid out, one by its last part and one by each part in
+ * turn, and a small one.
  *
  * The first figures are of eight cases of full size, 64 parts on 256 rows of 8
  * channels, the last of them with 4 lead-in rows. The others show how the time of the
@@ -18,8 +21,9 @@
  * The times shown are the medians of the rounds. The ratio is the median of the
  * rounds' ratios: what slows the machine down for a while slows both, and leaves
  * their ratio as it is. Before that both checks must give the answer of the second
- * evaluator, and they must have accepted; and both makers must give that answer and
- * make the second evaluator's table, byte for byte.
+ * evaluator, and they must have accepted; both makers must give that answer and make
+ * the second evaluator's table, byte for byte; and so with the settlers' answers and all
+ * bytes of both buffers.
  *
  * Two copies of the same code have been seen to differ by a quarter where a call is
  * short, by where the linker puts them: a ratio from 0.8 to 1.25 there is no
@@ -30,6 +34,7 @@
 #include "cases.h"
 #include "plain_check.h"
 #include "plain_make.h"
+#include "plain_settle.h"
 
 #include <inttypes.h>
 #include <stdio.h>
@@ -40,8 +45,9 @@
 enum { ROUNDS = 251, ROUND_NS = 500000 };
 
 static struct sheet made;
+static uint8_t laid_out[ENDLESS_RUN_LAID_OUT_LENGTH], scratch[ENDLESS_RUN_SETTLE_SCRATCH_LENGTH];
 
-/* ---- The four functions ---- */
+/* ---- The six functions ---- */
 
 typedef uint64_t work(const struct sheets *s);
 
@@ -66,6 +72,18 @@ static uint64_t make(const struct sheets *s)
 {
     return endless_run_make(s->rule.at, s->rule.len, s->plan.at, s->plan.len, made.at,
                             s->marks.len);
+}
+
+static uint64_t settle_in_c(const struct sheets *s)
+{
+    return plain_settle(s->rule.at, s->rule.len, s->plan.at, s->plan.len, laid_out,
+                        sizeof laid_out, scratch, sizeof scratch);
+}
+
+static uint64_t settle(const struct sheets *s)
+{
+    return endless_run_settle(s->rule.at, s->rule.len, s->plan.at, s->plan.len, laid_out,
+                              sizeof laid_out, scratch, sizeof scratch);
 }
 
 /* ---- Timing ---- */
@@ -177,6 +195,45 @@ static bool all_agree(const char *name, const struct sheets *s)
            both_answer(name, due, answer_if_made(make_in_c, s), answer_if_made(make, s));
 }
 
+static void fill_buffers(void)
+{
+    memset(laid_out, 0xA5, sizeof laid_out);
+    memset(scratch, 0xA5, sizeof scratch);
+}
+
+/* The settler's answer; no answer at all where it does not leave the buffers so. */
+static uint64_t answer_if_laid_out(work *settler, const struct sheets *s, const uint8_t *due,
+                                   const uint8_t *due_scratch)
+{
+    fill_buffers();
+    uint64_t answer = settler(s);
+    return memcmp(laid_out, due, sizeof laid_out) == 0 &&
+                   memcmp(scratch, due_scratch, sizeof scratch) == 0
+               ? answer
+               : UINT64_MAX;
+}
+
+/* Both settlers lay out what the second evaluator does. Gives its number of passes; -1
+   where they do not. */
+static int settlers_agree(const char *name, const struct sheets *s)
+{
+    static struct truth space;
+    static uint8_t due[sizeof laid_out], due_scratch[sizeof scratch];
+    fill_buffers();
+    uint64_t passes = second_settle(&space, slice_of(&s->rule), slice_of(&s->plan), laid_out,
+                                    sizeof laid_out, scratch, sizeof scratch);
+    memcpy(due, laid_out, sizeof due);
+    memcpy(due_scratch, scratch, sizeof due_scratch);
+    if (endless_run_is_refusal(passes)) {
+        printf("%s: refused\n", name);
+        return -1;
+    }
+    return both_answer(name, passes, answer_if_laid_out(settle_in_c, s, due, due_scratch),
+                       answer_if_laid_out(settle, s, due, due_scratch))
+               ? (int)passes
+               : -1;
+}
+
 /* ---- The cases ---- */
 
 static void print_times(const struct pair *p)
@@ -218,6 +275,34 @@ static bool run_cases(void)
     right &= run_case("f  255 start rows", many_start_rows);
     right &= run_case("g  all kinds", all_kinds);
     right &= run_case("h  all shifts, 4 lead-in rows", after_lead_in);
+    return right;
+}
+
+static bool run_late_case(const char *name, late_builder *build)
+{
+    static struct sheets sheets;
+    static struct pair pair;
+    build_late_case(&sheets, build);
+    int passes = settlers_agree(name, &sheets);
+    if (passes < 0)
+        return false;
+    start_pair(&pair, &sheets, settle_in_c, settle);
+    time_pairs(&pair, 1);
+    printf("%-36s %6d", name, passes);
+    print_times(&pair);
+    printf("\n");
+    return true;
+}
+
+static bool run_late_cases(void)
+{
+    bool right = true;
+    printf("\nPlans that settle late\n");
+    printf("%-36s %6s %9s %9s %7s\n", "", "", "settle", "", "");
+    printf("%-36s %6s %9s %9s %7s\n", "", "passes", "plain C", "exported", "ratio");
+    right &= run_late_case("i  64 parts, the last one crosses", crossing_late);
+    right &= run_late_case("j  64 parts, Y of Y of .., 60 deep", yesterdays_deep);
+    right &= run_late_case("k  20 parts of all kinds, 16 rows", settling_soon);
     return right;
 }
 
@@ -263,6 +348,7 @@ static bool run_growth(const char *name, builder *build)
 int main(void)
 {
     bool right = run_cases();
+    right &= run_late_cases();
     right &= run_growth("Comparisons with all shifts", mixed_comparisons);
     right &= run_growth("Comparisons and operators in turn", mixed_parts);
     return right ? 0 : 1;

@@ -228,3 +228,69 @@ void build_case(struct sheets *sheets, builder *build, int parts, int rows)
     sheets->plan = plan;
     write_true_marks(&sheets->marks, &truth);
 }
+
+/* ---- Late cases ---- */
+
+/* One cycle row. Its last channel rises; the others stay, and over them every part
+   closes but the last. */
+void crossing_late(void)
+{
+    enum { PARTS = 64, START = 4, RISING = CHANNELS - 1, LIMIT = 250 };
+    steady_plan(START + 1, START);
+    write_drift(&plan, START, RISING, 1);
+    begin_rule(PARTS);
+    for (int part = 0; part < PARTS - 1; part++)
+        if (part < 8 || part % 2 == 0) {
+            struct formula f = { .kind = part % 4 ? LESS : EQUAL };
+            f.left = reading(part % RISING, part % 9 - 4);
+            f.right = reading((part + 3) % RISING, 0);
+            try_formula(part, f);
+        } else {
+            write_closing_operator(part, (enum kind)(NOT + part / 2 % 10));
+        }
+    write_comparison(&rule, PARTS - 1, LESS, reading(RISING, 0), constant(LIMIT));
+}
+
+/* One cycle row, which differs from the start rows. Each Y needs one pass more than the
+   part below it. */
+void yesterdays_deep(void)
+{
+    enum { PARTS = 64, DEEP = 60, START = 188 };
+    start_plan(&plan, CHANNELS, START, 1);
+    write_reading(&plan, START, 0, 1);
+    start_rule(&rule, PARTS, CHANNELS);
+    write_comparison(&rule, 0, EQUAL, reading(0, -4), constant(1));
+    for (int part = 1; part <= DEEP; part++)
+        write_unary(&rule, part, YESTERDAY, part - 1);
+    for (int part = DEEP + 1; part < PARTS; part++)
+        write_binary(&rule, part, part % 2 ? SINCE : AND, part - 1, 0);
+}
+
+/* Start rows unlike the cycle, so that what looks back from its first rows does not see
+   the same on the first pass as later. */
+void settling_soon(void)
+{
+    enum { PARTS = 20, COMPARISONS = 8, START = 4, ROWS = 16 };
+    start_plan(&plan, CHANNELS, START, ROWS - START);
+    for (int row = 0; row < ROWS; row++)
+        for (int channel = 0; channel < CHANNELS; channel++)
+            write_reading(&plan, row, channel, below(10));
+    start_rule(&rule, PARTS, CHANNELS);
+    for (int part = 0; part < PARTS; part++) {
+        struct formula f = { .kind = part % 2 ? LESS : EQUAL };
+        f.left = reading(part % CHANNELS, -(part % 5));
+        f.right = part % 4 ? reading((part + 3) % CHANNELS, 0) : constant(5);
+        if (part >= COMPARISONS)
+            f = (struct formula){ .kind = (enum kind)(NOT + (part - COMPARISONS) % 10),
+                                  .a = below(part), .b = below(part) };
+        write_formula(&rule, part, &f);
+    }
+}
+
+void build_late_case(struct sheets *sheets, late_builder *build)
+{
+    dice = 1;
+    build();
+    sheets->rule = rule;
+    sheets->plan = plan;
+}

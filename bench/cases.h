@@ -31,4 +31,13 @@ builder after_lead_in;   /* comparisons with all shifts, and 4 lead-in rows */
 builder mixed_comparisons; /* less and equal in turn, with all shifts */
 builder mixed_parts;       /* such a comparison and an operator in turn */
 
+/* Rules and plans that settle after some passes; they have no table. */
+typedef void late_builder(void);
+
+void build_late_case(struct sheets *sheets, late_builder *build);
+
+late_builder crossing_late;   /* the last of 64 parts changes after some 250 passes */
+late_builder yesterdays_deep; /* Y of Y, 60 deep, over a comparison that looks back */
+late_builder settling_soon;   /* 20 parts of all kinds on 16 rows, a pass or two */
+
 #endif

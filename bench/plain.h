@@ -1,6 +1,6 @@
 /*
- * plain.h: what the check in C and the maker in C share: fields, refusals 1 to 6,
- * and comparisons row by row.
+ * plain.h: what the check, the maker and the settler in C share: fields, refusals 1 to
+ * 6, and comparisons row by row.
  *
  * The lead-in rows are rows -L to -1, as are their positions: both arrays of a plan
  * are looked at from row 0 on, and the lead-in rows lie before.
@@ -10,8 +10,8 @@
  * pass is 0 unless a shift reaches back before row P; then it is 4, and the
  * passes below are looked at one by one. Numbers stay below 2^36.
  *
- * Every function is static, so that each is compiled into the one and the other as
- * if it stood there.
+ * Every function is static, so that each is compiled into each of them as if it stood
+ * there.
  */
 #ifndef PLAIN_H
 #define PLAIN_H
@@ -51,6 +51,12 @@ static inline unsigned get16(const uint8_t *at)
 static inline int32_t get32(const uint8_t *at)
 {
     return (int32_t)(at[0] | (uint32_t)at[1] << 8 | (uint32_t)at[2] << 16 | (uint32_t)at[3] << 24);
+}
+
+static inline void put16(uint8_t *at, size_t n)
+{
+    at[0] = (uint8_t)n;
+    at[1] = (uint8_t)(n >> 8);
 }
 
 static inline uint64_t refuse(unsigned number, size_t part, size_t row)

@@ -10,14 +10,7 @@
 #include "plain_make.h"
 
 #include "plain.h"
-
-#include <string.h>
-
-static void put16(uint8_t *at, size_t n)
-{
-    at[0] = (uint8_t)n;
-    at[1] = (uint8_t)(n >> 8);
-}
+#include "plain_operators.h"
 
 /* ---- Comparisons ---- */
 
@@ -63,111 +56,18 @@ static int make_comparison(const struct plan *plan, int kind, const uint8_t *ope
 
 /* ---- Operators ---- */
 
-static void make_not(uint8_t *restrict m, const uint8_t *restrict a, int rows)
-{
-    for (int row = 0; row < rows; row++)
-        m[row] = a[row] ^ 1;
-}
-
-static void make_and(uint8_t *restrict m, const uint8_t *restrict a, const uint8_t *restrict b,
-                     int rows)
-{
-    for (int row = 0; row < rows; row++)
-        m[row] = a[row] & b[row];
-}
-
-static void make_or(uint8_t *restrict m, const uint8_t *restrict a, const uint8_t *restrict b,
-                    int rows)
-{
-    for (int row = 0; row < rows; row++)
-        m[row] = a[row] | b[row];
-}
-
-static void make_next(const struct plan *plan, uint8_t *m, const uint8_t *a)
-{
-    memcpy(m, a + 1, (size_t)plan->rows - 1);
-    m[plan->rows - 1] = a[plan->start];
-}
-
-static inline uint8_t step(bool until, unsigned a, unsigned b, unsigned beside)
-{
-    return (uint8_t)(until ? b | (a & beside) : b & (a | beside));
-}
-
-/* U, or R: backward over the cycle, where U takes 0 and R takes 1 for the mark
-   after row W - 1; once more from the mark now on row P, as long as it makes a
-   difference; then on over the start rows. */
-static inline void make_backward(bool until, const struct plan *plan, uint8_t *restrict m,
-                                 const uint8_t *restrict a, const uint8_t *restrict b)
-{
-    unsigned after = !until;
-    for (int row = plan->rows - 1; row >= plan->start; row--)
-        m[row] = (uint8_t)(after = step(until, a[row], b[row], after));
-    for (int row = plan->rows - 1; row >= plan->start; row--) {
-        after = step(until, a[row], b[row], after);
-        if (m[row] == after)
-            break;
-        m[row] = (uint8_t)after;
-    }
-    after = m[plan->start];
-    for (int row = plan->start - 1; row >= 0; row--)
-        m[row] = (uint8_t)(after = step(until, a[row], b[row], after));
-}
-
-/* S, or T: forward from row 0. Gives whether it closes. */
-static inline bool make_forward(bool since, const struct plan *plan, uint8_t *restrict m,
-                                const uint8_t *restrict a, const uint8_t *restrict b)
-{
-    unsigned before = m[0] = b[0];
-    for (int row = 1; row < plan->rows; row++)
-        m[row] = (uint8_t)(before = step(since, a[row], b[row], before));
-    return m[plan->start] == step(since, a[plan->start], b[plan->start], before);
-}
-
-/* Y, or Z: the marks one row on. Gives whether it closes. */
-static bool make_yesterday(uint8_t first, const struct plan *plan, uint8_t *m, const uint8_t *a)
-{
-    m[0] = first;
-    memcpy(m + 1, a, (size_t)plan->rows - 1);
-    return m[plan->start] == a[plan->rows - 1];
-}
-
 /* The marks of an operator over the marks of the parts that it names. Gives row P
    if it does not close, else W. */
 static int make_operator(const struct plan *plan, int kind, uint8_t *m, const uint8_t *a,
                          const uint8_t *b)
 {
-    bool closes = true;
-    switch (kind) {
-    case NOT:
-        make_not(m, a, plan->rows);
-        break;
-    case AND:
-        make_and(m, a, b, plan->rows);
-        break;
-    case OR:
-        make_or(m, a, b, plan->rows);
-        break;
-    case NEXT:
-        make_next(plan, m, a);
-        break;
-    case UNTIL:
-        make_backward(true, plan, m, a, b);
-        break;
-    case RELEASE:
-        make_backward(false, plan, m, a, b);
-        break;
-    case YESTERDAY:
-    case WEAK_YESTERDAY:
-        closes = make_yesterday(kind == WEAK_YESTERDAY, plan, m, a);
-        break;
-    case SINCE:
-        closes = make_forward(true, plan, m, a, b);
-        break;
-    default:
-        closes = make_forward(false, plan, m, a, b);
+    int start = plan->start, rows = plan->rows;
+    if (!is_past(kind)) {
+        make_closed(kind, m, a, b, start, rows);
+        return rows;
     }
-    return closes ? plan->rows : plan->start;
+    make_past(kind, m, a, b, 0, rows);
+    return past_closes(kind, m, a, b, start, rows) ? rows : start;
 }
 
 /* The lowest cycle row that serves, or none. */

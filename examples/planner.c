@@ -1,6 +1,6 @@
 /*
- * planner.c: a small planner that has its mark tables checked, and then has them
- * made.
+ * planner.c: a small planner that has its mark tables checked, then has them made,
+ * and has plans settled for which none can be made.
  *
  * The rule: a pinned count is never averaged until a lower one has come, and
  * the plan begins on the count that was read last before it. A count is pinned
@@ -25,9 +25,10 @@
  * The program writes rule.bin, plan.bin and marks.bin of its first plan into
  * the current folder, has the same bytes checked, and then shows four tables
  * that are answered otherwise. These marks are the planner's own. A planner
- * that has none needs the rule and the plan only: at the end the program has
- * the tables of the same four plans made. Build and run, from the repository's
- * root:
+ * that has none needs the rule and the plan only: the program then has the
+ * tables of the same four plans made. At the end it has two plans settled that
+ * no table can be made for, and where that can be done the table of the new
+ * plan made. Build and run, from the repository's root:
  *
  *   cc -std=c11 -Wall -Wextra -o planner examples/planner.c target/staticlib/libendless_run.a
  *   ./planner
@@ -268,6 +269,19 @@ static int have_made(const struct bytes *rule, const struct bytes *plan, int row
     return !endless_run_is_refusal(answer);
 }
 
+/* Has passes of the cycle laid out as start rows, as few as will do: how many they are,
+   or -1. The buffer has room for any plan; the new one's length is in its sizes. */
+static int have_settled(const struct bytes *rule, const struct bytes *plan, struct bytes *laid_out)
+{
+    static uint8_t scratch[ENDLESS_RUN_SETTLE_SCRATCH_LENGTH];
+    uint64_t answer = endless_run_settle(rule->at, rule->len, plan->at, plan->len, laid_out->at,
+                                         ENDLESS_RUN_LAID_OUT_LENGTH, scratch, sizeof scratch);
+    show(answer, endless_run_settle_message(answer));
+    if (!endless_run_is_refusal(answer))
+        laid_out->len = endless_run_plan_length(laid_out->at);
+    return endless_run_passes(answer);
+}
+
 static int write_file(const char *name, const struct bytes *b)
 {
     FILE *file = fopen(name, "wb");
@@ -313,7 +327,15 @@ static struct plan rising(void)
     return plan;
 }
 
-/* ---- Both uses ---- */
+/* The cycle of the first plan at once, and the pinned count read before the start. On
+   row 0 the count has stayed, but not when the row comes again, after a count of 3800. */
+static const struct plan sudden = {
+    1, 0, 4,
+    { { 4095, 0, 0 } },
+    { { 4095, 0, 0 }, { 4095, 0, 0 }, { 3900, 1, 0 }, { 3800, 1, 0 } }
+};
+
+/* ---- The three uses ---- */
 
 /* The planner has marks of its own. */
 static int check_own_marks(const struct bytes *rule)
@@ -371,11 +393,33 @@ static void have_marks_made(const struct bytes *rule)
     }
 }
 
+/* No table can be made for these plans as they are. The sudden one settles after one
+   pass. The rising one would after 195, and there is no room for as many rows. */
+static void have_plans_settled(const struct bytes *rule)
+{
+    static const char *const names[] = { "the sudden plan", "the rising plan" };
+    const struct plan plans[] = { sudden, rising() };
+    for (int i = 0; i < 2; i++) {
+        const struct plan *p = &plans[i];
+        struct bytes plan = make_plan(p), laid_out, made;
+        printf("Made, or else settled first, %s:\n", names[i]);
+        if (have_made(rule, &plan, p->start + p->cycle, &made))
+            continue;
+        int passes = have_settled(rule, &plan, &laid_out);
+        if (passes < 0)
+            continue;
+        printf("  passes laid out: %d\n", passes);
+        if (have_made(rule, &laid_out, p->start + (passes + 1) * p->cycle, &made))
+            check(rule, &laid_out, &made);
+    }
+}
+
 int main(void)
 {
     struct bytes rule = make_rule();
     if (!check_own_marks(&rule))
         return 1;
     have_marks_made(&rule);
+    have_plans_settled(&rule);
     return 0;
 }

@@ -14,6 +14,8 @@
  * endless run. endless_run_judge() tells whether one comparison of the rule
  * has the same truth on every pass of one row. endless_run_make() makes the
  * mark table of a rule and a plan, for whoever has no marks of their own.
+ * endless_run_settle() turns a plan for which none can be made into one of the
+ * same run for which one can, by laying out passes of the cycle as start rows.
  *
  *
  * THE THREE LAYOUTS
@@ -49,38 +51,43 @@
  * rows 0 to W - 1.
  *
  *
- * WHAT HOLDS FOR ALL THREE FUNCTIONS
+ * WHAT HOLDS FOR ALL FOUR FUNCTIONS
  *
  * Arguments. A slice is a pointer to its first byte and its length in bytes.
  * Every length is allowed, and so is every content: bytes that are no rule, no
  * plan or no mark table are refused, never trusted. A slice of length 0 is an
  * empty one; its pointer is not followed and may be null. A pointer that comes
  * with a length other than 0 must lead to that many readable bytes, and for
- * the buffer of endless_run_make() to as many that may be written as well.
- * Slices need no alignment. Those that are only read may overlap; the buffer
- * of endless_run_make() must overlap neither the rule nor the plan.
+ * the buffer of endless_run_make() and the two of endless_run_settle() to as
+ * many that may be written as well. Slices need no alignment. Those that are
+ * only read may overlap; a buffer must overlap neither the rule nor the plan,
+ * nor the other buffer of the same call.
  *
- * Effects. The one effect is that endless_run_make() writes to the buffer lent
- * to it, as said there. Every other byte lent is read during the call and
- * never written; check and judge write nothing at all. Nothing is allocated,
- * nothing is kept between calls, no file is touched and errno is left alone.
- * The same bytes always give the same answer. What the buffer held before the
- * call counts for nothing, neither in the answer nor in what is written.
+ * Effects. The one effect is that endless_run_make() and endless_run_settle()
+ * write to the buffers lent to them, as said there. Every other byte lent is
+ * read during the call and never written; check and judge write nothing at
+ * all. Nothing is allocated, nothing is kept between calls, no file is touched
+ * and errno is left alone. The same bytes always give the same answer. What a
+ * buffer held before the call counts for nothing, neither in the answer nor in
+ * what is written.
  *
  * Threads. There is no shared state. Any number of threads may call at the
  * same time, also on the same bytes, as long as nobody writes to them during a
- * call. So each call of endless_run_make() needs a buffer of its own.
+ * call. So each call of endless_run_make() and of endless_run_settle() needs
+ * buffers of its own.
  *
- * Time. Every call returns. The time is bounded by the sizes N, V, L and W, and
- * does not grow with the pass on which a comparison changes.
+ * Time. Every call returns. The time is bounded by the sizes N, V, L and W, for
+ * endless_run_settle() with 256 for W. It does not grow with the pass on which
+ * a comparison changes, but settle tries as many passes as it lays out, or as
+ * there is room for.
  *
  * Platform. The library is compiled for x86-64 Linux, with the usual calling
  * convention of C there.
  *
  * Answers. An answer is one number:
  *
- *   accepted, judged, made    the value itself, below 2^32
- *   refused                   number * 2^32 + part * 2^16 + row
+ *   accepted, judged, made, settled    the value itself, below 2^32
+ *   refused                            number * 2^32 + part * 2^16 + row
  *
  * where the refusal's number is one of enum endless_run_refusal, and part and
  * row are 0 where the refusal names none. The functions at the end of this
@@ -102,7 +109,7 @@ extern "C" {
  * declared here. It is raised by 1 with each change of a layout, of the meaning
  * of an answer or of the interface that a caller could notice.
  */
-#define ENDLESS_RUN_VERSION 3
+#define ENDLESS_RUN_VERSION 4
 
 /* The kind byte of a part. The comments give its operand: two terms, one part,
    or two parts a and b in this order. */
@@ -156,6 +163,11 @@ enum endless_run_form {
 #define ENDLESS_RUN_LONGEST_MARKS \
     (4 + ENDLESS_RUN_MOST_PARTS * ENDLESS_RUN_MOST_ROWS + 2 * ENDLESS_RUN_MOST_PARTS)
 
+/* The lengths in bytes of the two buffers of endless_run_settle(): 16648, room
+   for the longest plan, and 16516. */
+#define ENDLESS_RUN_LAID_OUT_LENGTH ENDLESS_RUN_LONGEST_PLAN
+#define ENDLESS_RUN_SETTLE_SCRATCH_LENGTH 16516
+
 /*
  * The refusals. Each function looks for its own in the order of their numbers,
  * and an answer carries the first that applies:
@@ -163,6 +175,7 @@ enum endless_run_form {
  *   endless_run_check()    1 to 11
  *   endless_run_judge()    1 to 6, 12
  *   endless_run_make()     1 to 6, 13, 14
+ *   endless_run_settle()   1 to 6, 13, 15
  *
  * Refusals 9, 10 and 11 are looked for on one part before the next part, the
  * lowest part first. "Part" and "row" say what the refusal names.
@@ -225,16 +238,24 @@ enum endless_run_refusal {
     ENDLESS_RUN_ABSENT = 12,
 
     /* The length of the buffer lent to endless_run_make() is not the one that
-       the mark table has, ENDLESS_RUN_MARKS_LENGTH(N, W). A longer buffer is
+       the mark table has, ENDLESS_RUN_MARKS_LENGTH(N, W); or endless_run_settle()
+       is lent a laid_out that is not ENDLESS_RUN_LAID_OUT_LENGTH bytes long or a
+       scratch that is not ENDLESS_RUN_SETTLE_SCRATCH_LENGTH. A longer buffer is
        refused as well. */
     ENDLESS_RUN_BUFFER_LENGTH = 13,
 
     /* A part does not close, so that no mark table of this rule and this plan
        is accepted: its truth on a cycle row is not the same on all passes.
        Part: the lowest such part, also one that nobody names; row: as with
-       refusal 10. This is the one refusal that writes: every byte of the
-       buffer is 0 after it. */
-    ENDLESS_RUN_NO_TABLE = 14
+       refusal 10. This is the one refusal of endless_run_make() that writes:
+       every byte of the buffer is 0 after it. */
+    ENDLESS_RUN_NO_TABLE = 14,
+
+    /* No number of passes can be laid out after which every part closes, with
+       256 rows or fewer and with all readings in 4 bytes. This is the one
+       refusal of endless_run_settle() that writes: every byte of the scratch is
+       0 after it. */
+    ENDLESS_RUN_NO_LAYOUT = 15
 };
 
 /* What endless_run_judge() finds. */
@@ -333,7 +354,61 @@ uint64_t endless_run_make(const uint8_t *rule, size_t rule_len,
                           const uint8_t *plan, size_t plan_len,
                           uint8_t *marks, size_t marks_len);
 
-/* 1 if the answer is a refusal; 0 if it is a verdict or a finding. */
+/*
+ * Settle a plan: lay out the fewest passes of its cycle as start rows after
+ * which every part of the rule closes, so that marks can be made.
+ *
+ *   rule, rule_len            the rule
+ *   plan, plan_len            the plan
+ *   laid_out, laid_out_len    the buffer that the new plan is written to; its
+ *                             length is ENDLESS_RUN_LAID_OUT_LENGTH, no more
+ *                             and no less
+ *   scratch, scratch_len      a buffer to work in; its length is
+ *                             ENDLESS_RUN_SETTLE_SCRATCH_LENGTH, no more and no
+ *                             less
+ *
+ * Returns
+ *
+ *   0 to 255    settled: so many passes are laid out. 0 is an answer like the
+ *               others: every part closes as it is, and the new plan is a copy
+ *   otherwise   a refusal, with number 1 to 6, 13 or 15
+ *
+ * When the buffers are written:
+ *
+ *   settled              the new plan at the front of laid_out, the bytes
+ *                        behind it keep their values; every byte of the
+ *                        scratch, with 0
+ *   refusal 15           no byte of laid_out; every byte of the scratch, with 0
+ *   any other refusal    no byte: both buffers are as they were before the call
+ *
+ * No byte outside the two buffers is ever written. Neither may overlap the
+ * rule, the plan or the other.
+ *
+ * With n passes laid out the new plan has the sizes V, P + n * C, C and L. Its
+ * lead-in rows are copied. Row t, start row or cycle row, has the readings at
+ * position t of the first plan's run. The drifts of the cycle rows stay; all
+ * others are 0. So it has the same reading as the first plan at every position,
+ * lead-in included, and each part of the rule has the same truth there. It has
+ * P + n * C + C rows and ENDLESS_RUN_PLAN_LENGTH(V, L, P + n * C + C) bytes, as
+ * the sizes at its front say: endless_run_plan_length(laid_out) is that length,
+ * to be given on as plan_len.
+ *
+ * A part closes when it has on each cycle row the same truth on all passes.
+ * Every part counts, also one that nobody names. So for the new plan
+ * endless_run_make() makes a table, and with fewer passes laid out it would
+ * answer 14. Where all drifts are 0, the answer is at most 4 plus the deepest
+ * nesting of Y, Z, S and T in any part, if there is room for as many passes.
+ * Once refusals 1 to 6 and 13 are cleared, the answer is refusal 15 exactly
+ * when no number n works with which the new plan has 256 rows or fewer and all
+ * its readings fit 4 bytes, also those of channels that the rule never reads.
+ */
+uint64_t endless_run_settle(const uint8_t *rule, size_t rule_len,
+                            const uint8_t *plan, size_t plan_len,
+                            uint8_t *laid_out, size_t laid_out_len,
+                            uint8_t *scratch, size_t scratch_len);
+
+/* 1 if the answer is a refusal; 0 if it is a verdict, a finding or a number of
+   passes. */
 static inline int endless_run_is_refusal(uint64_t answer)
 {
     return (answer >> 32) != 0;
@@ -376,9 +451,26 @@ static inline int endless_run_finding(uint64_t answer)
     return answer <= ENDLESS_RUN_CHANGES ? (int)answer : -1;
 }
 
-/* What endless_run_message(), endless_run_judge_message() and
-   endless_run_make_message() say of a refusal, by its number; of any other
-   number, that it is no answer. */
+/* The number of passes in an answer of endless_run_settle(), 0 to 255; -1 if
+   the answer is a refusal, or no answer at all. */
+static inline int endless_run_passes(uint64_t answer)
+{
+    return answer < ENDLESS_RUN_MOST_ROWS ? (int)answer : -1;
+}
+
+/* The length in bytes that a plan has by the sizes in its first 8 bytes, which
+   must be there: of the new plan at the front of laid_out. The sizes are not
+   held against their ranges. */
+static inline size_t endless_run_plan_length(const uint8_t *plan)
+{
+    size_t channels = plan[0] + 256u * plan[1], start = plan[2] + 256u * plan[3];
+    size_t cycle = plan[4] + 256u * plan[5], lead = plan[6] + 256u * plan[7];
+    return ENDLESS_RUN_PLAN_LENGTH(channels, lead, start + cycle);
+}
+
+/* What endless_run_message(), endless_run_judge_message(),
+   endless_run_make_message() and endless_run_settle_message() say of a refusal,
+   by its number; of any other number, that it is no answer. */
 static inline const char *endless_run_refusal_message(unsigned number)
 {
     switch (number) {
@@ -407,10 +499,13 @@ static inline const char *endless_run_refusal_message(unsigned number)
     case ENDLESS_RUN_ABSENT:
         return "there is no such part or row, or the part is no comparison";
     case ENDLESS_RUN_BUFFER_LENGTH:
-        return "the buffer's length is not the mark table's";
+        return "a buffer's length is not the one it has to have";
     case ENDLESS_RUN_NO_TABLE:
         return "no mark table can be accepted: "
                "a part's truth on a cycle row is not the same on all passes";
+    case ENDLESS_RUN_NO_LAYOUT:
+        return "no number of passes laid out makes every part close, "
+               "within 256 rows and readings of 4 bytes";
     default:
         return "not an answer of the checker";
     }
@@ -424,7 +519,7 @@ static inline const char *endless_run_refusal_message(unsigned number)
  * lasts as long as the program and is not to be freed or written. It begins in
  * lower case, has no full stop or line end, and names no part and no row: each
  * refusal has one text, chosen by its number alone. A number that is neither 0
- * or 1 nor a refusal of number 1 to 14 gets a text that says that it is no
+ * or 1 nor a refusal of number 1 to 15 gets a text that says that it is no
  * answer. The wording may change without a new version.
  */
 static inline const char *endless_run_message(uint64_t answer)
@@ -460,6 +555,17 @@ static inline const char *endless_run_make_message(uint64_t answer)
         return "made: the mark table is written, and the rule is false at position 0";
     if (answer == 1)
         return "made: the mark table is written, and the rule is true at position 0";
+    return endless_run_refusal_message(endless_run_number(answer));
+}
+
+/* The same for an answer of endless_run_settle(), where 0 to 255 are numbers of
+   passes. The texts of the refusals are those of endless_run_message(). */
+static inline const char *endless_run_settle_message(uint64_t answer)
+{
+    if (answer == 0)
+        return "settled: the plan is copied, as every part closes";
+    if (endless_run_passes(answer) > 0)
+        return "settled: the plan is written with passes laid out, and every part closes";
     return endless_run_refusal_message(endless_run_number(answer));
 }
 

@@ -9,7 +9,9 @@
  * it closes or not, and the same with a part above that does not name it. For each L
  * and each shift back the true table of comparisons that look back, on a lead-in that
  * goes on as the cycle does, on one that does not, and on one that has a drift; and
- * plans with a wrong L.
+ * plans with a wrong L. Rules and plans that settle after some passes, by Y, Z, S and T
+ * over one another or by a drift, or for which there is no room; and lengths of the
+ * buffers of settle.
  */
 #include "../support/examples.h"
 
@@ -160,6 +162,64 @@ static void write_past(enum kind kind, int parts, int start, int bits)
     write_input(name, 0, (unsigned)start);
 }
 
+/* Y, Z, S or T over one another, so deep, over x = 1 read some positions back, on a
+   cycle whose first row has reading 1. */
+static void write_late(enum kind kind, int depth, int back, int start, int cycle)
+{
+    char name[64];
+    start_rule(&rule, depth + 1, 1);
+    write_comparison(&rule, 0, EQUAL, reading(0, -back), constant(1));
+    for (int part = 1; part <= depth; part++)
+        write_formula(&rule, part, &(struct formula){ .kind = kind, .a = 0, .b = part - 1 });
+    start_plan_with_lead(&plan, 1, back / 2, start, cycle);
+    write_reading(&plan, start, 0, 1);
+    write_true_marks_of(&marks, &space, &rule, &plan);
+    snprintf(name, sizeof name, "late-%d-deep-%d-back-%d-start-%d-cycle-%d", (int)kind, depth, back,
+             start, cycle);
+    write_input(name, LAID_OUT_LENGTH, SCRATCH_LENGTH - 1);
+}
+
+/* x crosses its limit after so many passes, and y has room in 32 bits for some on the
+   first cycle row. */
+static void write_crossing(int passes, int room, int start, int cycle)
+{
+    static const unsigned lengths[][2] = {
+        { LAID_OUT_LENGTH - 1, SCRATCH_LENGTH }, { LAID_OUT_LENGTH + 1, SCRATCH_LENGTH },
+        { LAID_OUT_LENGTH, SCRATCH_LENGTH - 1 }, { LAID_OUT_LENGTH, SCRATCH_LENGTH + 1 },
+        { SCRATCH_LENGTH, LAID_OUT_LENGTH },     { 0, 0 },
+    };
+    char name[64];
+    start_rule(&rule, 2, 2);
+    write_comparison(&rule, 0, LESS, reading(0, 0), constant(passes));
+    write_comparison(&rule, 1, LESS, constant(0), constant(1));
+    start_plan_with_lead(&plan, 2, 1, start, cycle);
+    for (int row = start; row < start + cycle; row++)
+        write_drift(&plan, row, 0, 1);
+    write_reading(&plan, start, 1, room % 2 ? INT32_MAX - 3 * room : INT32_MIN + 3 * room);
+    write_drift(&plan, start, 1, room % 2 ? 3 : -3);
+    write_true_marks_of(&marks, &space, &rule, &plan);
+    snprintf(name, sizeof name, "crossing-%d-room-%d-start-%d-cycle-%d", passes, room, start,
+             cycle);
+    write_input(name, lengths[passes % 6][0], lengths[passes % 6][1]);
+}
+
+static void write_all_late(void)
+{
+    for (int kind = YESTERDAY; kind <= TRIGGER; kind++)
+        for (int depth = 0; depth <= 4; depth += 2)
+            for (int back = 0; back <= 4; back += 2)
+                for (int cycle = 1; cycle <= 3; cycle++)
+                    write_late((enum kind)kind, depth, back, cycle % 2 ? 0 : 2, cycle);
+    for (int passes = 0; passes <= 5; passes++)
+        for (int room = 3; room <= 4; room++) {
+            write_crossing(passes, room, 0, 1);
+            write_crossing(passes, room, 1, 2);
+            write_crossing(passes, room, 256 - 4 * 7, 7);
+        }
+    for (int passes = 254; passes <= 257; passes++)
+        write_crossing(passes, 300, 0, 1);
+}
+
 int main(int argc, char **argv)
 {
     if (argc != 2) {
@@ -174,6 +234,7 @@ int main(int argc, char **argv)
             for (int shift = -4; shift <= -1; shift++)
                 write_looking_back(lead, start, shift);
     write_wrong_leads();
+    write_all_late();
     for (int kind = YESTERDAY; kind <= TRIGGER; kind++)
         for (int start = 0; start < 3; start++)
             for (int bits = 0; bits < 64; bits++) {

@@ -1,16 +1,17 @@
 /*
- * fuzz.c: check, judge and make on bytes that a fuzzer makes up.
+ * fuzz.c: check, judge, make and settle on bytes that a fuzzer makes up.
  *
  * An input is cut into a question: 2 bytes each for the length of the rule, the
  * length of the plan, the part and the row, then the rule, the plan and, to the
  * end, the mark table. Lengths that are too long are cut off. The mark table is
  * also what the buffer of make has in it, once in its own length and once in the
- * length that the sizes of the rule and the plan give.
+ * length that the sizes of the rule and the plan give; and what the two buffers of
+ * settle have, in the right lengths, and in lengths that the part and the row give.
  *
  * Each function is called twice and must answer alike, leave every byte lent as
- * it was, but for the buffer of make, and stay within the slices (lend.c). Where
- * the sizes are small enough for it to be quick, the answers and the buffer are
- * held to the second evaluator too.
+ * it was, but for the buffers of make and settle, and stay within the slices
+ * (lend.c). Where the sizes are small enough for it to be quick, the answers and the
+ * buffers are held to the second evaluator too.
  *
  * With -DWITH_LIBFUZZER the entry is LLVMFuzzerTestOneInput alone. Without it
  * there is a main for AFL and for looking at single inputs: it reads the files
@@ -23,7 +24,7 @@
 #include <stdlib.h>
 #include <string.h>
 
-enum { HEAD = 8, LONGEST = 65536, MOST_CELLS = 2048 };
+enum { HEAD = 8, LONGEST = 65536, MOST_CELLS = 2048, MOST_TRIES = 1024 };
 
 struct question {
     struct slice rule, plan, marks;
@@ -62,6 +63,14 @@ static bool is_cheap(const struct question *q)
         return true;
     unsigned rows = field2(q->plan.at + 2) + field2(q->plan.at + 4);
     return rows > MOST_ROWS || field2(q->rule.at) * rows <= MOST_CELLS;
+}
+
+/* Few enough parts, and plans to try, for it to be quick as well. */
+static bool is_cheap_to_settle(const struct question *q)
+{
+    if (q->rule.len < 4 || q->plan.len < 8 || field2(q->plan.at + 4) == 0)
+        return true;
+    return field2(q->rule.at) * (MOST_ROWS / field2(q->plan.at + 4)) <= MOST_TRIES;
 }
 
 static void hold(bool right, const char *what, uint64_t answer, uint64_t due)
@@ -114,16 +123,16 @@ static void try_judge(const struct question *q)
 /* The bytes of the mark table in a buffer of some length, or their complements. */
 static void fill(uint8_t *buffer, size_t len, struct slice marks, uint8_t mask)
 {
-    for (size_t i = 0; i < len; i++)
-        buffer[i] = (uint8_t)((i < marks.len ? marks.at[i] : 0) ^ mask);
+    size_t of_marks = marks.len < len ? marks.len : len;
+    for (size_t i = 0; i < of_marks; i++)
+        buffer[i] = marks.at[i] ^ mask;
+    memset(buffer + of_marks, mask, len - of_marks);
 }
 
 static bool all_zero(const uint8_t *bytes, size_t len)
 {
-    for (size_t i = 0; i < len; i++)
-        if (bytes[i] != 0)
-            return false;
-    return true;
+    static const uint8_t zero[LONGEST];
+    return memcmp(bytes, zero, len) == 0;
 }
 
 /* Has this answer left the buffer as it should: with a table that is accepted,
@@ -160,6 +169,94 @@ static void try_make(const struct question *q, size_t len)
     hold(memcmp(first, before, len) == 0, "what make made", answer, due);
 }
 
+/* ---- Settle ---- */
+
+/* The two buffers of settle. */
+struct buffers {
+    uint8_t laid_out[LONGEST], scratch[LONGEST];
+    size_t laid_out_len, scratch_len;
+};
+
+/* Of these lengths, with the bytes of the mark table or their complements. */
+static void fill_both(struct buffers *b, size_t laid_out_len, size_t scratch_len,
+                      struct slice marks, uint8_t mask)
+{
+    b->laid_out_len = laid_out_len;
+    b->scratch_len = scratch_len;
+    fill(b->laid_out, laid_out_len, marks, mask);
+    fill(b->scratch, scratch_len, marks, mask);
+}
+
+static struct asked ask_in(const struct question *q, struct buffers *b)
+{
+    return ask_settle(q->rule, q->plan, b->laid_out, b->laid_out_len, b->scratch, b->scratch_len);
+}
+
+static bool same_buffers(const struct buffers *a, const struct buffers *b)
+{
+    return memcmp(a->laid_out, b->laid_out, a->laid_out_len) == 0 &&
+           memcmp(a->scratch, b->scratch, a->scratch_len) == 0;
+}
+
+/* The plan at the front of a buffer. */
+static struct slice plan_at(const uint8_t *at)
+{
+    size_t rows = field2(at + 2) + field2(at + 4);
+    return (struct slice){ at, 8 + 8 * field2(at) * (field2(at + 6) + rows) };
+}
+
+/* Is a table made for the plan laid out? */
+static bool can_be_made(const struct question *q, struct slice plan)
+{
+    static uint8_t made[LONGEST];
+    unsigned rows = field2(plan.at + 2) + field2(plan.at + 4);
+    size_t len = table_length((int)field2(q->rule.at), (int)rows);
+    return ask_make(q->rule, plan, made, len).answer <= 1;
+}
+
+/* Has this answer left the buffers as it should: with a plan before the bytes that
+   were there, and a scratch of zero bytes; with such a scratch alone; or as they were? */
+static bool are_left_right(const struct question *q, uint64_t answer, const struct buffers *before,
+                           const struct buffers *after)
+{
+    size_t written = 0;
+    if (answer <= 255) {
+        struct slice plan = plan_at(after->laid_out);
+        if (plan.len > after->laid_out_len || !can_be_made(q, plan))
+            return false;
+        written = plan.len;
+    }
+    bool clears = answer <= 255 || answer >= refusal(14, 0, 0);
+    return memcmp(before->laid_out + written, after->laid_out + written,
+                  before->laid_out_len - written) == 0 &&
+           (clears ? all_zero(after->scratch, after->scratch_len)
+                   : memcmp(before->scratch, after->scratch, after->scratch_len) == 0);
+}
+
+static void try_settle(const struct question *q, size_t laid_out_len, size_t scratch_len)
+{
+    static struct buffers before, first, again;
+    static struct truth space;
+    fill_both(&first, laid_out_len, scratch_len, q->marks, 0);
+    fill_both(&again, laid_out_len, scratch_len, q->marks, 0xFF);
+    struct asked one = ask_in(q, &first), two = ask_in(q, &again);
+    uint64_t answer = one.answer;
+    hold(one.unchanged && two.unchanged, "settle wrote beside its buffers", answer, answer);
+    hold(answer == two.answer, "settle answers twice", answer, two.answer);
+    fill_both(&before, laid_out_len, scratch_len, q->marks, 0xFF);
+    hold(are_left_right(q, answer, &before, &again), "what settle left", answer, answer);
+    fill_both(&before, laid_out_len, scratch_len, q->marks, 0);
+    hold(are_left_right(q, answer, &before, &first), "what settle left", answer, answer);
+    hold(answer > 255 || memcmp(first.laid_out, again.laid_out, plan_at(first.laid_out).len) == 0,
+         "settle lays out twice", answer, answer);
+    if (!is_cheap_to_settle(q))
+        return;
+    uint64_t due = second_settle(&space, q->rule, q->plan, before.laid_out, laid_out_len,
+                                 before.scratch, scratch_len);
+    hold(answer == due, "settle", answer, due);
+    hold(same_buffers(&first, &before), "what settle laid out", answer, due);
+}
+
 /* The length of the table by the sizes of the rule and the plan, if they are there
    and right. */
 static size_t right_length(const struct question *q)
@@ -181,6 +278,8 @@ int LLVMFuzzerTestOneInput(const uint8_t *data, size_t len)
     try_judge(&q);
     try_make(&q, q.marks.len);
     try_make(&q, right_length(&q));
+    try_settle(&q, LAID_OUT_LENGTH, SCRATCH_LENGTH);
+    try_settle(&q, q.part, q.row);
     return 0;
 }
 

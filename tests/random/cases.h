@@ -21,6 +21,10 @@ extern const char *const kind_names[TRIGGER + 1];
 /* Make a case with the dice as they are. */
 void make_case(void);
 
+/* Make a rule and a plan, and no table, with parts that close after some passes are
+   laid out, or never (late_cases.c). */
+void make_late_case(void);
+
 /* A comparison that suits the plan of the case, whether it closes or not. */
 struct formula some_comparison(void);
 

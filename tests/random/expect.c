@@ -64,10 +64,12 @@ static bool unpacks(uint64_t answer)
     uint64_t packed = number * ((uint64_t)1 << 32) + endless_run_part(answer) * 65536u +
                       endless_run_row(answer);
     if (endless_run_is_refusal(answer))
-        return number >= 1 && number <= 14 && packed == answer &&
-               endless_run_verdict(answer) == 0 && endless_run_finding(answer) == -1;
-    return packed == 0 && answer <= 2 && endless_run_verdict(answer) == (answer == 1) &&
-           endless_run_finding(answer) == (int)answer;
+        return number >= 1 && number <= 15 && packed == answer &&
+               endless_run_verdict(answer) == 0 && endless_run_finding(answer) == -1 &&
+               endless_run_passes(answer) == -1;
+    return packed == 0 && endless_run_verdict(answer) == (answer == 1) &&
+           endless_run_finding(answer) == (answer <= 2 ? (int)answer : -1) &&
+           endless_run_passes(answer) == (int)answer;
 }
 
 static const char *fault_in_answer(struct asked asked, uint64_t second, uint64_t answer)
@@ -203,6 +205,156 @@ void expect_make_as_checked(const char *name, const struct sheet *rule, const st
     else if (endless_run_number(checked) == ENDLESS_RUN_CLOSING)
         expect_make(name, rule, plan, &buffer,
                     refusal(14, (int)endless_run_part(checked), (int)endless_run_row(checked)));
+}
+
+/* ---- Settle ---- */
+
+static void fill_with_non_zero(struct sheet *buffer)
+{
+    fill_at_random(buffer);
+    for (size_t i = 0; i < buffer->len; i++)
+        if (buffer->at[i] == 0)
+            buffer->at[i] = 0xA5;
+}
+
+int deepest_nesting(const struct rule *rule)
+{
+    int nesting[MOST_PARTS], deepest = 0;
+    for (int part = 0; part < rule->parts; part++) {
+        const struct formula *f = &rule->part[part];
+        nesting[part] = 0;
+        if (is_comparison(f->kind))
+            continue;
+        nesting[part] = nesting[f->a];
+        if (names_two_parts(f->kind) && nesting[f->b] > nesting[part])
+            nesting[part] = nesting[f->b];
+        nesting[part] += f->kind >= YESTERDAY;
+        deepest = nesting[part] > deepest ? nesting[part] : deepest;
+    }
+    return deepest;
+}
+
+bool is_still(const struct plan *plan)
+{
+    for (int row = plan->start; row < plan->rows; row++)
+        for (int channel = 0; channel < plan->channels; channel++)
+            if (plan->drift[row][channel] != 0)
+                return false;
+    return true;
+}
+
+/* Two passes behind the rows of both plans are enough: from there on the readings of
+   a row are straight lines in the pass. */
+static bool same_run(const struct plan *a, const struct plan *b)
+{
+    for (int position = -MOST_LEAD - 1; position < a->rows + b->rows + 2 * a->cycle; position++)
+        if (!runs_agree(a, b, position))
+            return false;
+    return true;
+}
+
+/* Do make and check find every part closed, or one open, as is said? */
+static bool make_has_it(const struct rule *r, const struct plan *p, struct slice rule,
+                        struct slice plan, bool closes)
+{
+    static struct sheet buffer, due;
+    resize(&buffer, table_length(r->parts, p->rows));
+    resize(&due, buffer.len);
+    uint64_t second = second_make(&truth_space, rule, plan, due.at, due.len);
+    struct asked asked = ask_make(rule, plan, buffer.at, buffer.len);
+    return endless_run_is_refusal(second) != closes && asked.answer == second &&
+           same_bytes(&buffer, &due) && as_check_has_it(rule, plan, &buffer, second);
+}
+
+/* Some passes of the plan laid out, fewer if there is no room: one part is open. */
+static bool is_open_after(const struct rule *r, struct plan p, struct slice rule, int passes)
+{
+    static struct sheet plan;
+    while (passes > 0 && lay_out_pass(&p))
+        passes--;
+    resize(&plan, plan_length(&p));
+    write_plan(&p, plan.at);
+    return make_has_it(r, &p, rule, slice_of(&plan), false);
+}
+
+static const char *fault_in_layout(const struct rule *r, const struct plan *p, struct slice rule,
+                                   const struct sheet *laid_out, int passes)
+{
+    struct plan new;
+    struct slice plan = { laid_out->at, endless_run_plan_length(laid_out->at) };
+    if (decode_plan(plan, r->channels, &new) != 0)
+        return "what is laid out is no plan";
+    if (new.cycle != p->cycle || new.start != p->start + passes * p->cycle)
+        return "another number of passes is laid out";
+    if (!same_run(p, &new))
+        return "the plan laid out has another run";
+    if (!make_has_it(r, &new, rule, plan, true))
+        return "make has it otherwise";
+    if (passes > 0 && !is_open_after(r, *p, rule, passes - 1))
+        return "make has it otherwise with one pass fewer";
+    if (is_still(p) && passes > 4 + deepest_nesting(r))
+        return "more passes than 4 and the nesting";
+    return NULL;
+}
+
+/* Do make and check have it as settle says? */
+static const char *fault_in_settling(struct slice rule, struct slice plan,
+                                     const struct sheet *laid_out, uint64_t answer)
+{
+    struct rule r;
+    struct plan p;
+    if (decode_rule(rule, &r) != 0 || decode_plan(plan, r.channels, &p) != 0)
+        return NULL;
+    if (!endless_run_is_refusal(answer))
+        return fault_in_layout(&r, &p, rule, laid_out, endless_run_passes(answer));
+    if (endless_run_number(answer) == ENDLESS_RUN_NO_LAYOUT &&
+        !is_open_after(&r, p, rule, MOST_ROWS))
+        return "make has it otherwise with all passes";
+    return NULL;
+}
+
+bool expect_settle(const char *name, const struct sheet *rule, const struct sheet *plan,
+                   struct sheet *laid_out, struct sheet *scratch, uint64_t answer)
+{
+    static struct sheet due_laid_out, due_scratch;
+    struct slice r = slice_of(rule), p = slice_of(plan);
+    fill_with_non_zero(laid_out);
+    fill_with_non_zero(scratch);
+    due_laid_out = *laid_out;
+    due_scratch = *scratch;
+    uint64_t second = second_settle(&truth_space, r, p, due_laid_out.at, due_laid_out.len,
+                                    due_scratch.at, due_scratch.len);
+    struct asked asked =
+        ask_settle(r, p, laid_out->at, laid_out->len, scratch->at, scratch->len);
+    const char *fault = fault_in_answer(asked, second, answer);
+    if (fault == NULL && !same_bytes(laid_out, &due_laid_out))
+        fault = "the buffer for the plan is not left as it should be";
+    if (fault == NULL && !same_bytes(scratch, &due_scratch))
+        fault = "the scratch is not left as it should be";
+    if (fault == NULL)
+        fault = fault_in_settling(r, p, laid_out, asked.answer);
+    return count_answers(name, fault, answer, asked.answer, second);
+}
+
+bool expect_passes(const char *name, const struct sheet *rule, const struct sheet *plan,
+                   uint64_t answer)
+{
+    static struct sheet laid_out, scratch;
+    resize(&laid_out, ENDLESS_RUN_LAID_OUT_LENGTH);
+    resize(&scratch, ENDLESS_RUN_SETTLE_SCRATCH_LENGTH);
+    return expect_settle(name, rule, plan, &laid_out, &scratch, answer);
+}
+
+void expect_laid_out(const char *name, const struct sheet *rule, const struct sheet *plan,
+                     const struct sheet *due, uint64_t passes)
+{
+    static struct sheet laid_out, scratch;
+    resize(&laid_out, ENDLESS_RUN_LAID_OUT_LENGTH);
+    resize(&scratch, ENDLESS_RUN_SETTLE_SCRATCH_LENGTH);
+    if (!expect_settle(name, rule, plan, &laid_out, &scratch, passes))
+        return;
+    resize(&laid_out, endless_run_plan_length(laid_out.at));
+    count(name, same_bytes(&laid_out, due) ? NULL : "another plan is laid out");
 }
 
 /* ---- Random cases ---- */

@@ -41,6 +41,28 @@ void expect_made(const char *name, const struct sheet *rule, const struct sheet 
 void expect_make_as_checked(const char *name, const struct sheet *rule, const struct sheet *plan,
                             const struct sheet *marks, uint64_t checked);
 
+/* The same of settle. Both buffers are lent with their lengths, and with random bytes
+   other than 0. The plan laid out must have the same reading as the first one at every
+   position; make must make a table for it, which check accepts; with one pass fewer
+   make must answer 14. Where nothing drifts, the passes must be 4 and the deepest
+   nesting of Y, Z, S and T at most. On 15 make must answer 14 with as many passes as
+   there is room for. */
+bool expect_settle(const char *name, const struct sheet *rule, const struct sheet *plan,
+                   struct sheet *laid_out, struct sheet *scratch, uint64_t answer);
+
+/* Settle, in buffers of the right lengths. */
+bool expect_passes(const char *name, const struct sheet *rule, const struct sheet *plan,
+                   uint64_t answer);
+
+/* Settle lays out this very plan, with so many passes. */
+void expect_laid_out(const char *name, const struct sheet *rule, const struct sheet *plan,
+                     const struct sheet *due, uint64_t passes);
+
+/* How deep Y, Z, S and T are nested in a rule, in all parts of it. */
+int deepest_nesting(const struct rule *rule);
+
+bool is_still(const struct plan *plan);
+
 /* Print a count, and fail if it is below its floor: so many in 10000 cases. */
 void hold_to_floor(const char *name, unsigned long n, unsigned long cases, unsigned long in_10000);
 
@@ -56,6 +78,7 @@ void test_examples(void);
 void test_neighbours(void);
 void test_lead_in(void);
 void test_making(void);
+void test_settling(void);
 void test_vectors(void);
 void test_header(void);
 void test_random(uint64_t seed, unsigned long cases);

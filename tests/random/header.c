@@ -248,14 +248,52 @@ static void maker(void)
                            endless_run_row(none) == START && endless_run_verdict(none) == 0);
 }
 
+/* ---- Settle ---- */
+
+static uint64_t settle(uint8_t *laid_out, size_t len)
+{
+    static uint8_t scratch[ENDLESS_RUN_SETTLE_SCRATCH_LENGTH];
+    return endless_run_settle(rule.at, rule.len, plan.at, plan.len, laid_out, len, scratch,
+                              sizeof scratch);
+}
+
+/* x falls from 1 on the cycle row, and part 0 is x < 1. */
+static void settler(void)
+{
+    static uint8_t laid_out[ENDLESS_RUN_LAID_OUT_LENGTH];
+    put_readings_after(LEAD);
+    start_rule(&rule, 1, CHANNELS);
+    put_comparison(0, ENDLESS_RUN_KIND_LESS, 0, 0, 1);
+    expect("settled as it is", endless_run_passes(settle(laid_out, sizeof laid_out)) == 0);
+    expect("as long as the plan", endless_run_plan_length(laid_out) == plan.len);
+    write_drift(&plan, ROWS - 1, 0, -1);
+    expect("settled", endless_run_passes(settle(laid_out, sizeof laid_out)) == 1);
+    size_t longer = ENDLESS_RUN_PLAN_LENGTH(CHANNELS, LEAD, ROWS + CYCLE);
+    expect("as long as its sizes say", endless_run_plan_length(laid_out) == longer);
+    marks.len = ENDLESS_RUN_MARKS_LENGTH(1, ROWS + CYCLE);
+    expect("made for the new plan", endless_run_make(rule.at, rule.len, laid_out, longer, marks.at,
+                                                     marks.len) == 0);
+    expect("refused for the length", endless_run_number(settle(laid_out, longer)) ==
+                                         ENDLESS_RUN_BUFFER_LENGTH);
+    put_comparison(0, ENDLESS_RUN_KIND_LESS, 0, 0, -1000);
+    uint64_t none = settle(laid_out, sizeof laid_out);
+    expect("no layout", endless_run_number(none) == ENDLESS_RUN_NO_LAYOUT &&
+                            endless_run_passes(none) == -1);
+    expect("passes: none in other numbers",
+           endless_run_passes(255) == 255 && endless_run_passes(256) == -1 &&
+               endless_run_passes(UINT32_MAX) == -1 && endless_run_passes(UINT64_MAX) == -1);
+    expect("lengths of the buffers",
+           sizeof laid_out == 16648 && ENDLESS_RUN_SETTLE_SCRATCH_LENGTH == 16516);
+}
+
 /* ---- Messages ---- */
 
 /* A word of each refusal's text. */
-enum { REFUSALS = 14 };
+enum { REFUSALS = 15 };
 static const char *const words[REFUSALS + 1] = {
     "",           "rule's",    "kind",     "operand", "plan's",  "channels",   "lead-in or start",
     "mark table", "mark byte", "equation", "passes",  "witness", "comparison", "buffer",
-    "no mark table",
+    "no mark table", "no number of passes",
 };
 
 static bool says(const char *text, const char *word)
@@ -271,8 +309,8 @@ static bool same_text(const char *a, const char *b)
 /* Texts that tell apart what they are for. */
 static void messages(void)
 {
-    static const uint64_t no_answer[] = { 3, UINT32_MAX, (uint64_t)15 << 32, UINT64_MAX };
-    const char *texts[REFUSALS + 8];
+    static const uint64_t no_answer[] = { 256, UINT32_MAX, (uint64_t)16 << 32, UINT64_MAX };
+    const char *texts[REFUSALS + 10];
     int count = 0;
     for (int number = 1; number <= REFUSALS; number++) {
         const char *text = endless_run_message(refusal(number, 0, 0));
@@ -283,6 +321,8 @@ static void messages(void)
                same_text(text, endless_run_judge_message(refusal(number, 63, 255))));
         expect("make's message of a refusal",
                same_text(text, endless_run_make_message(refusal(number, 63, 255))));
+        expect("settle's message of a refusal",
+               same_text(text, endless_run_settle_message(refusal(number, 63, 255))));
         texts[count++] = text;
     }
     const char *none = texts[count++] = endless_run_message(2); /* of judge alone */
@@ -295,6 +335,9 @@ static void messages(void)
     const char *const *made = texts + count;
     texts[count++] = endless_run_make_message(0);
     texts[count++] = endless_run_make_message(1);
+    const char *const *settled = texts + count;
+    texts[count++] = endless_run_settle_message(0);
+    texts[count++] = endless_run_settle_message(1);
     expect("message: no answer", says(none, "not an answer"));
     expect("message: false", says(checked[0], "accepted") && says(checked[0], "false"));
     expect("message: true", says(checked[1], "accepted") && says(checked[1], "true"));
@@ -304,6 +347,12 @@ static void messages(void)
     expect("message: made, false", says(made[0], "made") && says(made[0], "false"));
     expect("message: made, true", says(made[1], "made") && says(made[1], "true"));
     expect("make's message: no answer", same_text(none, endless_run_make_message(2)));
+    expect("message: of settle alone", same_text(none, endless_run_message(3)) &&
+                                           same_text(none, endless_run_judge_message(3)) &&
+                                           same_text(none, endless_run_make_message(3)));
+    expect("message: settled, a copy", says(settled[0], "settled") && says(settled[0], "copied"));
+    expect("message: settled", says(settled[1], "settled") && says(settled[1], "passes"));
+    expect("message: most passes", same_text(settled[1], endless_run_settle_message(255)));
     for (int i = 0; i < count; i++)
         for (int k = 0; k < i; k++)
             expect("two messages", texts[i] != NULL && !same_text(texts[i], texts[k]));
@@ -311,7 +360,8 @@ static void messages(void)
         expect("message of no answer",
                same_text(none, endless_run_message(no_answer[i])) &&
                    same_text(none, endless_run_judge_message(no_answer[i])) &&
-                   same_text(none, endless_run_make_message(no_answer[i])));
+                   same_text(none, endless_run_make_message(no_answer[i])) &&
+                   same_text(none, endless_run_settle_message(no_answer[i])));
 }
 
 void test_header(void)
@@ -320,5 +370,6 @@ void test_header(void)
     shifts();
     sizes();
     maker();
+    settler();
     messages();
 }

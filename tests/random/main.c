@@ -5,8 +5,9 @@
  *   random [SEED [CASES]]
  *
  * The worked examples, the neighbours of each refusal, lead-in rows, the tables that
- * are made, worked vectors from the papers, the header's constants and functions,
- * then random cases against the second evaluator. The same seed gives the same cases.
+ * are made, the passes that are laid out, worked vectors from the papers, the header's
+ * constants and functions, then random cases against the second evaluator. The same
+ * seed gives the same cases.
  * The last line is 'N passed, M failed'; the exit status is 0 only if M is 0.
  */
 #include "expect.h"
@@ -30,6 +31,7 @@ int main(int argc, char **argv)
     run_group("neighbours of the refusals", test_neighbours);
     run_group("lead-in rows", test_lead_in);
     run_group("tables made", test_making);
+    run_group("passes laid out", test_settling);
     run_group("worked vectors", test_vectors);
     run_group("header", test_header);
     test_random(seed, cases);

@@ -4,7 +4,7 @@
  *
  * The base is a rule with one part of each kind, part k - 1 being of kind k, on
  * a plan of two start rows and two cycle rows. Its table is written by hand. The
- * refusals of make alone are in making.c.
+ * refusals of make alone are in making.c, those of settle alone in settling.c.
  */
 #include "expect.h"
 
@@ -93,16 +93,18 @@ static void refuse_all(const char *name, uint64_t answer)
     resize(&buffer, marks.len);
     expect_judge(name, &rule, &plan, 0, 0, answer);
     expect_make(name, &rule, &plan, &buffer, answer);
+    expect_passes(name, &rule, &plan, answer);
     check(name, answer);
 }
 
-/* The sheets as they stand, with the table that is true of them, are accepted, and
-   this table is the one that is made. */
+/* The sheets as they stand, with the table that is true of them, are accepted, this
+   table is the one that is made, and no pass needs to be laid out. */
 static void accept_with_true_marks(const char *name)
 {
     write_true_marks_of(&marks, &truth_space, &rule, &plan);
     uint64_t verdict = *mark_byte(&marks, truth_space.rule.parts - 1, 0);
     expect_made(name, &rule, &plan, &marks, verdict);
+    expect_passes(name, &rule, &plan, 0);
     check(name, verdict);
 }
 

@@ -269,9 +269,13 @@ void test_random(uint64_t seed, unsigned long cases)
         ask_about_table(name);
         ask_about_comparison(name);
         ask_for_table(name);
+        ask_to_settle(name);
         ask_about_new_comparison(name);
         ask_for_table(name);
+        make_late_case();
+        ask_to_settle(name);
     }
     print_counts(cases);
     print_make_counts(cases);
+    print_settle_counts(cases);
 }

@@ -201,16 +201,21 @@ static void v8_shifted_term_and_yesterday(void)
 
 static void v9_late_to_settle(void)
 {
+    static struct sheet laid_out;
+    still_plan(1, 3, 1, (int32_t[]){ 0, 0, 1, 1 });
+    laid_out = plan;
     start_rule(&rule, 1, 1);
     equal(0, x(-1), constant(0));
     still_plan(1, 2, 1, (int32_t[]){ 0, 0, 1 });
     find_marks();
     answers("V9 Yx = 0", refusal(10, 0, 2));
+    expect_laid_out("V9 Yx = 0, settled", &rule, &plan, &laid_out, 1);
     start_rule(&rule, 2, 1);
     equal(0, x(0), constant(0));
     unary(1, YESTERDAY, 0);
     find_marks();
     answers("V9 Y(x = 0)", refusal(10, 1, 2));
+    expect_laid_out("V9 Y(x = 0), settled", &rule, &plan, &laid_out, 1);
 }
 
 /* Sorting by swaps of neighbours: channels a1, a2, a3 and p, the pair swapped. */

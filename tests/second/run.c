@@ -60,6 +60,17 @@ static whole reading_at(const struct plan *plan, int channel, int64_t position)
            (whole)pass_at(plan, position) * plan->drift[row][channel];
 }
 
+bool runs_agree(const struct plan *a, const struct plan *b, int64_t position)
+{
+    bool seen = position >= -a->lead;
+    if (seen != (position >= -b->lead))
+        return false;
+    for (int channel = 0; seen && channel < a->channels; channel++)
+        if (reading_at(a, channel, position) != reading_at(b, channel, position))
+            return false;
+    return true;
+}
+
 /* Does the term reach before position -L, where nothing is seen? */
 static bool is_unseen(const struct plan *plan, const struct term *term, int64_t position)
 {

@@ -1,8 +1,8 @@
 /*
  * second.h: a second evaluator for the endless run checker.
  *
- * It gives the answers of check, judge and make by another way than the checker
- * and shares no code with it. Truth is found from the published sentences by
+ * It gives the answers of check, judge, make and settle by another way than the
+ * checker and shares no code with it. Truth is found from the published sentences by
  * going through the positions of the run ("b at some j from t on, and a from t
  * to j - 1"), and a comparison is judged by looking at its passes. It is made to
  * be believed, not to be fast.
@@ -13,6 +13,7 @@
  *   answers.c   the answers of check and judge: refusal by refusal, and from
  *               the truth alone
  *   make.c      the mark table of the truth, and the answers of make
+ *   settle.c    passes laid out one by one, and the answers of settle
  */
 #ifndef SECOND_H
 #define SECOND_H
@@ -107,6 +108,10 @@ enum judged { ALWAYS_FALSE = 0, ALWAYS_TRUE = 1, CHANGES = 2 };
 /* Does the comparison hold at this position? */
 bool comparison_holds(const struct plan *plan, const struct formula *f, int64_t position);
 
+/* Have both runs the same reading of every channel at this position, or neither one
+   any? The plans have as many channels. */
+bool runs_agree(const struct plan *a, const struct plan *b, int64_t position);
+
 /* The position of a cycle row on a pass. */
 int64_t position_of(const struct plan *plan, int row, int64_t pass);
 
@@ -185,5 +190,26 @@ void write_table(const struct truth *truth, uint8_t *at);
    after 14 it holds the truth of the parts up to the one refused. */
 uint64_t second_make(struct truth *space, struct slice rule, struct slice plan, uint8_t *buffer,
                      size_t len);
+
+/* ---- Passes laid out (settle.c) ---- */
+
+enum { LAID_OUT_LENGTH = 16648, SCRATCH_LENGTH = 16516 };
+
+/* Lay out the first pass of the cycle as start rows. False, and the plan as it was,
+   where it would have more than 256 rows or a reading of more than 32 bits. */
+bool lay_out_pass(struct plan *plan);
+
+/* The plan as bytes, and how many they are. */
+size_t plan_length(const struct plan *plan);
+void write_plan(const struct plan *plan, uint8_t *at);
+
+/* The answer of settle: refusals 1 to 6, then 13, then the fewest passes laid out
+   with which all parts are row-periodic, or 15. The two buffers of these lengths are
+   left as settle has to leave them. The space is written over; after a number of
+   passes it holds the new plan and its truth, and after 15 the last one that was
+   tried. */
+uint64_t second_settle(struct truth *space, struct slice rule, struct slice plan,
+                       uint8_t *laid_out, size_t laid_out_len, uint8_t *scratch,
+                       size_t scratch_len);
 
 #endif

@@ -11,7 +11,7 @@
 #include <string.h>
 #include <sys/mman.h>
 
-enum { PAGE = 65536, PLACE = 16 * PAGE, LENDERS = 3, GUARD = 512, GUARD_BYTE = 0xA5 };
+enum { PAGE = 65536, PLACE = 16 * PAGE, LENDERS = 4, GUARD = 512, GUARD_BYTE = 0xA5 };
 
 /* A place to lend from, between two pages with no access. */
 struct lender {
@@ -87,22 +87,49 @@ static uint8_t *guard_of(const struct lender *lender, uint8_t *buffer, size_t le
 
 static bool stands(const uint8_t *guard)
 {
-    for (int i = 0; i < GUARD; i++)
-        if (guard[i] != GUARD_BYTE)
-            return false;
-    return true;
+    return guard[0] == GUARD_BYTE && memcmp(guard, guard + 1, GUARD - 1) == 0;
+}
+
+/* A buffer that is lent to be written. */
+struct lent {
+    uint8_t *at, *guard;
+};
+
+static struct lent lend_buffer(struct lender *lender, const uint8_t *buffer, size_t len)
+{
+    uint8_t *at = lend(lender, (struct slice){ buffer, len });
+    uint8_t *guard = guard_of(lender, at, len);
+    memset(guard, GUARD_BYTE, GUARD);
+    return (struct lent){ at, guard };
+}
+
+static void take_back(struct lent lent, uint8_t *buffer, size_t len)
+{
+    if (len > 0)
+        memcpy(buffer, lent.at, len);
 }
 
 struct asked ask_make(struct slice rule, struct slice plan, uint8_t *buffer, size_t len)
 {
     const uint8_t *r = lend(&lenders[0], rule);
     const uint8_t *p = lend(&lenders[1], plan);
-    uint8_t *m = lend(&lenders[2], (struct slice){ buffer, len });
-    uint8_t *guard = guard_of(&lenders[2], m, len);
-    memset(guard, GUARD_BYTE, GUARD);
-    uint64_t answer = endless_run_make(r, rule.len, p, plan.len, m, len);
-    bool unchanged = same(r, rule) && same(p, plan) && stands(guard);
-    if (len > 0)
-        memcpy(buffer, m, len);
-    return (struct asked){ answer, unchanged };
+    struct lent m = lend_buffer(&lenders[2], buffer, len);
+    uint64_t answer = endless_run_make(r, rule.len, p, plan.len, m.at, len);
+    take_back(m, buffer, len);
+    return (struct asked){ answer, same(r, rule) && same(p, plan) && stands(m.guard) };
+}
+
+struct asked ask_settle(struct slice rule, struct slice plan, uint8_t *laid_out,
+                        size_t laid_out_len, uint8_t *scratch, size_t scratch_len)
+{
+    const uint8_t *r = lend(&lenders[0], rule);
+    const uint8_t *p = lend(&lenders[1], plan);
+    struct lent l = lend_buffer(&lenders[2], laid_out, laid_out_len);
+    struct lent s = lend_buffer(&lenders[3], scratch, scratch_len);
+    uint64_t answer =
+        endless_run_settle(r, rule.len, p, plan.len, l.at, laid_out_len, s.at, scratch_len);
+    take_back(l, laid_out, laid_out_len);
+    take_back(s, scratch, scratch_len);
+    return (struct asked){ answer, same(r, rule) && same(p, plan) && stands(l.guard) &&
+                                       stands(s.guard) };
 }

@@ -7,8 +7,8 @@
  * the program. After the call every byte is held against what was lent. An
  * empty slice is lent by a null pointer as often as not.
  *
- * The buffer of make is lent in the same way. On its open side are guard bytes,
- * which are held against what they were as well.
+ * The buffers of make and settle are lent in the same way. On the open side of each
+ * are guard bytes, which are held against what they were as well.
  */
 #ifndef LEND_H
 #define LEND_H
@@ -27,5 +27,9 @@ struct asked ask_judge(struct slice rule, struct slice plan, uint64_t part, uint
 /* The buffer is lent with the bytes that it has, and has afterwards those that
    the call left. Unchanged: the rule, the plan and the guard bytes. */
 struct asked ask_make(struct slice rule, struct slice plan, uint8_t *buffer, size_t len);
+
+/* The same with the two buffers of settle. */
+struct asked ask_settle(struct slice rule, struct slice plan, uint8_t *laid_out,
+                        size_t laid_out_len, uint8_t *scratch, size_t scratch_len);
 
 #endif

@@ -6,14 +6,18 @@ use native.Mathlib.Omega.{arith}
 use mathlib.Core.Path.{_≡_, refl, sym, ap, _∙_, subst, subst⁻¹}
 use mathlib.Core.Bool.{Bool, true, false, not, true≢false, false≢true}
 use mathlib.Core.List.{List}
+use mathlib.Core.Option.{Option, none, some}
 use mathlib.Core.Logic.{by-cases}
 use lib.IntN.{ℤ}
+use lib.ListN.{length}
 use Rattle.fields.specs.inner.Ranges.{Bytes}
 use Rattle.cltlb.specs.Fits.{viewFits}
 use Rattle.cltlb.specs.Views.{viewOf}
 use Rattle.cltlb.specs.declared.Part.{Part}
 use Rattle.cltlb.specs.declared.View.{View}
+use Rattle.refusal.specs.Lowest.{lowest}
 use Rattle.refusal.specs.declared.Refusal.the-variants.{NoLayout}
+use Rattle.refusal.proofs.Lowest.{lowest-some}
 use Rattle.rule.specs.Layout.{partCount, channelCount}
 use Rattle.rule.specs.Take.{takeOf, viewsOf}
 use Rattle.rule.specs.declared.Taken.{Taken}
@@ -34,10 +38,10 @@ use Rattle.laid_out.proofs.CanBeLaid.{first-fits, passes-few}
 use Rattle.laid_out.proofs.LaidRuns.{laid-fitting, laid-run}
 use Rattle.settling.specs.declared.Laid.{Laid}
 use Rattle.settling.specs.declared.Laid.the-variants as L
-use Rattle.settling.specs.Settle.{settlesAfter, fewestPasses, laidBy}
+use Rattle.settling.specs.Settle.{scratchLength, settlesAfter, fewestPasses, laidBy}
 use Rattle.settling.specs.inner.Scratch.{mostParts, mostRows, Room, markAt, Tried, MadeTo, closesOn, Extended}
 use Rattle.settling.proofs.Later.{later-closed, later-kept, later-again}
-use Rattle.settling.proofs.Searched.{closed-as, none-yet, none-next, part-open, all-closed, search-found, search-ended}
+use Rattle.settling.proofs.Searched.{closed-as, settles-as, none-yet, none-next, part-open, all-closed, search-found, search-ended}
 use Rattle.settling.proofs.Making.{tried-closes, tried-lower, tried-made}
 
 not-true : (c : Bool) → not c ≡ true → c ≡ false
@@ -189,3 +193,16 @@ module _ (rule plan : List ℕ) {n : ℕ} {z : Sizes} (ready : Ready rule plan n
       let few = s .few in
       let parts = ready .parts in
       sym (ap laidBy (search-found rule plan k (s .none-fewer) (own-cycle (ready .fits)) (all-closed rule plan k (s .can) (λ a q. s .closed a (omega arith)))))
+
+-- What is found can be laid out.
+pub found-can : (rule plan : List ℕ) {r : Laid} {n : ℕ} → r ≡ laidBy (fewestPasses rule plan) → r ≡ L.Passes n → canBeLaid plan n ≡ true
+unfolding fewestPasses
+found-can rule plan {n = n} e f = settles-as rule plan n .0 (lowest-some (settlesAfter rule plan) 256 n .0 (go (lowest (settlesAfter rule plan) 256) (sym e ∙ f)) .1) .0
+  where
+    go : (o : Option ℕ) → laidBy o ≡ L.Passes n → o ≡ some n
+    go none e = absurd (let z : _≡_ {A = ℕ} 0 1 = cc in omega arith)
+    go (some m) e = cc
+
+-- The scratch has room for every part and row.
+pub room-of : {scratch : List ℕ} → length scratch ≡ scratchLength → Room scratch
+room-of e = record { few-parts = omega arith; few-rows = omega arith; whole = e }

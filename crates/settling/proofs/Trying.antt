@@ -71,11 +71,6 @@ not-false : (b : Bool) → not b ≡ false → true ≡ b
 not-false true e = refl
 not-false false e = absurd (true≢false e)
 
--- the bytes of a slice
-pub bytes-of : (s : List ℕ) → ((i : ℕ) → getD s i 0 < 256) → Bytes s
-unfolding Bytes
-bytes-of s h = h
-
 -- what is known of a part by its view
 pub tried-view : {layout old new : List ℕ} {i : ℕ} {p q : View} {b : Bool} → p ≡ q → Tried layout old new i q b → Tried layout old new i p b
 tried-view {layout} {old} {new} {i} {b = b} e t = subst⁻¹ (λ (p : View). Tried layout old new i p b) e t

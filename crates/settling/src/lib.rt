@@ -10,14 +10,13 @@ ghost use Rattle.settling.specs.Settle.{settleOf, laidAfter, scratchAfte
 ghost use Rattle.settling.specs.Promise.{SettlePromise};
 use crate::search::fewest_passes;
 use inputs::InputsRead;
+use laid_out::writing::MOST_PLAN;
 use laid_out::writing::put_layout;
 use plan::sizes::Sizes;
 use refusal::Refusal;
 use table::fills::clear;
 
-// The bytes of the lent plan buffer, which has room for every plan, and of the lent scratch.
-pub const LAID_OUT_LENGTH: usize = 16648;
-
+// The bytes of the lent scratch.
 pub const SCRATCH_LENGTH: usize = 16516;
 
 // What settling answers: how many passes are laid out, or the first refusal that applies.
@@ -39,7 +38,7 @@ fn settle_plan(
     requires { ⌜ Ready (now rule) (now plan) n sizes ⌝ }
     ensures { λ r. ⌜ (r ≡ settleOf (now (rule .entry)) (now (plan .entry)) (now (laid .entry)) (now (scratch .entry))) × (now (laid .exit) ≡ laidAfter (now (rule .entry)) (now (plan .entry)) (now (laid .entry)) (now (scratch .entry))) × (now (scratch .exit) ≡ scratchAfter (now (rule .entry)) (now (plan .entry)) (now (laid .entry)) (now (scratch .entry))) ⌝ }
 {
-    if laid.len() != LAID_OUT_LENGTH {
+    if laid.len() != MOST_PLAN {
         return Laid::Refused(Refusal::BufferLength);
     }
     if scratch.len() != SCRATCH_LENGTH {

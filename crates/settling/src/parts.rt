@@ -2,37 +2,24 @@
 // layout is written: the scratch holds marks, with room for 256 rows of each of 64 parts.
 ghost use mathlib.Core.Path.{_≡_};
 ghost use mathlib.Core.Bool.{true};
-ghost use Prim.Native.Nat.{_+_, _*_, _≤_, _<_};
+ghost use Prim.Native.Nat.{_+_, _<_};
 ghost use Rattle.cltlb.specs.Fits.{atomFits, viewFits};
 ghost use Rattle.cltlb.specs.declared.View.the-variants as view;
 ghost use Rattle.plan.specs.inner.Sizes.{Fitting};
 ghost use Rattle.inputs.specs.inner.Read.{Ready};
 ghost use Rattle.laid_out.specs.LaidOut.{laidOut, canBeLaid};
-ghost use Rattle.laid_out.specs.inner.LaidSizes.{laidSizes};
-ghost use Rattle.settling.specs.inner.Scratch.{mostParts, mostRows, Room, Tried, MadeTo, closesOn};
+ghost use Rattle.settling.specs.inner.Scratch.{mostParts, Room, Tried, MadeTo, closesOn};
 use crate::comparisons::put_truths;
 use crate::comparisons::steady;
 use cltlb::Atom;
 use cltlb::View;
 use labelling::operators::label_operator;
+use laid_out::numbers::laid_sizes;
 use marks::equations::wraps_round;
 use plan::sizes::Sizes;
 use rule::Taken;
 use table::bytes::place;
 use verdict::rows::comparison_of;
-
-// The sizes of the layout.
-pub fn laid_sizes(sizes: Sizes, passes: usize) -> Sizes
-    requires { ⌜ (sizes .start + passes * sizes .cycle ≤ mostRows) ⌝ }
-    ensures { λ r. ⌜ r ≡ laidSizes sizes passes ⌝ }
-{
-    Sizes {
-        channels: sizes.channels,
-        start: sizes.start + passes * sizes.cycle,
-        cycle: sizes.cycle,
-        lead: sizes.lead,
-    }
-}
 
 // A comparison: its verdicts on the cycle rows, from that pass on, come first, and its marks once it is steady.
 fn try_atom(

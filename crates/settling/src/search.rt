@@ -6,9 +6,9 @@ ghost use Rattle.settling.specs.Settle.{fewestPasses, laidBy};
 ghost use Rattle.settling.specs.inner.Scratch.{Room};
 use crate::Laid;
 use crate::extend::extend;
-use crate::parts::laid_sizes;
 use crate::parts::try_part;
 use laid_out::fits::fits_next;
+use laid_out::numbers::laid_sizes;
 use plan::sizes::Sizes;
 use refusal::Refusal;
 

@@ -1,19 +1,20 @@
 use borrow.Author.Needs.{needs}
 use native.Mathlib.Omega.{arith}
-use mathlib.Core.Path.{ap}
+use mathlib.Core.Path.{ap, sym, _∙_}
 use denote.Ref.{now}
+use Rattle.fields.proofs.ByteParts.{as-bytes}
 use Prim.Native.Nat.{_+_, _-_}
 use Rattle.plan.specs.declared.sizes.Sizes.{Sizes}
 use Rattle.settling.proofs.Searching.{Searching, few-passes, few-parts, searching-first, part-closes, no-more, one-more, all-close}
-use Rattle.settling.proofs.Trying.{bytes-of, laid-rows}
+use Rattle.settling.proofs.Trying.{laid-rows}
 use Rattle.settling.proofs.Searching.{not-false}
 use Rattle.settling.proofs.search.fewest_passes.Statement.{statement}
 use Rattle.settling.proofs.search.fewest_passes.Tie as tie
 use Rattle.settling.proofs.search.fewest_passes.Reads as reads
 use Rattle.settling.proofs.search.fewest_passes.Lts as lts
 use Rattle.laid_out.proofs.fits.fits_next.Reads as fits-next-reads
+use Rattle.laid_out.proofs.numbers.laid_sizes.Reads as laid-sizes-reads
 use Rattle.settling.proofs.extend.extend.Reads as extend-reads
-use Rattle.settling.proofs.parts.laid_sizes.Reads as laid-sizes-reads
 use Rattle.settling.proofs.parts.try_part.Reads as try-part-reads
 
 abbrev Inv-loop : tie.InvT-loop
@@ -24,7 +25,7 @@ abbrev μ-loop : tie.MeasureT-loop
 
 -- src/search.rt:28:5
 loop-holds : tie.Need-loop-holds Inv-loop μ-loop
-loop-holds c = searching-first (now (c .before .before .before .args .rule)) (now (c .before .before .before .args .plan)) (c .before .before .before .pre .0) (bytes-of (now (c .before .before .before .args .plan)) (λ i. omega (arith, c .before .shared-slice-known2 .given i))) (c .before .before .before .pre .1)
+loop-holds c = searching-first (now (c .before .before .before .args .rule)) (now (c .before .before .before .args .plan)) (c .before .before .before .pre .0) (as-bytes (now (c .before .before .before .args .plan)) (λ i. omega (arith, c .before .shared-slice-known2 .given i))) (c .before .before .before .pre .1)
 
 -- src/search.rt:29:12
 try-part-requires : tie.Need-try-part-requires Inv-loop μ-loop
@@ -56,7 +57,7 @@ returns c = no-more (now (c .before .before .before .before .before .before .bef
 
 -- src/search.rt:35:29
 laid-sizes-requires : tie.Need-laid-sizes-requires Inv-loop μ-loop
-laid-sizes-requires c κs = laid-rows (now (c .before .before .before .before .before .before .before .before .before .before .before .before .before .args .plan)) (c .before .before .before .before .before .before .before .before .before .before .before .before .before .pre .0 .fits) (c .before .before .before .before .before .before .before .before .before .loop .passes) (c .before .before .before .before .before .before .before .before .before .loop .inv .can) .1
+laid-sizes-requires c κs = (few-passes (now (c .before .before .before .before .before .before .before .before .before .before .before .before .before .args .rule)) (now (c .before .before .before .before .before .before .before .before .before .before .before .before .before .args .plan)) (c .before .before .before .before .before .before .before .before .before .before .before .before .before .pre .0) (c .before .before .before .before .before .before .before .before .before .loop .passes) (c .before .before .before .before .before .before .before .before .before .loop .inv .can), c .before .before .before .before .before .before .before .before .before .before .before .before .before .pre .0 .fits .few-rows)
 
 -- src/search.rt:35:13
 extend-requires : tie.Need-extend-requires Inv-loop μ-loop
@@ -72,7 +73,7 @@ loop-less-2 c = omega (arith, few-passes (now (c .before .before .before .before
 
 -- src/search.rt:28:5
 loop-again-2 : tie.Need-loop-again-2 Inv-loop μ-loop
-loop-again-2 c = one-more (now (c .before .before .before .before .before .before .before .before .before .before .before .before .before .before .before .before .before .args .rule)) (now (c .before .before .before .before .before .before .before .before .before .before .before .before .before .before .before .before .before .args .plan)) (c .before .before .before .before .before .before .before .before .before .before .before .before .before .before .before .before .before .pre .0) (c .before .before .before .before .before .before .before .before .before .before .before .before .before .loop .inv) (c .before .before .before .before .before .before .before .before .before .before .try-part .ensures .0) (c .before .before .before .before .before .before .before .before .before .before .before .before .loop-test .taken) (c .before .before .before .before .before .before .before .if1 .left) (bytes-of (now (c .before .before .before .before .before .before .before .before .before .before .before .before .before .before .before .before .before .args .plan)) (λ i. omega (arith, c .before .before .before .before .before .before .before .before .before .before .before .before .before .before .before .shared-slice-known2 .given i))) (not-false (c .before .before .before .before .before .before .fits-next .ensures) (c .before .before .before .before .before .if2 .left)) (c .before .before .before .before .before .before .before .before .before .before .try-part .ensures .1) (c .before .before .before .laid-sizes .ensures) (c .before .before .extend .ensures)
+loop-again-2 c = one-more (now (c .before .before .before .before .before .before .before .before .before .before .before .before .before .before .before .before .before .args .rule)) (now (c .before .before .before .before .before .before .before .before .before .before .before .before .before .before .before .before .before .args .plan)) (c .before .before .before .before .before .before .before .before .before .before .before .before .before .before .before .before .before .pre .0) (c .before .before .before .before .before .before .before .before .before .before .before .before .before .loop .inv) (c .before .before .before .before .before .before .before .before .before .before .try-part .ensures .0) (c .before .before .before .before .before .before .before .before .before .before .before .before .loop-test .taken) (c .before .before .before .before .before .before .before .if1 .left) (as-bytes (now (c .before .before .before .before .before .before .before .before .before .before .before .before .before .before .before .before .before .args .plan)) (λ i. omega (arith, c .before .before .before .before .before .before .before .before .before .before .before .before .before .before .before .shared-slice-known2 .given i))) (not-false (c .before .before .before .before .before .before .fits-next .ensures) (c .before .before .before .before .before .if2 .left)) (c .before .before .before .before .before .before .before .before .before .before .try-part .ensures .1) (c .before .before .before .laid-sizes .ensures) (c .before .before .extend .ensures)
 
 -- src/search.rt:16:1
 same-length-2 : tie.Need-same-length-2 Inv-loop μ-loop
