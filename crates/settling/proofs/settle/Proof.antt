@@ -2,7 +2,7 @@ use denote.Ref.{now}
 use native.Mathlib.Omega.{arith}
 use mathlib.Core.Path.{sym, _∙_}
 use Rattle.inputs.proofs.Ways.{refused, ready}
-use Rattle.settling.proofs.Trying.{bytes-of}
+use Rattle.fields.proofs.ByteParts.{as-bytes}
 use Rattle.settling.proofs.Ways.{inputs-refused}
 use Rattle.settling.proofs.Promised.{settle-promise}
 use borrow.Author.Needs.{needs}
@@ -40,7 +40,7 @@ returns c =
     let shared-slice-known2 = c .before .before .before .before .before .before .shared-slice-known2 in
     let read-inputs = c .before .before .before .read-inputs in
     let refusal = c .before .refusal in
-    let bytes = bytes-of (now (start .args .plan)) (λ i. omega (arith, shared-slice-known2 .given i)) in
+    let bytes = as-bytes (now (start .args .plan)) (λ i. omega (arith, shared-slice-known2 .given i)) in
     let told = inputs-refused (now (start .args .rule)) (now (start .args .plan)) (now (start .args .laid)) (now (start .args .scratch)) (refused (now (start .args .rule)) (now (start .args .plan)) (sym (read-inputs .ensures) ∙ refusal .given .1)) in
     settle-promise (now (start .args .rule)) (now (start .args .plan)) (now (start .args .laid)) (now (start .args .scratch)) bytes (told .0) (told .1) (told .2)
 
@@ -58,7 +58,7 @@ returns-2 c =
     let start = c .before .before .before .before .before .before .before .before .before .before .before .before .before .before .before in
     let shared-slice-known2 = c .before .before .before .before .before .before .before .before .before .before .before .before .before .shared-slice-known2 in
     let settle-plan = c .before .before .before .before .settle-plan in
-    let bytes = bytes-of (now (start .args .plan)) (λ i. omega (arith, shared-slice-known2 .given i)) in
+    let bytes = as-bytes (now (start .args .plan)) (λ i. omega (arith, shared-slice-known2 .given i)) in
     settle-promise (now (start .args .rule)) (now (start .args .plan)) (now (start .args .laid)) (now (start .args .scratch)) bytes (settle-plan .ensures .0) (settle-plan .ensures .1) (settle-plan .ensures .2)
 
 pub settle-spec : {M : Type 1} → statement M
