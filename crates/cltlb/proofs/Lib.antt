@@ -1,6 +1,5 @@
 pub mod Steps
 pub mod Duals
-pub mod Shifted
 pub mod Repeats
 pub mod Fits
 pub mod SameRun

@@ -5,14 +5,13 @@ use mathlib.Core.Logic.{_↔_, Iff·rfl, Iff·trans, inl, inr, ⊎-elim, by-case
 use Prim.Native.Nat.{ℕ, zero, suc, _+_, _*_, _-_, _≤_}
 use native.Mathlib.Decide.{decLt}
 use native.Mathlib.Omega.{arith}
-use Rattle.cltlb.specs.Operators.{Since, Trigger, Next, Yesterday, WeakYesterday}
+use Rattle.cltlb.specs.Operators.{Until, Release, Since, Trigger, Next, Yesterday, WeakYesterday}
 use Rattle.cltlb.specs.Truth.{UnaryHolds, BinaryHolds}
 use Rattle.cltlb.specs.Nesting.{deeperOne, deeperTwo}
 use Rattle.cltlb.specs.declared.Unary.{Unary}
 use Rattle.cltlb.specs.declared.Unary.the-variants as unary
 use Rattle.cltlb.specs.declared.Binary.{Binary}
 use Rattle.cltlb.specs.declared.Binary.the-variants as binary
-use Rattle.cltlb.proofs.Shifted.{until-shift, release-shift}
 
 -- From position s on, A is what it is C positions later.
 abbrev pub RepeatsFrom : ℕ → ℕ → (ℕ → Type 0) → Type 0
@@ -112,6 +111,33 @@ module _ (C s : ℕ) (A B : ℕ → Type 0) (ha : RepeatsFrom C s A) (hb : Repea
       (λ b. inl (hb j (omega arith) .1 b))
       (λ p. let g = p .1 in let w = p .2 in inr (p .0 - C, omega arith, omega arith, repeats-back C s A ha (p .0) (omega arith) .1 (p .3)))
       (f (j + C) (omega arith)))
+
+-- ---- U and R, at a position from which on their parts repeat and c positions later
+
+module _ (A B : ℕ → Type 0) (c t : ℕ) (ha : RepeatsFrom c t A) (hb : RepeatsFrom c t B) where
+  pub until-shift : Until A B t ↔ Until A B (t + c)
+  unfolding Until
+  until-shift = (
+    λ u.
+        let low = u .1 in
+        (u .0 + c, omega arith, hb (u .0) low .0 (u .2), λ k h l. repeats-back c t A ha k h .0 (u .3 (k - c) (omega arith) (omega arith))),
+    λ u.
+        let low = u .1 in
+        (u .0 - c, omega arith, repeats-back c t B hb (u .0) low .1 (u .2), λ k h l. ha k h .1 (u .3 (k + c) (omega arith) (omega arith))),
+  )
+
+  pub release-shift : Release A B t ↔ Release A B (t + c)
+  unfolding Release
+  release-shift = (
+    λ r j h. ⊎-elim
+        (λ y. inl (repeats-back c t B hb j h .0 y))
+        (λ p. let low = p .1 in let high = p .2 in inr (p .0 + c, omega arith, omega arith, ha (p .0) low .0 (p .3)))
+        (r (j - c) (omega arith)),
+    λ r j h. ⊎-elim
+        (λ y. inl (hb j h .1 y))
+        (λ p. let low = p .1 in let high = p .2 in inr (p .0 - c, omega arith, omega arith, repeats-back c t A ha (p .0) low .1 (p .3)))
+        (r (j + c) (omega arith)),
+  )
 
 -- ---- every operator
 

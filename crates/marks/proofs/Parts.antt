@@ -18,7 +18,7 @@ use Rattle.cltlb.specs.declared.Operator.the-variants.{One, Two}
 use Rattle.cltlb.specs.declared.View.{View}
 use Rattle.cltlb.specs.declared.View.the-variants as view
 use Rattle.cltlb.proofs.Fits.{atom-fits, operator-fits, one-lower, two-lower}
-use Rattle.cltlb.proofs.Shifted.{Repeats, until-shift, release-shift}
+use Rattle.cltlb.proofs.Repeats.{RepeatsFrom, until-shift, release-shift}
 use Rattle.refusal.specs.First.{_orElse_}
 use Rattle.refusal.specs.declared.Outcome.the-variants.{Clear}
 use Rattle.refusal.specs.declared.Refusal.the-variants.{Witness}
@@ -58,7 +58,7 @@ module _ (plan : List ℕ) (mark : ℕ → ℕ → Bool) (f : ℕ → Formula) w
     -- and a witness in order makes marks that meet it true.
     byLater : Ahead p
         → ((t : ℕ) → T (markAt plan mark i (suc t)) ↔ This p (suc t) → T (due plan mark p i t) ↔ This p t)
-        → Repeats (This p) (cycleRows plan) (startRows plan)
+        → RepeatsFrom (cycleRows plan) (startRows plan) (This p)
         → closingOutcome plan mark p i ≡ Clear
         → ((w : ℕ) → T (witnessInOrder (startRows plan) (cycleRows plan) mark p i w) → Meets plan mark p i → Right i (formulaFrom p f))
         → Due p i
@@ -72,7 +72,7 @@ module _ (plan : List ℕ) (mark : ℕ → ℕ → Bool) (f : ℕ → Formula) w
     Of a = Holds (runOf plan) (f a)
 
     -- the truth of a named part in the cycle is the same on every pass
-    repeats : (a : ℕ) → a < i → (t : ℕ) → startRows plan ≤ t → Repeats (Of a) (cycleRows plan) t
+    repeats : (a : ℕ) → a < i → (t : ℕ) → startRows plan ≤ t → RepeatsFrom (cycleRows plan) t (Of a)
     repeats a l t h k q =
         let once = sym (once-more plan hC k (omega arith)) in
         Iff·trans (Iff·symm (named a l k)) (Iff·trans (T-path (ap (mark a) once)) (named a l (k + cycleRows plan)))
