@@ -3,11 +3,12 @@
  * C of the same work.
  *
  * The check is timed beside C written for speed (plain_check.c, plain_sweeps.c), the
- * maker and the settler beside plain C (plain_make.c, plain_settle.c). All tables are
- * accepted ones: acceptance is the slowest answer, as nothing is left out. The makers
- * make that same table. The settler has cases of its own: two of full size that settle
- * only when nearly 256 rows are laid out, one by its last part and one by each part in
- * turn, and a small one.
+ * maker beside plain C (plain_make.c), and the settler beside both: C written for speed
+ * (fast_settle.c), and plain C that begins anew with each number of passes
+ * (plain_settle.c). All tables are accepted ones: acceptance is the slowest answer, as
+ * nothing is left out. The makers make that same table. The settlers have cases of their
+ * own: two of full size that settle only when nearly 256 rows are laid out, one by its
+ * last part and one by each part in turn, and a small one.
  *
  * The first figures are of eight cases of full size, 64 parts on 256 rows of 8
  * channels, the last of them with 4 lead-in rows. The others show how the time of the
@@ -22,8 +23,8 @@
  * rounds' ratios: what slows the machine down for a while slows both, and leaves
  * their ratio as it is. Before that both checks must give the answer of the second
  * evaluator, and they must have accepted; both makers must give that answer and make
- * the second evaluator's table, byte for byte; and so with the settlers' answers and all
- * bytes of both buffers.
+ * the second evaluator's table, byte for byte; and so with the three settlers' answers
+ * and all bytes of both buffers.
  *
  * Two copies of the same code have been seen to differ by a quarter where a call is
  * short, by where the linker puts them: a ratio from 0.8 to 1.25 there is no
@@ -32,6 +33,7 @@
 #define _POSIX_C_SOURCE 199309L
 #include "../include/endless_run.h"
 #include "cases.h"
+#include "fast_settle.h"
 #include "plain_check.h"
 #include "plain_make.h"
 #include "plain_settle.h"
@@ -47,7 +49,7 @@ enum { ROUNDS = 251, ROUND_NS = 500000 };
 static struct sheet made;
 static uint8_t laid_out[ENDLESS_RUN_LAID_OUT_LENGTH], scratch[ENDLESS_RUN_SETTLE_SCRATCH_LENGTH];
 
-/* ---- The six functions ---- */
+/* ---- The seven functions ---- */
 
 typedef uint64_t work(const struct sheets *s);
 
@@ -74,7 +76,13 @@ static uint64_t make(const struct sheets *s)
                             s->marks.len);
 }
 
-static uint64_t settle_in_c(const struct sheets *s)
+static uint64_t settle_in_fast_c(const struct sheets *s)
+{
+    return fast_settle(s->rule.at, s->rule.len, s->plan.at, s->plan.len, laid_out, sizeof laid_out,
+                       scratch, sizeof scratch);
+}
+
+static uint64_t settle_in_plain_c(const struct sheets *s)
 {
     return plain_settle(s->rule.at, s->rule.len, s->plan.at, s->plan.len, laid_out,
                         sizeof laid_out, scratch, sizeof scratch);
@@ -163,13 +171,12 @@ static void time_pairs(struct pair *pairs, int count)
 
 /* ---- Agreement ---- */
 
-/* Both functions give this answer. */
-static bool both_answer(const char *name, uint64_t due, uint64_t in_c, uint64_t exported)
+/* The function gives the answer that is due. */
+static bool answer_is(uint64_t due, const char *name, const char *function, uint64_t answer)
 {
-    if (in_c == due && exported == due)
+    if (answer == due)
         return true;
-    printf("%s: due %" PRIx64 ", C %" PRIx64 ", exported %" PRIx64 " (hex)\n", name, due, in_c,
-           exported);
+    printf("%s: due %" PRIx64 ", %s %" PRIx64 " (hex)\n", name, due, function, answer);
     return false;
 }
 
@@ -191,8 +198,10 @@ static bool all_agree(const char *name, const struct sheets *s)
         printf("%s: refused\n", name);
         return false;
     }
-    return both_answer(name, due, check_in_c(s), check(s)) &&
-           both_answer(name, due, answer_if_made(make_in_c, s), answer_if_made(make, s));
+    return answer_is(due, name, "check, fast C", check_in_c(s)) &&
+           answer_is(due, name, "check, exported", check(s)) &&
+           answer_is(due, name, "make, plain C", answer_if_made(make_in_c, s)) &&
+           answer_is(due, name, "make, exported", answer_if_made(make, s));
 }
 
 static void fill_buffers(void)
@@ -201,37 +210,39 @@ static void fill_buffers(void)
     memset(scratch, 0xA5, sizeof scratch);
 }
 
-/* The settler's answer; no answer at all where it does not leave the buffers so. */
-static uint64_t answer_if_laid_out(work *settler, const struct sheets *s, const uint8_t *due,
-                                   const uint8_t *due_scratch)
+/* The bytes that the second evaluator leaves in the two buffers. */
+static uint8_t due_laid_out[sizeof laid_out], due_scratch[sizeof scratch];
+
+/* The settler's answer; no answer at all where it does not leave the bytes due. */
+static uint64_t answer_if_laid_out(work *settler, const struct sheets *s)
 {
     fill_buffers();
     uint64_t answer = settler(s);
-    return memcmp(laid_out, due, sizeof laid_out) == 0 &&
+    return memcmp(laid_out, due_laid_out, sizeof laid_out) == 0 &&
                    memcmp(scratch, due_scratch, sizeof scratch) == 0
                ? answer
                : UINT64_MAX;
 }
 
-/* Both settlers lay out what the second evaluator does. Gives its number of passes; -1
+/* All settlers lay out what the second evaluator does. Gives its number of passes; -1
    where they do not. */
 static int settlers_agree(const char *name, const struct sheets *s)
 {
     static struct truth space;
-    static uint8_t due[sizeof laid_out], due_scratch[sizeof scratch];
     fill_buffers();
     uint64_t passes = second_settle(&space, slice_of(&s->rule), slice_of(&s->plan), laid_out,
                                     sizeof laid_out, scratch, sizeof scratch);
-    memcpy(due, laid_out, sizeof due);
+    memcpy(due_laid_out, laid_out, sizeof due_laid_out);
     memcpy(due_scratch, scratch, sizeof due_scratch);
     if (endless_run_is_refusal(passes)) {
         printf("%s: refused\n", name);
         return -1;
     }
-    return both_answer(name, passes, answer_if_laid_out(settle_in_c, s, due, due_scratch),
-                       answer_if_laid_out(settle, s, due, due_scratch))
-               ? (int)passes
-               : -1;
+    bool agree =
+        answer_is(passes, name, "settle, fast C", answer_if_laid_out(settle_in_fast_c, s)) &&
+        answer_is(passes, name, "settle, plain C", answer_if_laid_out(settle_in_plain_c, s)) &&
+        answer_is(passes, name, "settle, exported", answer_if_laid_out(settle, s));
+    return agree ? (int)passes : -1;
 }
 
 /* ---- The cases ---- */
@@ -278,19 +289,21 @@ static bool run_cases(void)
     return right;
 }
 
+/* The exported settler is timed in both pairs. The time shown is that beside fast C. */
 static bool run_late_case(const char *name, late_builder *build)
 {
     static struct sheets sheets;
-    static struct pair pair;
+    static struct pair pairs[2];
     build_late_case(&sheets, build);
     int passes = settlers_agree(name, &sheets);
     if (passes < 0)
         return false;
-    start_pair(&pair, &sheets, settle_in_c, settle);
-    time_pairs(&pair, 1);
-    printf("%-36s %6d", name, passes);
-    print_times(&pair);
-    printf("\n");
+    start_pair(&pairs[0], &sheets, settle_in_fast_c, settle);
+    start_pair(&pairs[1], &sheets, settle_in_plain_c, settle);
+    time_pairs(pairs, 2);
+    printf("%-36s %6d %9.1f %9.1f %9.1f %7.2f %7.3f\n", name, passes, median(pairs[0].c_ns) / 1000,
+           median(pairs[1].c_ns) / 1000, median(pairs[0].exported_ns) / 1000,
+           median(pairs[0].ratio), median(pairs[1].ratio));
     return true;
 }
 
@@ -298,8 +311,9 @@ static bool run_late_cases(void)
 {
     bool right = true;
     printf("\nPlans that settle late\n");
-    printf("%-36s %6s %9s %9s %7s\n", "", "", "settle", "", "");
-    printf("%-36s %6s %9s %9s %7s\n", "", "passes", "plain C", "exported", "ratio");
+    printf("%-36s %6s %9s %9s %9s %15s\n", "", "", "settle", "", "", "ratio to");
+    printf("%-36s %6s %9s %9s %9s %7s %7s\n", "", "passes", "fast C", "plain C", "exported",
+           "fast C", "plain C");
     right &= run_late_case("i  64 parts, the last one crosses", crossing_late);
     right &= run_late_case("j  64 parts, Y of Y of .., 60 deep", yesterdays_deep);
     right &= run_late_case("k  20 parts of all kinds, 16 rows", settling_soon);

@@ -1,6 +1,6 @@
 /*
- * plain.h: what the check, the maker and the settler in C share: fields, refusals 1 to
- * 6, and comparisons row by row.
+ * plain.h: what the check, the maker and the settlers in C share: fields, refusals 1
+ * to 6, and comparisons row by row.
  *
  * The lead-in rows are rows -L to -1, as are their positions: both arrays of a plan
  * are looked at from row 0 on, and the lead-in rows lie before.

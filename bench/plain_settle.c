@@ -1,231 +1,130 @@
 /*
  * plain_settle.c: the search for the fewest passes in plain C.
  *
- * Written as a C programmer would who wants it fast and readable. Row t of the plan
- * with some passes laid out is position t of the first plan's run, so no plan is
- * written before the number of passes is known, and marks once made stay right. A part
- * that closes does so with more passes too, so the parts are gone through once, the
- * lowest first: one that is open has passes laid out, one by one, until it closes. The
- * parts below go on as their last cycle, and are marked on the new rows when they are
- * next read. A comparison is marked once it closes. The marks stand in the scratch.
- * Nothing of it is proved. It is the measure in bench.c.
+ * Written as the search is described: 0, 1, 2 passes and on are tried in turn, as long as
+ * the plan with so many laid out fits. Each try begins anew: the marks of the parts are
+ * made on all rows, the lowest part first, until one does not close. Row t of the plan
+ * with the passes laid out is position t of the first plan's run, so that plan is written
+ * once, at the end. The marks stand in the scratch. Nothing of it is proved. It is the
+ * measure in bench.c.
  */
 #include "plain_settle.h"
 
 #include "plain.h"
+#include "plain_layout.h"
 #include "plain_operators.h"
 
-enum { MOST_PARTS = 64, LAID_OUT_LENGTH = 16648, SCRATCH_LENGTH = 16516 };
-
-/* The readings of one channel from position -L on. That of position 0 is at MOST_LEAD. */
-struct lane {
-    int end; /* the positions below are laid out */
-    int64_t at[MOST_LEAD + MOST_ROWS + MOST_SHIFT];
-};
-
-struct search {
+/* The plan with some passes laid out. */
+struct layout {
     const struct plan *plan;
-    int passes, most; /* laid out so far, and what there is room for */
-    int start, rows;  /* P and W with these passes laid out */
-    uint8_t *marks;   /* MOST_ROWS of them for each part */
-    int marked[MOST_PARTS];
-    struct lane lanes[MOST_CHANNELS];
+    int start, rows; /* its P and W */
 };
 
-/* ---- Room ---- */
-
-/* The most passes with which there are 256 rows or fewer and all readings fit 32 bits. */
-static int most_passes(const struct plan *plan)
+/* Whether there are 256 rows or fewer and all readings fit 32 bits. With one pass fewer
+   they do, so that the last pass is looked at alone. */
+static bool passes_fit(const struct plan *plan, int passes)
 {
-    int most = (MOST_ROWS - plan->rows) / plan->cycle;
+    if (plan->rows + passes * plan->cycle > MOST_ROWS)
+        return false;
     ptrdiff_t end = cell_of(plan, plan->rows, 0);
     for (ptrdiff_t at = cell_of(plan, plan->start, 0); at < end; at += 4) {
-        int64_t reading = get32(plan->readings + at), drift = get32(plan->drifts + at);
-        int64_t last = reading + most * drift;
-        if (last > INT32_MAX)
-            most = (int)((INT32_MAX - reading) / drift);
-        else if (last < INT32_MIN)
-            most = (int)((INT32_MIN - reading) / drift);
+        int64_t drift = get32(plan->drifts + at);
+        int64_t reading = get32(plan->readings + at) + passes * drift;
+        if (reading < INT32_MIN || reading > INT32_MAX)
+            return false;
     }
-    return most;
-}
-
-static void start_search(struct search *s, const struct plan *plan, uint8_t *marks)
-{
-    s->plan = plan;
-    s->passes = 0;
-    s->most = most_passes(plan);
-    s->start = plan->start;
-    s->rows = plan->rows;
-    s->marks = marks;
-    for (int channel = 0; channel < plan->channels; channel++)
-        s->lanes[channel].end = -plan->lead;
-}
-
-/* False if there is no room. */
-static bool lay_out_pass(struct search *s)
-{
-    if (s->passes == s->most)
-        return false;
-    s->passes++;
-    s->start += s->plan->cycle;
-    s->rows += s->plan->cycle;
     return true;
 }
 
 /* ---- Comparisons ---- */
 
-/* The readings of a channel by position, up to MOST_SHIFT after the last row. */
-static const int64_t *lane_of(struct search *s, int channel)
+/* The lines of a term at the positions from the first on and before the end. */
+static void get_lines(const struct plan *plan, const struct term *term, int first, int end,
+                      struct line *lines)
 {
-    const struct plan *plan = s->plan;
-    struct lane *lane = &s->lanes[channel];
-    int64_t *at = lane->at + MOST_LEAD;
-    int position = lane->end;
-    lane->end = s->rows + MOST_SHIFT;
-    for (; position < plan->rows; position++)
-        at[position] = get32(plan->readings + cell_of(plan, position, channel));
-    int row = plan->start + (position - plan->start) % plan->cycle;
-    for (; position < lane->end; position++) {
-        int32_t drift = get32(plan->drifts + cell_of(plan, row, channel));
-        at[position] = at[position - plan->cycle] + drift;
-        row = row + 1 < plan->rows ? row + 1 : plan->start;
+    int row = first + term->shift, pass = 0;
+    if (!term->is_reading) {
+        for (int position = first; position < end; position++)
+            lines[position] = (struct line){ term->constant, 0 };
+        return;
     }
-    return at;
-}
-
-/* Lay out passes until the comparison is the same on every later pass of a cycle row. */
-static bool settle_row(struct search *s, int kind, const struct term *left,
-                       const struct term *right, int row)
-{
-    const struct plan *plan = s->plan;
-    int lines_from = plan->start + reach_back(left, right);
-    int position = row + s->passes * plan->cycle;
-    for (; position < lines_from; position += plan->cycle) {
-        if (judge_early_row(plan, kind, left, right, position) != CHANGES)
-            return true;
-        if (!lay_out_pass(s))
-            return false;
+    for (int position = first; position < end; position++, row++) {
+        for (; row >= plan->rows; row -= plan->cycle)
+            pass++;
+        ptrdiff_t at = cell_of(plan, row, term->channel);
+        int64_t drift = get32(plan->drifts + at);
+        lines[position] = (struct line){ get32(plan->readings + at) + pass * drift, drift };
     }
-    struct line x = line_at(plan, left, position), y = line_at(plan, right, position);
-    while (judge_lines(kind, x, y) == CHANGES) {
-        if (!lay_out_pass(s))
-            return false;
-        x.number += x.step;
-        y.number += y.step;
-    }
-    return true;
 }
 
-static inline void compare_rows(int kind, const int64_t *x, size_t i, const int64_t *y, size_t j,
-                                uint8_t *m, int first, int rows)
+/* The marks of a comparison. Gives whether it closes. */
+static bool make_comparison(const struct layout *layout, int kind, const uint8_t *operand,
+                            uint8_t *m)
 {
-    for (size_t row = (size_t)first; row < (size_t)rows; row++)
-        m[row] = compare(kind, x[i * row], y[j * row]);
-}
-
-static void mark_comparison(struct search *s, int kind, const struct term *left,
-                            const struct term *right, uint8_t *m)
-{
-    int seen = first_seen(s->plan, left, right), first = seen < s->rows ? seen : s->rows;
-    const int64_t *x = &left->constant, *y = &right->constant;
-    if (left->is_reading)
-        x = lane_of(s, left->channel) + left->shift;
-    if (right->is_reading)
-        y = lane_of(s, right->channel) + right->shift;
-    memset(m, 0, (size_t)first);
-    if (kind == LESS)
-        compare_rows(LESS, x, left->is_reading, y, right->is_reading, m, first, s->rows);
-    else
-        compare_rows(EQUAL, x, left->is_reading, y, right->is_reading, m, first, s->rows);
-}
-
-static bool settle_comparison(struct search *s, int kind, const uint8_t *operand, uint8_t *m)
-{
+    const struct plan *plan = layout->plan;
     struct term left = get_term(operand), right = get_term(operand + 6);
-    for (int row = s->plan->start; row < s->plan->rows; row++)
-        if (!settle_row(s, kind, &left, &right, row))
+    struct line lefts[MOST_ROWS], rights[MOST_ROWS];
+    int lines_from = plan->start + reach_back(&left, &right);
+    int seen = first_seen(plan, &left, &right);
+    int row = 0;
+    for (; row < seen && row < layout->rows; row++)
+        m[row] = 0;
+    get_lines(plan, &left, row, layout->rows, lefts);
+    get_lines(plan, &right, row, layout->rows, rights);
+    for (; row < layout->rows; row++)
+        m[row] = compare(kind, lefts[row].number, rights[row].number);
+
+    row = layout->start;
+    for (; row < lines_from && row < layout->rows; row++)
+        if (judge_early_row(plan, kind, &left, &right, row) == CHANGES)
             return false;
-    mark_comparison(s, kind, &left, &right, m);
+    for (; row < layout->rows; row++)
+        if (judge_lines(kind, lefts[row], rights[row]) == CHANGES)
+            return false;
     return true;
 }
 
 /* ---- Operators ---- */
 
-/* The marks of a part that closes, on all rows there are now. */
-static const uint8_t *marks_of(struct search *s, size_t part)
+/* The marks of an operator over the marks of the parts that it names. Gives whether it
+   closes. */
+static bool make_operator(const struct layout *layout, int kind, uint8_t *m, const uint8_t *a,
+                          const uint8_t *b)
 {
-    uint8_t *m = s->marks + MOST_ROWS * part;
-    for (int row = s->marked[part]; row < s->rows; row++)
-        m[row] = m[row - s->plan->cycle];
-    s->marked[part] = s->rows;
-    return m;
-}
-
-static bool settle_past(struct search *s, int kind, size_t a, size_t b, uint8_t *m)
-{
-    int marked = 0;
-    for (;;) {
-        const uint8_t *of_a = marks_of(s, a), *of_b = marks_of(s, b);
-        make_past(kind, m, of_a, of_b, marked, s->rows);
-        marked = s->rows;
-        if (past_closes(kind, m, of_a, of_b, s->start, s->rows))
-            return true;
-        if (!lay_out_pass(s))
-            return false;
+    int start = layout->start, rows = layout->rows;
+    if (!is_past(kind)) {
+        make_closed(kind, m, a, b, start, rows);
+        return true;
     }
-}
-
-/* Of a part that names one the second field is 0: b is not used. */
-static bool settle_operator(struct search *s, int kind, const uint8_t *operand, uint8_t *m)
-{
-    size_t a = get16(operand), b = get16(operand + 2);
-    if (is_past(kind))
-        return settle_past(s, kind, a, b, m);
-    make_closed(kind, m, marks_of(s, a), marks_of(s, b), s->start, s->rows);
-    return true;
+    make_past(kind, m, a, b, 0, rows);
+    return past_closes(kind, m, a, b, start, rows);
 }
 
 /* ---- The settler ---- */
 
-static bool settle_parts(struct search *s, const uint8_t *rule)
+/* Whether every part closes with so many passes laid out. */
+static bool passes_settle(const uint8_t *rule, const struct plan *plan, int passes, uint8_t *marks)
 {
+    int laid_out_rows = passes * plan->cycle;
+    struct layout layout = { plan, plan->start + laid_out_rows, plan->rows + laid_out_rows };
     size_t parts = get16(rule);
     const uint8_t *kinds = rule + 4, *operands = kinds + parts;
     for (size_t i = 0; i < parts; i++) {
-        uint8_t *m = s->marks + MOST_ROWS * i;
-        bool settled = is_comparison(kinds[i])
-                           ? settle_comparison(s, kinds[i], operands + 12 * i, m)
-                           : settle_operator(s, kinds[i], operands + 12 * i, m);
-        if (!settled)
+        const uint8_t *operand = operands + 12 * i;
+        uint8_t *m = marks + MOST_ROWS * i;
+        bool closes;
+        if (is_comparison(kinds[i])) {
+            closes = make_comparison(&layout, kinds[i], operand, m);
+        } else {
+            /* Of a part that names one the second field is 0: b is not used. */
+            const uint8_t *a = marks + MOST_ROWS * get16(operand);
+            const uint8_t *b = marks + MOST_ROWS * get16(operand + 2);
+            closes = make_operator(&layout, kinds[i], m, a, b);
+        }
+        if (!closes)
             return false;
-        s->marked[i] = s->rows;
     }
     return true;
-}
-
-static void put32(uint8_t *at, int32_t n)
-{
-    put16(at, (uint32_t)n & 0xFFFF);
-    put16(at + 2, (uint32_t)n >> 16);
-}
-
-/* Each reading of a pass is that of the pass before and its drift. */
-static void write_laid_out(const struct search *s, const uint8_t *plan, uint8_t *laid_out)
-{
-    size_t row_bytes = 4 * (size_t)s->plan->channels;
-    size_t cycle_bytes = row_bytes * (size_t)s->plan->cycle;
-    size_t still_bytes = row_bytes * (size_t)(s->plan->lead + s->start);
-    size_t stored_bytes = row_bytes * (size_t)(s->plan->lead + s->plan->rows);
-    const uint8_t *drifts = s->plan->drifts + cell_of(s->plan, s->plan->start, 0);
-    uint8_t *at = laid_out + 8 + stored_bytes;
-    memcpy(laid_out, plan, 8 + stored_bytes);
-    put16(laid_out + 2, (size_t)s->start);
-    for (int pass = 0; pass < s->passes; pass++)
-        for (size_t i = 0; i < cycle_bytes; i += 4, at += 4)
-            put32(at, get32(at - cycle_bytes) + get32(drifts + i));
-    memset(at, 0, still_bytes);
-    memcpy(at + still_bytes, drifts, cycle_bytes);
 }
 
 uint64_t plain_settle(const uint8_t *rule, size_t rule_len, const uint8_t *plan, size_t plan_len,
@@ -233,7 +132,6 @@ uint64_t plain_settle(const uint8_t *rule, size_t rule_len, const uint8_t *plan,
                       size_t scratch_len)
 {
     struct plan p;
-    struct search s;
     uint64_t refused = check_rule(rule, rule_len);
     if (refused)
         return refused;
@@ -243,11 +141,13 @@ uint64_t plain_settle(const uint8_t *rule, size_t rule_len, const uint8_t *plan,
     if (laid_out_len != LAID_OUT_LENGTH || scratch_len != SCRATCH_LENGTH)
         return refuse(13, 0, 0);
 
-    start_search(&s, &p, scratch);
-    bool settled = settle_parts(&s, rule);
+    int passes = 0;
+    bool fit = true;
+    while (fit && !passes_settle(rule, &p, passes, scratch))
+        fit = passes_fit(&p, ++passes);
     memset(scratch, 0, scratch_len);
-    if (!settled)
+    if (!fit)
         return refuse(15, 0, 0);
-    write_laid_out(&s, plan, laid_out);
-    return (uint64_t)s.passes;
+    write_layout(plan, &p, passes, laid_out);
+    return (uint64_t)passes;
 }

@@ -1,0 +1,228 @@
+/*
+ * fast_settle.c: the search for the fewest passes in C written for speed.
+ *
+ * Row t of the plan with some passes laid out is position t of the first plan's run, so
+ * no plan is written before the number of passes is known, and marks once made stay
+ * right. A part that closes does so with more passes too, so the parts are gone through
+ * once, the lowest first: one that is open has passes laid out, one by one, until it
+ * closes. The parts below go on as their last cycle, and are marked on the new rows when
+ * they are next read. A comparison is marked once it closes. The marks stand in the
+ * scratch. Nothing of it is proved. It is the measure in bench.c.
+ */
+#include "fast_settle.h"
+
+#include "plain.h"
+#include "plain_layout.h"
+#include "plain_operators.h"
+
+enum { MOST_PARTS = 64 };
+
+/* The readings of one channel from position -L on. That of position 0 is at MOST_LEAD. */
+struct lane {
+    int end; /* the positions below are laid out */
+    int64_t at[MOST_LEAD + MOST_ROWS + MOST_SHIFT];
+};
+
+struct search {
+    const struct plan *plan;
+    int passes, most; /* laid out so far, and what there is room for */
+    int start, rows;  /* P and W with these passes laid out */
+    uint8_t *marks;   /* MOST_ROWS of them for each part */
+    int marked[MOST_PARTS];
+    struct lane lanes[MOST_CHANNELS];
+};
+
+/* ---- Room ---- */
+
+/* The most passes with which there are 256 rows or fewer and all readings fit 32 bits. */
+static int most_passes(const struct plan *plan)
+{
+    int most = (MOST_ROWS - plan->rows) / plan->cycle;
+    ptrdiff_t end = cell_of(plan, plan->rows, 0);
+    for (ptrdiff_t at = cell_of(plan, plan->start, 0); at < end; at += 4) {
+        int64_t reading = get32(plan->readings + at), drift = get32(plan->drifts + at);
+        int64_t last = reading + most * drift;
+        if (last > INT32_MAX)
+            most = (int)((INT32_MAX - reading) / drift);
+        else if (last < INT32_MIN)
+            most = (int)((INT32_MIN - reading) / drift);
+    }
+    return most;
+}
+
+static void start_search(struct search *s, const struct plan *plan, uint8_t *marks)
+{
+    s->plan = plan;
+    s->passes = 0;
+    s->most = most_passes(plan);
+    s->start = plan->start;
+    s->rows = plan->rows;
+    s->marks = marks;
+    for (int channel = 0; channel < plan->channels; channel++)
+        s->lanes[channel].end = -plan->lead;
+}
+
+/* False if there is no room. */
+static bool lay_out_pass(struct search *s)
+{
+    if (s->passes == s->most)
+        return false;
+    s->passes++;
+    s->start += s->plan->cycle;
+    s->rows += s->plan->cycle;
+    return true;
+}
+
+/* ---- Comparisons ---- */
+
+/* The readings of a channel by position, up to MOST_SHIFT after the last row. */
+static const int64_t *lane_of(struct search *s, int channel)
+{
+    const struct plan *plan = s->plan;
+    struct lane *lane = &s->lanes[channel];
+    int64_t *at = lane->at + MOST_LEAD;
+    int position = lane->end;
+    lane->end = s->rows + MOST_SHIFT;
+    for (; position < plan->rows; position++)
+        at[position] = get32(plan->readings + cell_of(plan, position, channel));
+    int row = plan->start + (position - plan->start) % plan->cycle;
+    for (; position < lane->end; position++) {
+        int32_t drift = get32(plan->drifts + cell_of(plan, row, channel));
+        at[position] = at[position - plan->cycle] + drift;
+        row = row + 1 < plan->rows ? row + 1 : plan->start;
+    }
+    return at;
+}
+
+/* Lay out passes until the comparison is the same on every later pass of a cycle row. */
+static bool settle_row(struct search *s, int kind, const struct term *left,
+                       const struct term *right, int row)
+{
+    const struct plan *plan = s->plan;
+    int lines_from = plan->start + reach_back(left, right);
+    int position = row + s->passes * plan->cycle;
+    for (; position < lines_from; position += plan->cycle) {
+        if (judge_early_row(plan, kind, left, right, position) != CHANGES)
+            return true;
+        if (!lay_out_pass(s))
+            return false;
+    }
+    struct line x = line_at(plan, left, position), y = line_at(plan, right, position);
+    while (judge_lines(kind, x, y) == CHANGES) {
+        if (!lay_out_pass(s))
+            return false;
+        x.number += x.step;
+        y.number += y.step;
+    }
+    return true;
+}
+
+static inline void compare_rows(int kind, const int64_t *x, size_t i, const int64_t *y, size_t j,
+                                uint8_t *m, int first, int rows)
+{
+    for (size_t row = (size_t)first; row < (size_t)rows; row++)
+        m[row] = compare(kind, x[i * row], y[j * row]);
+}
+
+static void mark_comparison(struct search *s, int kind, const struct term *left,
+                            const struct term *right, uint8_t *m)
+{
+    int seen = first_seen(s->plan, left, right), first = seen < s->rows ? seen : s->rows;
+    const int64_t *x = &left->constant, *y = &right->constant;
+    if (left->is_reading)
+        x = lane_of(s, left->channel) + left->shift;
+    if (right->is_reading)
+        y = lane_of(s, right->channel) + right->shift;
+    memset(m, 0, (size_t)first);
+    if (kind == LESS)
+        compare_rows(LESS, x, left->is_reading, y, right->is_reading, m, first, s->rows);
+    else
+        compare_rows(EQUAL, x, left->is_reading, y, right->is_reading, m, first, s->rows);
+}
+
+static bool settle_comparison(struct search *s, int kind, const uint8_t *operand, uint8_t *m)
+{
+    struct term left = get_term(operand), right = get_term(operand + 6);
+    for (int row = s->plan->start; row < s->plan->rows; row++)
+        if (!settle_row(s, kind, &left, &right, row))
+            return false;
+    mark_comparison(s, kind, &left, &right, m);
+    return true;
+}
+
+/* ---- Operators ---- */
+
+/* The marks of a part that closes, on all rows there are now. */
+static const uint8_t *marks_of(struct search *s, size_t part)
+{
+    uint8_t *m = s->marks + MOST_ROWS * part;
+    for (int row = s->marked[part]; row < s->rows; row++)
+        m[row] = m[row - s->plan->cycle];
+    s->marked[part] = s->rows;
+    return m;
+}
+
+static bool settle_past(struct search *s, int kind, size_t a, size_t b, uint8_t *m)
+{
+    int marked = 0;
+    for (;;) {
+        const uint8_t *of_a = marks_of(s, a), *of_b = marks_of(s, b);
+        make_past(kind, m, of_a, of_b, marked, s->rows);
+        marked = s->rows;
+        if (past_closes(kind, m, of_a, of_b, s->start, s->rows))
+            return true;
+        if (!lay_out_pass(s))
+            return false;
+    }
+}
+
+/* Of a part that names one the second field is 0: b is not used. */
+static bool settle_operator(struct search *s, int kind, const uint8_t *operand, uint8_t *m)
+{
+    size_t a = get16(operand), b = get16(operand + 2);
+    if (is_past(kind))
+        return settle_past(s, kind, a, b, m);
+    make_closed(kind, m, marks_of(s, a), marks_of(s, b), s->start, s->rows);
+    return true;
+}
+
+/* ---- The settler ---- */
+
+static bool settle_parts(struct search *s, const uint8_t *rule)
+{
+    size_t parts = get16(rule);
+    const uint8_t *kinds = rule + 4, *operands = kinds + parts;
+    for (size_t i = 0; i < parts; i++) {
+        uint8_t *m = s->marks + MOST_ROWS * i;
+        bool settled = is_comparison(kinds[i])
+                           ? settle_comparison(s, kinds[i], operands + 12 * i, m)
+                           : settle_operator(s, kinds[i], operands + 12 * i, m);
+        if (!settled)
+            return false;
+        s->marked[i] = s->rows;
+    }
+    return true;
+}
+
+uint64_t fast_settle(const uint8_t *rule, size_t rule_len, const uint8_t *plan, size_t plan_len,
+                     uint8_t *laid_out, size_t laid_out_len, uint8_t *scratch, size_t scratch_len)
+{
+    struct plan p;
+    struct search s;
+    uint64_t refused = check_rule(rule, rule_len);
+    if (refused)
+        return refused;
+    refused = check_plan(plan, plan_len, get16(rule + 2), &p);
+    if (refused)
+        return refused;
+    if (laid_out_len != LAID_OUT_LENGTH || scratch_len != SCRATCH_LENGTH)
+        return refuse(13, 0, 0);
+
+    start_search(&s, &p, scratch);
+    bool settled = settle_parts(&s, rule);
+    memset(scratch, 0, scratch_len);
+    if (!settled)
+        return refuse(15, 0, 0);
+    write_layout(plan, &p, s.passes, laid_out);
+    return (uint64_t)s.passes;
+}
