@@ -11,3 +11,4 @@ pub mod Extending
 pub mod Trying
 pub mod Making
 pub mod Searching
+pub mod Steadying

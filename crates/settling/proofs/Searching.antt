@@ -1,6 +1,7 @@
--- The search for the fewest passes, turn after turn: a part closes, or one more pass is laid out, on which the lower parts close too.
+-- The search for the fewest passes, turn after turn: a part closes, or more passes are laid out, on which the lower parts close too.
 -- Assumes nothing.
-use Prim.Native.Nat.{ℕ, _+_, _*_, _-_, _≤_, _<_}
+use Prim.Native.Nat.{ℕ, zero, suc, _+_, _*_, _-_, _≤_, _<_}
+use native.Mathlib.Nat.{add-zero, mul-le-mul-right}
 use native.Mathlib.Decide.{decLt}
 use native.Mathlib.Omega.{arith}
 use mathlib.Core.Path.{_≡_, refl, sym, ap, _∙_, subst, subst⁻¹}
@@ -34,12 +35,12 @@ use Rattle.labelling.specs.Labels.{madeMark}
 use Rattle.labelling.proofs.Made.{Closed}
 use Rattle.laid_out.specs.LaidOut.{laidOut, canBeLaid}
 use Rattle.laid_out.specs.inner.LaidSizes.{laidSizes}
-use Rattle.laid_out.proofs.CanBeLaid.{first-fits, passes-few}
+use Rattle.laid_out.proofs.CanBeLaid.{first-fits, passes-few, fewer-fit}
 use Rattle.laid_out.proofs.LaidRuns.{laid-fitting, laid-run}
 use Rattle.settling.specs.declared.Laid.{Laid}
 use Rattle.settling.specs.declared.Laid.the-variants as L
 use Rattle.settling.specs.Settle.{scratchLength, settlesAfter, fewestPasses, laidBy}
-use Rattle.settling.specs.inner.Scratch.{mostParts, mostRows, Room, markAt, Tried, MadeTo, closesOn, Extended}
+use Rattle.settling.specs.inner.Scratch.{mostParts, mostRows, Room, markAt, Tried, MadeTo, closesOn, Extended, NoneSettles}
 use Rattle.settling.proofs.Later.{later-closed, later-kept, later-again}
 use Rattle.settling.proofs.Searched.{closed-as, settles-as, none-yet, none-next, part-open, all-closed, search-found, search-ended}
 use Rattle.settling.proofs.Making.{tried-closes, tried-lower, tried-made}
@@ -91,6 +92,17 @@ module _ (rule plan : List ℕ) {n : ℕ} {z : Sizes} (ready : Ready rule plan n
   pub few-parts : {i : ℕ} → i ≤ n → i ≤ mostParts
   few-parts l = let few = few-there rule plan ready .0 in omega arith
 
+  -- There is room for the rows of more passes, from those of k on.
+  pub more-room : {k more : ℕ} → k < more → canBeLaid plan more ≡ true → {y : Sizes} → y ≡ laidSizes z k
+      → (1 ≤ y .cycle) × (y .start + y .cycle + (more - k) * y .cycle ≤ mostRows)
+  more-room {k} {more} l can e =
+      subst⁻¹ (λ (q : Sizes). (1 ≤ q .cycle) × (q .start + q .cycle + (more - k) * q .cycle ≤ mostRows)) e
+      (ready .fits .a-cycle,
+      (let few = laid more can .few-rows in
+      let split : k + (more - k) ≡ more = omega arith in
+      let whole : (k + (more - k)) * z .cycle ≡ more * z .cycle = ap (λ (m : ℕ). m * z .cycle) split in
+      omega arith))
+
   -- ---- before the first turn
 
   pub searching-first : Bytes plan → {scratch : List ℕ} → Room scratch → Searching rule plan n scratch 0 0
@@ -102,8 +114,79 @@ module _ (rule plan : List ℕ) {n : ℕ} {z : Sizes} (ready : Ready rule plan n
     made = record { room = room; marks = λ a l. absurd (omega arith) };
   }
 
+  -- ---- one pass more
+
+  -- so many passes: the parts below i close there, and are made
+  abbrev Lower : List ℕ → ℕ → ℕ → Type 0
+  Lower scratch i k = ((a : ℕ) → a < i → closesOn rule (laidOut plan k) a ≡ true) × MadeTo rule (laidOut plan k) scratch i
+
+  module _ (bytes : Bytes plan) {new : List ℕ} {i : ℕ} (few : i ≤ n) where
+    -- They close and are made where one pass more is laid out, their marks being repeated.
+    module _ (k : ℕ) (can : canBeLaid plan k ≡ true) (more : canBeLaid plan (k + 1) ≡ true) (lower : Lower new i k)
+        (again : (a : ℕ) → a < i → (row : ℕ) → z .start + k * z .cycle + z .cycle ≤ row → row < z .start + k * z .cycle + z .cycle + z .cycle → markAt new a row ≡ markAt new a (row - z .cycle)) where
+      this : Fitting (laidOut plan k) (laidSizes z k)
+      this = laid k can
+
+      next : Fitting (laidOut plan (k + 1)) (laidSizes z (k + 1))
+      next = laid (k + 1) more
+
+      this-cycle : 1 ≤ cycleRows (laidOut plan k)
+      this-cycle = own-cycle this
+
+      next-cycle : 1 ≤ cycleRows (laidOut plan (k + 1))
+      next-cycle = own-cycle next
+
+      same-cycle : cycleRows (laidOut plan (k + 1)) ≡ cycleRows (laidOut plan k)
+      same-cycle = next .c-is ∙ sym (this .c-is)
+
+      pass-later : startRows (laidOut plan (k + 1)) ≡ startRows (laidOut plan k) + cycleRows (laidOut plan k)
+      pass-later = let a = next .p-is in let b = this .p-is in let c = this .c-is in omega arith
+
+      same-run : (c : ℕ) → c < channelCount rule → (t : ℤ) → runOf (laidOut plan (k + 1)) c t ≡ runOf (laidOut plan k) c t
+      same-run c q t =
+          let within : c < channels plan = let a = ready .channels in let b = ready .fits .v-is in omega arith in
+          laid-run plan (ready .fits) (k + 1) more bytes c within t ∙ sym (laid-run plan (ready .fits) k can bytes c within t)
+
+      closed-this : (a : ℕ) → a < i → Closed (laidOut plan k) this-cycle (viewsOf rule) (channelCount rule) n (all-fit rule plan ready) a
+      closed-this a q = closed-as rule (laidOut plan k) this-cycle (channelCount rule) n (all-fit rule plan ready) a .0 (lower .0 a q)
+
+      closed-next : (a : ℕ) → a < i → closesOn rule (laidOut plan (k + 1)) a ≡ true
+      closed-next a q =
+          closed-as rule (laidOut plan (k + 1)) next-cycle (channelCount rule) n (all-fit rule plan ready) a .1
+          (later-closed (laidOut plan k) (laidOut plan (k + 1)) this-cycle same-cycle pass-later (viewsOf rule) (channelCount rule) n (all-fit rule plan ready) same-run i few closed-this a q)
+
+      marks : (a : ℕ) → a < i → (row : ℕ) → row < rows (laidOut plan (k + 1)) → madeMark (viewsOf rule) (laidOut plan (k + 1)) a row ≡ markAt new a row
+      marks a q row r =
+          let these = rows-are this in
+          let those = rows-are next in
+          by-cases (decLt row (rows (laidOut plan k)))
+          (λ t. later-kept (laidOut plan k) (laidOut plan (k + 1)) this-cycle same-cycle pass-later (viewsOf rule) (channelCount rule) n (all-fit rule plan ready) same-run i few closed-this a row q t
+          ∙ lower .1 .marks a q row t)
+          (λ t. let c = this .c-is in
+          let back : row - cycleRows (laidOut plan k) ≡ row - z .cycle = ap (λ (m : ℕ). row - m) c in
+          later-again (laidOut plan k) (laidOut plan (k + 1)) this-cycle same-cycle pass-later (viewsOf rule) (channelCount rule) n (all-fit rule plan ready) same-run i few closed-this a row q (omega arith) r
+          ∙ lower .1 .marks a q (row - cycleRows (laidOut plan k)) (omega arith)
+          ∙ ap (markAt new a) back
+          ∙ sym (again a q row (omega arith) (omega arith)))
+
+      lower-next : Lower new i (k + 1)
+      lower-next = (closed-next, record { room = lower .1 .room; marks = marks })
+
+    -- So they do where j passes more are.
+    module _ (k times : ℕ) (can : canBeLaid plan (k + times) ≡ true) (lower : Lower new i k)
+        (again : (a : ℕ) → a < i → (row : ℕ) → z .start + k * z .cycle + z .cycle ≤ row → row < z .start + k * z .cycle + z .cycle + times * z .cycle → markAt new a row ≡ markAt new a (row - z .cycle)) where
+      lower-later : (j : ℕ) → j ≤ times → Lower new i (k + j)
+      lower-later zero l = subst⁻¹ (Lower new i) (add-zero k) lower
+      lower-later (suc j) l =
+          let next : k + j + 1 ≡ k + suc j = omega arith in
+          subst (Lower new i) next
+          (lower-next (k + j) (fewer-fit plan (k + j) (k + times) (omega arith) can) (fewer-fit plan (k + j + 1) (k + times) (omega arith) can) (lower-later j (omega arith))
+          (λ a q row low high. again a q row (omega arith) (omega (arith, mul-le-mul-right (z .cycle) l))))
+
+  -- ---- part i is tried
+
   module _ {old : List ℕ} {k i : ℕ} (s : Searching rule plan n old k i) {b : Bool} (is : b ≡ closesOn rule (laidOut plan k) i) where
-    -- ---- part i closes
+    -- It closes,
 
     pub part-closes : i < n → b ≡ true → {new : List ℕ} → MadeTo rule (laidOut plan k) new (i + 1) → Searching rule plan n new k (i + 1)
     part-closes l h {new} made = record {
@@ -115,75 +198,44 @@ module _ (rule plan : List ℕ) {n : ℕ} {z : Sizes} (ready : Ready rule plan n
       made = made;
     }
 
-    -- ---- it does not: so many passes do not settle
+    -- or it does not: so many passes do not settle, nor do those that are passed over;
+    module _ (l : i < n) (h : b ≡ false) {more : ℕ} (later : k < more) (over : NoneSettles rule plan (k + 1) more) where
+      no-fewer : (m : ℕ) → m < more → settlesAfter rule plan m ≡ false
+      no-fewer m q =
+          by-cases (decLt m (k + 1))
+          (none-next rule plan k (s .none-fewer) (part-open rule plan k i (subst (λ (m : ℕ). i < m) (ready .parts) l) (sym is ∙ h)) m)
+          (λ t. over m (omega arith) q)
 
-    module _ (l : i < n) (h : b ≡ false) where
-      no-fewer : (m : ℕ) → m < k + 1 → settlesAfter rule plan m ≡ false
-      no-fewer = none-next rule plan k (s .none-fewer) (part-open rule plan k i (subst (λ (m : ℕ). i < m) (ready .parts) l) (sym is ∙ h))
+      -- the next can't be laid out,
+      pub no-more : {c : Bool} → c ≡ canBeLaid plan more → not c ≡ true → L.Refused NoLayout ≡ laidBy (fewestPasses rule plan)
+      no-more {c} e t = sym (ap laidBy (search-ended rule plan more no-fewer (sym e ∙ not-true c t)))
 
-      -- and one more can't be laid out,
-      pub no-more : {c : Bool} → c ≡ canBeLaid plan (k + 1) → not c ≡ true → L.Refused NoLayout ≡ laidBy (fewestPasses rule plan)
-      no-more {c} e t = sym (ap laidBy (search-ended rule plan (k + 1) no-fewer (sym e ∙ not-true c t)))
+      -- or they can, and the lower parts, which repeat, are made on their layout.
+      module _ (bytes : Bytes plan) (can : canBeLaid plan more ≡ true) {mid new : List ℕ} (lower : MadeTo rule (laidOut plan k) mid i)
+          {y : Sizes} (sizes : y ≡ laidSizes z k) (extended : Extended mid new (y .start) (y .cycle) (more - k) i) where
+        longer : Extended mid new (z .start + k * z .cycle) (z .cycle) (more - k) i
+        longer = subst (λ (q : Sizes). Extended mid new (q .start) (q .cycle) (more - k) i) sizes extended
 
-      -- or it can, and the lower parts, which repeat, are made on its layout.
-      module _ (bytes : Bytes plan) (more : canBeLaid plan (k + 1) ≡ true) {mid new : List ℕ} (lower : MadeTo rule (laidOut plan k) mid i)
-          {y : Sizes} (sizes : y ≡ laidSizes z k) (extended : Extended mid new (y .start) (y .cycle) i) where
-        longer : Extended mid new (z .start + k * z .cycle) (z .cycle) i
-        longer = subst (λ (q : Sizes). Extended mid new (q .start) (q .cycle) i) sizes extended
+        passes : k + (more - k) ≡ more
+        passes = omega arith
 
-        this : Fitting (laidOut plan k) (laidSizes z k)
-        this = laid k (s .can)
+        lower-first : Lower new i k
+        lower-first =
+            let these = rows-are (laid k (s .can)) in
+            (s .closed, record { room = longer .room; marks = λ a q row r. lower .marks a q row r ∙ sym (longer .kept a q row (omega arith)) })
 
-        next : Fitting (laidOut plan (k + 1)) (laidSizes z (k + 1))
-        next = laid (k + 1) more
+        lower-last : Lower new i more
+        lower-last =
+            subst (Lower new i) passes
+            (lower-later bytes (s .few) k (more - k) (subst⁻¹ (λ (m : ℕ). canBeLaid plan m ≡ true) passes can) lower-first (longer .again) (more - k) (omega arith))
 
-        this-cycle : 1 ≤ cycleRows (laidOut plan k)
-        this-cycle = own-cycle this
-
-        next-cycle : 1 ≤ cycleRows (laidOut plan (k + 1))
-        next-cycle = own-cycle next
-
-        same-cycle : cycleRows (laidOut plan (k + 1)) ≡ cycleRows (laidOut plan k)
-        same-cycle = next .c-is ∙ sym (this .c-is)
-
-        pass-later : startRows (laidOut plan (k + 1)) ≡ startRows (laidOut plan k) + cycleRows (laidOut plan k)
-        pass-later = let a = next .p-is in let b = this .p-is in let c = this .c-is in omega arith
-
-        same-run : (c : ℕ) → c < channelCount rule → (t : ℤ) → runOf (laidOut plan (k + 1)) c t ≡ runOf (laidOut plan k) c t
-        same-run c q t =
-            let within : c < channels plan = let a = ready .channels in let b = ready .fits .v-is in omega arith in
-            laid-run plan (ready .fits) (k + 1) more bytes c within t ∙ sym (laid-run plan (ready .fits) k (s .can) bytes c within t)
-
-        closed-this : (a : ℕ) → a < i → Closed (laidOut plan k) this-cycle (viewsOf rule) (channelCount rule) n (all-fit rule plan ready) a
-        closed-this a q = closed-as rule (laidOut plan k) this-cycle (channelCount rule) n (all-fit rule plan ready) a .0 (s .closed a q)
-
-        closed-next : (a : ℕ) → a < i → closesOn rule (laidOut plan (k + 1)) a ≡ true
-        closed-next a q =
-            closed-as rule (laidOut plan (k + 1)) next-cycle (channelCount rule) n (all-fit rule plan ready) a .1
-            (later-closed (laidOut plan k) (laidOut plan (k + 1)) this-cycle same-cycle pass-later (viewsOf rule) (channelCount rule) n (all-fit rule plan ready) same-run i (s .few) closed-this a q)
-
-        marks : (a : ℕ) → a < i → (row : ℕ) → row < rows (laidOut plan (k + 1)) → madeMark (viewsOf rule) (laidOut plan (k + 1)) a row ≡ markAt new a row
-        marks a q row r =
-            let these = rows-are this in
-            let those = rows-are next in
-            by-cases (decLt row (rows (laidOut plan k)))
-            (λ t. later-kept (laidOut plan k) (laidOut plan (k + 1)) this-cycle same-cycle pass-later (viewsOf rule) (channelCount rule) n (all-fit rule plan ready) same-run i (s .few) closed-this a row q t
-            ∙ lower .marks a q row t
-            ∙ sym (longer .kept a q row (omega arith)))
-            (λ t. let c = this .c-is in
-            let back : row - cycleRows (laidOut plan k) ≡ row - z .cycle = ap (λ (m : ℕ). row - m) c in
-            later-again (laidOut plan k) (laidOut plan (k + 1)) this-cycle same-cycle pass-later (viewsOf rule) (channelCount rule) n (all-fit rule plan ready) same-run i (s .few) closed-this a row q (omega arith) r
-            ∙ lower .marks a q (row - cycleRows (laidOut plan k)) (omega arith)
-            ∙ ap (markAt mid a) back
-            ∙ sym (longer .again a q row (omega arith) (omega arith)))
-
-        pub one-more : Searching rule plan n new (k + 1) i
-        one-more = record {
+        pub more-laid : Searching rule plan n new more i
+        more-laid = record {
           few = s .few;
-          can = more;
+          can = can;
           none-fewer = no-fewer;
-          closed = closed-next;
-          made = record { room = longer .room; marks = marks };
+          closed = lower-last .0;
+          made = lower-last .1;
         }
 
   -- ---- after the last turn

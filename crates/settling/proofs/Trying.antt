@@ -140,7 +140,7 @@ module _ (plan : List ℕ) {z : Sizes} (fit : Fitting plan z) (k : ℕ) (can : c
           ∙ sym (simp (le-ltb t (startRows (laidOut plan k)) (omega (arith, laid .p-is))))
 
       -- So it changes on no cycle row of the layout where it changes on none of those positions.
-      steady-as : (i : ℕ) (mark : ℕ → ℕ → Bool) → isNone (changingFrom plan x S (z .cycle)) ≡ isClear (closingOutcome (laidOut plan k) mark (view.Atom a) i)
+      pub steady-as : (i : ℕ) (mark : ℕ → ℕ → Bool) → isNone (changingFrom plan x S (z .cycle)) ≡ isClear (closingOutcome (laidOut plan k) mark (view.Atom a) i)
       unfolding changingFrom closingOutcome steadyOutcome
       steady-as i mark =
           ap isNone (from-ext (λ t. isChanges (judgeCycle plan x 4 t)) (λ t. isChanges (verdictOf (laidOut plan k) a t)) S (z .cycle) (λ t low _. ap isChanges (on-row t low)))

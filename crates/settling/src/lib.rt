@@ -3,6 +3,7 @@ pub mod comparisons;
 pub mod extend;
 pub mod parts;
 pub mod search;
+pub mod steady;
 
 ghost use mathlib.Core.Path.{_≡_};
 ghost use Rattle.inputs.specs.inner.Read.{Ready};

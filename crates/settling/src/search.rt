@@ -1,5 +1,5 @@
 // The search for the fewest passes. Closing is monotone in the passes, so that parts are gone through once, the lowest first: one that
-// does not close asks for a pass more, on which the lower parts close too, with marks that repeat.
+// does not close asks for more passes, on which the lower parts close too, with marks that repeat.
 ghost use mathlib.Core.Path.{_≡_};
 ghost use Rattle.inputs.specs.inner.Read.{Ready};
 ghost use Rattle.settling.specs.Settle.{fewestPasses, laidBy};
@@ -7,7 +7,8 @@ ghost use Rattle.settling.specs.inner.Scratch.{Room};
 use crate::Laid;
 use crate::extend::extend;
 use crate::parts::try_part;
-use laid_out::fits::fits_next;
+use crate::steady::fits_after;
+use crate::steady::next_passes;
 use laid_out::numbers::laid_sizes;
 use plan::sizes::Sizes;
 use refusal::Refusal;
@@ -23,11 +24,12 @@ pub fn fewest_passes(rule: &[u8], plan: &[u8], scratch: &mut [u8], n: usize, siz
         if try_part(rule, plan, scratch, n, sizes, passes, i) {
             i += 1;
         } else {
-            if !fits_next(plan, sizes, passes) {
+            let more = next_passes(rule, plan, n, sizes, passes, i);
+            if !fits_after(plan, sizes, passes, more) {
                 return Laid::Refused(Refusal::NoLayout);
             }
-            extend(scratch, laid_sizes(sizes, passes), i);
-            passes += 1;
+            extend(scratch, laid_sizes(sizes, passes), more - passes, i);
+            passes = more;
         }
     }
     Laid::Passes(passes)

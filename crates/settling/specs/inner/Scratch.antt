@@ -9,6 +9,7 @@ use Rattle.cltlb.specs.declared.View.{View}
 use Rattle.refusal.specs.Lowest.{lowestFrom}
 use Rattle.rule.specs.Take.{viewsOf}
 use Rattle.plan.specs.Layout.{rows}
+use Rattle.plan.specs.declared.sizes.Sizes.{Sizes}
 use Rattle.verdict.specs.Rows.{judgeCycle}
 use Rattle.verdict.specs.declared.Comparison.{Comparison}
 use Rattle.table.specs.Layout.{marked}
@@ -17,7 +18,7 @@ use Rattle.table.specs.inner.Stored.{Stored}
 use Rattle.table.specs.inner.Tables.{Sized}
 use Rattle.marks.specs.Parts.{isChanges, closingOutcome}
 use Rattle.labelling.specs.Labels.{labelOf, madeMark}
-use Rattle.settling.specs.Settle.{isClear}
+use Rattle.settling.specs.Settle.{isClear, settlesAfter}
 
 -- room for as many parts and rows as there can be
 abbrev pub mostParts : ℕ
@@ -59,8 +60,16 @@ pub record MadeTo (rule layout scratch : List ℕ) (i : ℕ) : Type 0 where
 abbrev pub closesOn : List ℕ → List ℕ → ℕ → Bool
 closesOn rule layout i = isClear (closingOutcome layout (madeMark (viewsOf rule) layout) (viewsOf rule i) i)
 
--- The marks of the parts below i, which repeat from row P on, on C rows more: those of the rows before, once more.
-pub record Extended (old new : List ℕ) (P C i : ℕ) : Type 0 where
+-- The marks of the parts below i, which repeat from row P on, on so many times C rows more.
+pub record Extended (old new : List ℕ) (P C times i : ℕ) : Type 0 where
   pub room : Room new
   pub kept : (a : ℕ) → a < i → (row : ℕ) → row < P + C → markAt new a row ≡ markAt old a row
-  pub again : (a : ℕ) → a < i → (row : ℕ) → P + C ≤ row → row < P + C + C → markAt new a row ≡ markAt old a (row - C)
+  pub again : (a : ℕ) → a < i → (row : ℕ) → P + C ≤ row → row < P + C + times * C → markAt new a row ≡ markAt new a (row - C)
+
+-- A comparison changes on every layout of `from` to below `to` passes.
+abbrev pub Unsteady : List ℕ → Sizes → Comparison → ℕ → ℕ → Type 0
+Unsteady plan z x from to = (m : ℕ) → from ≤ m → m < to → isNone (changingFrom plan x (z .start + m * z .cycle) (z .cycle)) ≡ false
+
+-- No number of passes from `from` to below `to` settles.
+abbrev pub NoneSettles : List ℕ → List ℕ → ℕ → ℕ → Type 0
+NoneSettles rule plan from to = (m : ℕ) → from ≤ m → m < to → settlesAfter rule plan m ≡ false

@@ -5,17 +5,17 @@ use denote.Ref.{now}
 use Rattle.fields.proofs.ByteParts.{as-bytes}
 use Prim.Native.Nat.{_+_, _-_}
 use Rattle.plan.specs.declared.sizes.Sizes.{Sizes}
-use Rattle.settling.proofs.Searching.{Searching, few-passes, few-parts, searching-first, part-closes, no-more, one-more, all-close}
-use Rattle.settling.proofs.Trying.{laid-rows}
+use Rattle.settling.proofs.Searching.{Searching, few-passes, few-parts, more-room, searching-first, part-closes, no-more, more-laid, all-close}
 use Rattle.settling.proofs.Searching.{not-false}
 use Rattle.settling.proofs.search.fewest_passes.Statement.{statement}
 use Rattle.settling.proofs.search.fewest_passes.Tie as tie
 use Rattle.settling.proofs.search.fewest_passes.Reads as reads
 use Rattle.settling.proofs.search.fewest_passes.Lts as lts
-use Rattle.laid_out.proofs.fits.fits_next.Reads as fits-next-reads
 use Rattle.laid_out.proofs.numbers.laid_sizes.Reads as laid-sizes-reads
 use Rattle.settling.proofs.extend.extend.Reads as extend-reads
 use Rattle.settling.proofs.parts.try_part.Reads as try-part-reads
+use Rattle.settling.proofs.steady.fits_after.Reads as fits-after-reads
+use Rattle.settling.proofs.steady.next_passes.Reads as next-passes-reads
 
 abbrev Inv-loop : tie.InvT-loop
 Inv-loop rule plan scratch₀ n sizes passes₀ i₀ scratch passes i = Searching rule plan n scratch passes i
@@ -23,63 +23,67 @@ Inv-loop rule plan scratch₀ n sizes passes₀ i₀ scratch passes i = Searchin
 abbrev μ-loop : tie.MeasureT-loop
 μ-loop rule plan scratch₀ n sizes passes₀ i₀ scratch passes i = (n - i) + (256 - passes)
 
--- src/search.rt:28:5
+-- src/search.rt:23:5
 loop-holds : tie.Need-loop-holds Inv-loop μ-loop
 loop-holds c = searching-first (now (c .before .before .before .args .rule)) (now (c .before .before .before .args .plan)) (c .before .before .before .pre .0) (as-bytes (now (c .before .before .before .args .plan)) (λ i. omega (arith, c .before .shared-slice-known2 .given i))) (c .before .before .before .pre .1)
 
--- src/search.rt:29:12
+-- src/search.rt:24:12
 try-part-requires : tie.Need-try-part-requires Inv-loop μ-loop
 try-part-requires c κs = (c .before .before .before .before .before .before .pre .0, c .before .before .loop .inv .can, c .before .before .loop .inv .made, c .before .loop-test .taken)
 
--- src/search.rt:30:13
+-- src/search.rt:25:13
 add-i : tie.Need-add-i Inv-loop μ-loop
 add-i c = search needs
 
--- src/search.rt:28:5
+-- src/search.rt:23:5
 loop-less : tie.Need-loop-less Inv-loop μ-loop
 loop-less c = omega (arith, c .before .before .before .before .before .loop-test .taken)
 
--- src/search.rt:28:5
+-- src/search.rt:23:5
 loop-again : tie.Need-loop-again Inv-loop μ-loop
 loop-again c = part-closes (now (c .before .before .before .before .before .before .before .before .before .before .args .rule)) (now (c .before .before .before .before .before .before .before .before .before .before .args .plan)) (c .before .before .before .before .before .before .before .before .before .before .pre .0) (c .before .before .before .before .before .before .loop .inv) (c .before .before .before .try-part .ensures .0) (c .before .before .before .before .before .loop-test .taken) (c .if1 .taken) (c .before .before .before .try-part .ensures .2 (c .if1 .taken))
 
--- src/search.rt:32:17
-fits-next-requires : tie.Need-fits-next-requires Inv-loop μ-loop
-fits-next-requires c κs = (c .before .before .before .before .before .before .before .before .before .before .pre .0 .fits, c .before .before .before .before .before .before .loop .inv .can)
+-- src/search.rt:27:17
+next-passes-requires : tie.Need-next-passes-requires Inv-loop μ-loop
+next-passes-requires c κs = (c .before .before .before .before .before .before .before .before .before .before .pre .0, c .before .before .before .before .before .loop-test .taken, few-passes (now (c .before .before .before .before .before .before .before .before .before .before .args .rule)) (now (c .before .before .before .before .before .before .before .before .before .before .args .plan)) (c .before .before .before .before .before .before .before .before .before .before .pre .0) (c .before .before .before .before .before .before .loop .passes) (c .before .before .before .before .before .before .loop .inv .can))
 
--- src/search.rt:33:17
+-- src/search.rt:28:17
+fits-after-requires : tie.Need-fits-after-requires Inv-loop μ-loop
+fits-after-requires c κs = (c .before .before .before .before .before .before .before .before .before .before .before .pre .0 .fits, c .before .before .before .before .before .before .before .loop .inv .can, omega (arith, c .next-passes .ensures .0))
+
+-- src/search.rt:29:17
 same-length : tie.Need-same-length Inv-loop μ-loop
 same-length c = search needs
 
--- src/search.rt:33:17
+-- src/search.rt:29:17
 returns : tie.Need-returns Inv-loop μ-loop
-returns c = no-more (now (c .before .before .before .before .before .before .before .before .before .before .before .before .args .rule)) (now (c .before .before .before .before .before .before .before .before .before .before .before .before .args .plan)) (c .before .before .before .before .before .before .before .before .before .before .before .before .pre .0) (c .before .before .before .before .before .before .before .before .loop .inv) (c .before .before .before .before .before .try-part .ensures .0) (c .before .before .before .before .before .before .before .loop-test .taken) (c .before .before .if1 .left) (c .before .fits-next .ensures) (c .if2 .taken)
+returns c = no-more (now (c .before .before .before .before .before .before .before .before .before .before .before .before .before .args .rule)) (now (c .before .before .before .before .before .before .before .before .before .before .before .before .before .args .plan)) (c .before .before .before .before .before .before .before .before .before .before .before .before .before .pre .0) (c .before .before .before .before .before .before .before .before .before .loop .inv) (c .before .before .before .before .before .before .try-part .ensures .0) (c .before .before .before .before .before .before .before .before .loop-test .taken) (c .before .before .before .if1 .left) (c .before .before .next-passes .ensures .0) (c .before .before .next-passes .ensures .2) (c .before .fits-after .ensures) (c .if2 .taken)
 
--- src/search.rt:35:29
+-- src/search.rt:31:29
 laid-sizes-requires : tie.Need-laid-sizes-requires Inv-loop μ-loop
-laid-sizes-requires c κs = (few-passes (now (c .before .before .before .before .before .before .before .before .before .before .before .before .before .args .rule)) (now (c .before .before .before .before .before .before .before .before .before .before .before .before .before .args .plan)) (c .before .before .before .before .before .before .before .before .before .before .before .before .before .pre .0) (c .before .before .before .before .before .before .before .before .before .loop .passes) (c .before .before .before .before .before .before .before .before .before .loop .inv .can), c .before .before .before .before .before .before .before .before .before .before .before .before .before .pre .0 .fits .few-rows)
+laid-sizes-requires c κs = (few-passes (now (c .before .before .before .before .before .before .before .before .before .before .before .before .before .before .args .rule)) (now (c .before .before .before .before .before .before .before .before .before .before .before .before .before .before .args .plan)) (c .before .before .before .before .before .before .before .before .before .before .before .before .before .before .pre .0) (c .before .before .before .before .before .before .before .before .before .before .loop .passes) (c .before .before .before .before .before .before .before .before .before .before .loop .inv .can), c .before .before .before .before .before .before .before .before .before .before .before .before .before .before .pre .0 .fits .few-rows)
 
--- src/search.rt:35:13
+-- src/search.rt:31:56
+sub-extend : tie.Need-sub-extend Inv-loop μ-loop
+sub-extend c = omega (arith, c .before .before .before .before .next-passes .ensures .0)
+
+-- src/search.rt:31:13
 extend-requires : tie.Need-extend-requires Inv-loop μ-loop
-extend-requires c κs = (c .before .before .before .before .before .before .before .try-part .ensures .1 .room, omega (arith, ap (λ (q : Sizes). q .start) (c .laid-sizes .ensures), ap (λ (q : Sizes). q .cycle) (c .laid-sizes .ensures), laid-rows (now (c .before .before .before .before .before .before .before .before .before .before .before .before .before .before .args .plan)) (c .before .before .before .before .before .before .before .before .before .before .before .before .before .before .pre .0 .fits) (c .before .before .before .before .before .before .before .before .before .before .loop .passes + 1) (not-false (c .before .before .before .fits-next .ensures) (c .before .before .if2 .left)) .0), few-parts (now (c .before .before .before .before .before .before .before .before .before .before .before .before .before .before .args .rule)) (now (c .before .before .before .before .before .before .before .before .before .before .before .before .before .before .args .plan)) (c .before .before .before .before .before .before .before .before .before .before .before .before .before .before .pre .0) (c .before .before .before .before .before .before .before .before .before .before .loop .inv .few))
+extend-requires c κs = (c .before .before .before .before .before .before .before .before .try-part .ensures .1 .room, more-room (now (c .before .before .before .before .before .before .before .before .before .before .before .before .before .before .before .args .rule)) (now (c .before .before .before .before .before .before .before .before .before .before .before .before .before .before .before .args .plan)) (c .before .before .before .before .before .before .before .before .before .before .before .before .before .before .before .pre .0) (c .before .before .before .before .next-passes .ensures .0) (not-false (c .before .before .before .fits-after .ensures) (c .before .before .if2 .left)) (c .laid-sizes .ensures) .0, more-room (now (c .before .before .before .before .before .before .before .before .before .before .before .before .before .before .before .args .rule)) (now (c .before .before .before .before .before .before .before .before .before .before .before .before .before .before .before .args .plan)) (c .before .before .before .before .before .before .before .before .before .before .before .before .before .before .before .pre .0) (c .before .before .before .before .next-passes .ensures .0) (not-false (c .before .before .before .fits-after .ensures) (c .before .before .if2 .left)) (c .laid-sizes .ensures) .1, few-parts (now (c .before .before .before .before .before .before .before .before .before .before .before .before .before .before .before .args .rule)) (now (c .before .before .before .before .before .before .before .before .before .before .before .before .before .before .before .args .plan)) (c .before .before .before .before .before .before .before .before .before .before .before .before .before .before .before .pre .0) (c .before .before .before .before .before .before .before .before .before .before .before .loop .inv .few))
 
--- src/search.rt:36:13
-add-passes : tie.Need-add-passes Inv-loop μ-loop
-add-passes c = omega (arith, few-passes (now (c .before .before .before .before .before .before .before .before .before .before .before .before .before .before .before .before .before .args .rule)) (now (c .before .before .before .before .before .before .before .before .before .before .before .before .before .before .before .before .before .args .plan)) (c .before .before .before .before .before .before .before .before .before .before .before .before .before .before .before .before .before .pre .0) (c .before .before .before .before .before .before .before .before .before .before .before .before .before .loop .passes) (c .before .before .before .before .before .before .before .before .before .before .before .before .before .loop .inv .can))
-
--- src/search.rt:28:5
+-- src/search.rt:23:5
 loop-less-2 : tie.Need-loop-less-2 Inv-loop μ-loop
-loop-less-2 c = omega (arith, few-passes (now (c .before .before .before .before .before .before .before .before .before .before .before .before .before .before .before .before .before .args .rule)) (now (c .before .before .before .before .before .before .before .before .before .before .before .before .before .before .before .before .before .args .plan)) (c .before .before .before .before .before .before .before .before .before .before .before .before .before .before .before .before .before .pre .0) (c .before .before .before .before .before .before .before .before .before .before .before .before .before .loop .passes) (c .before .before .before .before .before .before .before .before .before .before .before .before .before .loop .inv .can))
+loop-less-2 c = omega (arith, few-passes (now (c .before .before .before .before .before .before .before .before .before .before .before .before .before .before .before .before .before .before .args .rule)) (now (c .before .before .before .before .before .before .before .before .before .before .before .before .before .before .before .before .before .before .args .plan)) (c .before .before .before .before .before .before .before .before .before .before .before .before .before .before .before .before .before .before .pre .0) (c .before .before .before .before .before .before .before .before .before .before .before .before .before .before .loop .passes) (c .before .before .before .before .before .before .before .before .before .before .before .before .before .before .loop .inv .can), c .before .before .before .before .before .before .before .next-passes .ensures .0)
 
--- src/search.rt:28:5
+-- src/search.rt:23:5
 loop-again-2 : tie.Need-loop-again-2 Inv-loop μ-loop
-loop-again-2 c = one-more (now (c .before .before .before .before .before .before .before .before .before .before .before .before .before .before .before .before .before .args .rule)) (now (c .before .before .before .before .before .before .before .before .before .before .before .before .before .before .before .before .before .args .plan)) (c .before .before .before .before .before .before .before .before .before .before .before .before .before .before .before .before .before .pre .0) (c .before .before .before .before .before .before .before .before .before .before .before .before .before .loop .inv) (c .before .before .before .before .before .before .before .before .before .before .try-part .ensures .0) (c .before .before .before .before .before .before .before .before .before .before .before .before .loop-test .taken) (c .before .before .before .before .before .before .before .if1 .left) (as-bytes (now (c .before .before .before .before .before .before .before .before .before .before .before .before .before .before .before .before .before .args .plan)) (λ i. omega (arith, c .before .before .before .before .before .before .before .before .before .before .before .before .before .before .before .shared-slice-known2 .given i))) (not-false (c .before .before .before .before .before .before .fits-next .ensures) (c .before .before .before .before .before .if2 .left)) (c .before .before .before .before .before .before .before .before .before .before .try-part .ensures .1) (c .before .before .before .laid-sizes .ensures) (c .before .before .extend .ensures)
+loop-again-2 c = more-laid (now (c .before .before .before .before .before .before .before .before .before .before .before .before .before .before .before .before .before .before .args .rule)) (now (c .before .before .before .before .before .before .before .before .before .before .before .before .before .before .before .before .before .before .args .plan)) (c .before .before .before .before .before .before .before .before .before .before .before .before .before .before .before .before .before .before .pre .0) (c .before .before .before .before .before .before .before .before .before .before .before .before .before .before .loop .inv) (c .before .before .before .before .before .before .before .before .before .before .before .try-part .ensures .0) (c .before .before .before .before .before .before .before .before .before .before .before .before .before .loop-test .taken) (c .before .before .before .before .before .before .before .before .if1 .left) (c .before .before .before .before .before .before .before .next-passes .ensures .0) (c .before .before .before .before .before .before .before .next-passes .ensures .2) (as-bytes (now (c .before .before .before .before .before .before .before .before .before .before .before .before .before .before .before .before .before .before .args .plan)) (λ i. omega (arith, c .before .before .before .before .before .before .before .before .before .before .before .before .before .before .before .before .shared-slice-known2 .given i))) (not-false (c .before .before .before .before .before .before .fits-after .ensures) (c .before .before .before .before .before .if2 .left)) (c .before .before .before .before .before .before .before .before .before .before .before .try-part .ensures .1) (c .before .before .before .laid-sizes .ensures) (c .before .before .extend .ensures)
 
--- src/search.rt:16:1
+-- src/search.rt:17:1
 same-length-2 : tie.Need-same-length-2 Inv-loop μ-loop
 same-length-2 c = search needs
 
--- src/search.rt:16:1
+-- src/search.rt:17:1
 returns-2 : tie.Need-returns-2 Inv-loop μ-loop
 returns-2 c = all-close (now (c .before .before .before .before .before .args .rule)) (now (c .before .before .before .before .before .args .plan)) (c .before .before .before .before .before .pre .0) (c .before .loop .inv) (c .loop-test .left)
 
@@ -94,12 +98,13 @@ fewest-passes-spec =
     add-i
     loop-less
     loop-again
-    fits-next-requires
+    next-passes-requires
+    fits-after-requires
     same-length
     returns
     laid-sizes-requires
+    sub-extend
     extend-requires
-    add-passes
     loop-less-2
     loop-again-2
     same-length-2

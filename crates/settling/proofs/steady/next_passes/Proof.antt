@@ -1,0 +1,88 @@
+use native.Mathlib.Omega.{arith}
+use denote.Ref.{now}
+use Rattle.fields.proofs.ByteParts.{as-bytes}
+use Rattle.settling.proofs.Steadying.{none-over, part-terms, passed-over}
+use borrow.Author.Needs.{needs}
+use Rattle.settling.proofs.steady.next_passes.Statement.{statement}
+use Rattle.settling.proofs.steady.next_passes.Tie as tie
+use Rattle.settling.proofs.steady.next_passes.Reads as reads
+use Rattle.settling.proofs.steady.next_passes.Lts as lts
+use Rattle.cltlb.proofs.view_of.Reads as view-of-reads
+use Rattle.rule.proofs.take.Reads as take-reads
+use Rattle.settling.proofs.steady.steady_after.Reads as steady-after-reads
+use Rattle.verdict.proofs.rows.comparison_of.Reads as comparison-of-reads
+
+-- src/steady.rt:51:9
+take-requires : tie.Need-take-requires
+take-requires c κs = search needs
+
+-- src/steady.rt:52:21
+enum-known-taken : tie.Need-enum-known-taken
+enum-known-taken c = search needs
+
+-- src/steady.rt:53:16
+enum-told : tie.Need-enum-told
+enum-told c = search needs
+
+-- src/steady.rt:53:16
+add-result : tie.Need-add-result
+add-result c = search needs
+
+-- src/steady.rt:53:9
+returns : tie.Need-returns
+returns c = (none-over (now (c .before .before .before .before .before .args .rule)) (now (c .before .before .before .before .before .args .plan)) (c .before .before .before .before .before .args .passes) .0, omega (arith, c .before .before .before .before .before .pre .2), none-over (now (c .before .before .before .before .before .args .rule)) (now (c .before .before .before .before .before .args .plan)) (c .before .before .before .before .before .args .passes) .1)
+
+-- src/steady.rt:55:28
+view-of-requires : tie.Need-view-of-requires
+view-of-requires c κs = search needs
+
+-- src/steady.rt:55:20
+enum-known-atom : tie.Need-enum-known-atom
+enum-known-atom c = search needs
+
+-- src/steady.rt:56:16
+enum-told-2 : tie.Need-enum-told-2
+enum-told-2 c = search needs
+
+-- src/steady.rt:56:16
+add-result-2 : tie.Need-add-result-2
+add-result-2 c = search needs
+
+-- src/steady.rt:56:9
+returns-2 : tie.Need-returns-2
+returns-2 c = (none-over (now (c .before .before .before .before .before .before .before .before .before .args .rule)) (now (c .before .before .before .before .before .before .before .before .before .args .plan)) (c .before .before .before .before .before .before .before .before .before .args .passes) .0, omega (arith, c .before .before .before .before .before .before .before .before .before .pre .2), none-over (now (c .before .before .before .before .before .before .before .before .before .args .rule)) (now (c .before .before .before .before .before .before .before .before .before .args .plan)) (c .before .before .before .before .before .before .before .before .before .args .passes) .1)
+
+-- src/steady.rt:58:31
+comparison-of-requires : tie.Need-comparison-of-requires
+comparison-of-requires c κs = search needs
+
+-- src/steady.rt:58:52
+add-steady-after : tie.Need-add-steady-after
+add-steady-after c = search needs
+
+-- src/steady.rt:58:5
+steady-after-requires : tie.Need-steady-after-requires
+steady-after-requires c κs = (c .before .before .before .before .before .before .before .before .before .before .before .pre .0 .fits, part-terms (now (c .before .before .before .before .before .before .before .before .before .before .before .args .rule)) (now (c .before .before .before .before .before .before .before .before .before .before .before .args .plan)) (c .before .before .before .before .before .before .before .before .before .before .before .pre .0) (as-bytes (now (c .before .before .before .before .before .before .before .before .before .before .before .args .plan)) (λ i. omega (arith, c .before .before .before .before .before .before .before .before .before .shared-slice-known2 .given i))) (c .before .before .before .before .before .before .before .before .before .before .before .args .i) (c .before .before .before .before .before .before .before .before .before .before .before .pre .1) (c .before .before .before .before .before .before .before .before .take .ensures .isTake) (c .before .before .before .before .before .before .taken .given .1) (c .before .before .before .before .view-of .ensures) (c .before .before .atom .given .1) (c .comparison-of .ensures), omega (arith, c .before .before .before .before .before .before .before .before .before .before .before .pre .2))
+
+-- src/steady.rt:40:1
+returns-3 : tie.Need-returns-3
+returns-3 c = (omega (arith, c .steady-after .ensures .0), c .steady-after .ensures .1, passed-over (now (c .before .before .before .before .before .before .before .before .before .before .before .before .args .rule)) (now (c .before .before .before .before .before .before .before .before .before .before .before .before .args .plan)) (c .before .before .before .before .before .before .before .before .before .before .before .before .pre .0) (as-bytes (now (c .before .before .before .before .before .before .before .before .before .before .before .before .args .plan)) (λ i. omega (arith, c .before .before .before .before .before .before .before .before .before .before .shared-slice-known2 .given i))) (c .before .before .before .before .before .before .before .before .before .before .before .before .args .i) (c .before .before .before .before .before .before .before .before .before .before .before .before .pre .1) (c .before .before .before .before .before .before .before .before .before .take .ensures .isTake) (c .before .before .before .before .before .before .before .taken .given .1) (c .before .before .before .before .before .view-of .ensures) (c .before .before .before .atom .given .1) (c .before .comparison-of .ensures) (c .steady-after .ensures .2))
+
+pub next-passes-spec : {M : Type 1} → statement M
+next-passes-spec =
+    tie.close
+    (tie.spec
+    take-requires
+    enum-known-taken
+    enum-told
+    add-result
+    returns
+    view-of-requires
+    enum-known-atom
+    enum-told-2
+    add-result-2
+    returns-2
+    comparison-of-requires
+    add-steady-after
+    steady-after-requires
+    returns-3)

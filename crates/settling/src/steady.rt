@@ -1,0 +1,74 @@
+// Where a part does not close: the passes on which it can't, or the plan can't be written, are passed over without marks.
+ghost use mathlib.Core.Path.{_≡_};
+ghost use mathlib.Core.Bool.{true};
+ghost use Prim.Native.Nat.{_+_, _≤_, _<_};
+ghost use Rattle.plan.specs.inner.Sizes.{Fitting};
+ghost use Rattle.verdict.specs.inner.Reach.{TermsFit};
+ghost use Rattle.inputs.specs.inner.Read.{Ready};
+ghost use Rattle.laid_out.specs.LaidOut.{canBeLaid};
+ghost use Rattle.settling.specs.inner.Scratch.{mostRows, Unsteady, NoneSettles};
+use crate::comparisons::steady;
+use cltlb::View;
+use laid_out::fits::fits_next;
+use plan::sizes::Sizes;
+use rule::Taken;
+use verdict::Comparison;
+use verdict::rows::comparison_of;
+
+// The most rows of a plan but for its lead-in.
+const MOST_ROWS: usize = 256;
+
+// The fewest passes, from `passes` on, from which on a comparison does not change, or the fewest that take too many rows.
+fn steady_after(plan: &[u8], sizes: Sizes, comparison: Comparison, passes: usize) -> usize
+    requires { ⌜ (Fitting (now plan) sizes) × (TermsFit sizes comparison) × (passes ≤ mostRows) ⌝ }
+    ensures { λ r. ⌜ (passes ≤ r) × (r ≤ mostRows) × (Unsteady (now (plan .entry)) sizes comparison passes r) ⌝ }
+{
+    let cycle = sizes.cycle;
+    let mut from = sizes.start + passes * cycle;
+    let mut k = passes;
+    while from + cycle <= MOST_ROWS {
+        if steady(plan, sizes, comparison, from) {
+            return k;
+        }
+        from += cycle;
+        k += 1;
+    }
+    k
+}
+
+// Part `i` of a rule of `n` parts does not close after so many passes: the number of passes to try next.
+pub fn next_passes(
+    rule: &[u8],
+    plan: &[u8],
+    n: usize,
+    sizes: Sizes,
+    passes: usize,
+    i: usize,
+) -> usize
+    requires { ⌜ (Ready (now rule) (now plan) n sizes) × (i < n) × (passes < mostRows) ⌝ }
+    ensures { λ r. ⌜ (passes < r) × (r ≤ mostRows) × (NoneSettles (now (rule .entry)) (now (plan .entry)) (passes + 1) r) ⌝ }
+{
+    let taken = rule::take(rule, i);
+    let Taken::Part(part) = taken else {
+        return passes + 1;
+    };
+    let View::Atom(atom) = cltlb::view_of(part) else {
+        return passes + 1;
+    };
+    steady_after(plan, sizes, comparison_of(atom), passes + 1)
+}
+
+// With `passes` laid out the plan can be written, and so it can with `more`.
+pub fn fits_after(plan: &[u8], sizes: Sizes, passes: usize, more: usize) -> bool
+    requires { ⌜ (Fitting (now plan) sizes) × (canBeLaid (now plan) passes ≡ true) × (passes ≤ more) ⌝ }
+    ensures { λ r. ⌜ r ≡ canBeLaid (now (plan .entry)) more ⌝ }
+{
+    let mut k = passes;
+    while k < more {
+        if !fits_next(plan, sizes, k) {
+            return false;
+        }
+        k += 1;
+    }
+    true
+}
