@@ -7,7 +7,7 @@ use lib.ListN.{length, drop}
 use Rattle.refusal.specs.declared.Refusal.{Refusal}
 use Rattle.refusal.specs.declared.Refusal.the-variants.{NoLayout}
 use Rattle.refusal.specs.declared.Report.{Report}
-use Rattle.refusal.specs.Report.{report, reportOf}
+use Rattle.refusal.specs.Report.{reportOf}
 use Rattle.refusal.proofs.RefusesOnly.{Small}
 use Rattle.refusal.proofs.Reported.{one-report}
 use Rattle.laid_out.specs.LaidOut.{laidOut}
@@ -18,7 +18,7 @@ use Rattle.settling.specs.declared.Laid.the-variants as L
 use Rattle.settling.specs.Settle.{settleOf, laidWith, laidAfter}
 use Rattle.settling.specs.Promise.{SettlePromise}
 use Rattle.settling.proofs.Promised.{settle-names, settle-few}
-use Rattle.endless_run.specs.Packing.{refusalWord, unpacked, makeWord, settleWord}
+use Rattle.endless_run.specs.Packing.{unpacked, makeWord, settleWord}
 use Rattle.endless_run.specs.Promise.{SettleWordPromise}
 use Rattle.endless_run.proofs.Words.{number-within, refusal-large, unpacks, answer-small, make-packed}
 

@@ -16,7 +16,6 @@ use Rattle.cltlb.specs.declared.View.{View}
 use Rattle.cltlb.specs.declared.View.the-variants as view
 use Rattle.cltlb.proofs.Fits.{atom-fits, operator-fits, view-more}
 use Rattle.refusal.specs.declared.Outcome.{Outcome}
-use Rattle.plan.specs.Layout.{rows}
 use Rattle.plan.specs.declared.sizes.Sizes.{Sizes}
 use Rattle.plan.specs.inner.Sizes.{allRows, Fitting}
 use Rattle.plan.proofs.Fits.{rows-are}

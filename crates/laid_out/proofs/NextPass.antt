@@ -9,7 +9,7 @@ use lib.Dec.{leb}
 use lib.IntN.{ℤ}
 use borrow.Author.Tests.{le-leb, lt-leb, not-true}
 use Rattle.fields.specs.TwosComplement.{signedFits}
-use Rattle.plan.specs.Layout.{channels, startRows, cycleRows}
+use Rattle.plan.specs.Layout.{startRows, cycleRows}
 use Rattle.plan.specs.Run.{readingOn, readingAt}
 use Rattle.plan.specs.Refusals.{anyBelow}
 use Rattle.plan.specs.inner.Sizes.{Fitting}

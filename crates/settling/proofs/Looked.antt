@@ -4,7 +4,6 @@ use native.Mathlib.Omega.{arith}
 use mathlib.Core.Path.{_≡_, refl, sym, ap, _∙_, subst}
 use mathlib.Core.Bool.{Bool, true, false}
 use mathlib.Core.List.{List}
-use mathlib.Core.Option.{Option}
 use Rattle.refusal.specs.Lowest.{lowestFrom}
 use Rattle.refusal.proofs.Lowest.{passes, found, ended}
 use Rattle.verdict.specs.Rows.{testAt, judgeCycle}

@@ -4,29 +4,25 @@ use Prim.Native.Nat.{ℕ, zero, suc, _+_, _*_, _-_, _≤_, _<_}
 use native.Mathlib.Nat.{add-zero, mul-le-mul-right}
 use native.Mathlib.Decide.{decLt}
 use native.Mathlib.Omega.{arith}
-use mathlib.Core.Path.{_≡_, refl, sym, ap, _∙_, subst, subst⁻¹}
-use mathlib.Core.Bool.{Bool, true, false, not, true≢false, false≢true}
+use mathlib.Core.Path.{_≡_, sym, ap, _∙_, subst, subst⁻¹}
+use mathlib.Core.Bool.{Bool, true, false, not}
 use mathlib.Core.List.{List}
-use mathlib.Core.Option.{Option, none, some}
 use mathlib.Core.Logic.{by-cases}
 use lib.IntN.{ℤ}
-use lib.ListN.{length}
+use borrow.Author.Tests.{not-true, not-false}
 use Rattle.fields.specs.inner.Ranges.{Bytes}
-use Rattle.cltlb.specs.Fits.{viewFits}
 use Rattle.cltlb.specs.Views.{viewOf}
 use Rattle.cltlb.specs.declared.Part.{Part}
 use Rattle.cltlb.specs.declared.View.{View}
-use Rattle.refusal.specs.Lowest.{lowest}
 use Rattle.refusal.specs.declared.Refusal.the-variants.{NoLayout}
-use Rattle.refusal.proofs.Lowest.{lowest-some}
-use Rattle.rule.specs.Layout.{partCount, channelCount}
+use Rattle.rule.specs.Layout.{channelCount}
 use Rattle.rule.specs.Take.{takeOf, viewsOf}
 use Rattle.rule.specs.declared.Taken.{Taken}
 use Rattle.rule.specs.declared.Taken.the-variants as K
 use Rattle.plan.specs.Layout.{channels, startRows, cycleRows, rows}
 use Rattle.plan.specs.Run.{runOf}
 use Rattle.plan.specs.declared.sizes.Sizes.{Sizes}
-use Rattle.plan.specs.inner.Sizes.{allRows, Fitting}
+use Rattle.plan.specs.inner.Sizes.{Fitting}
 use Rattle.plan.proofs.Fits.{rows-are}
 use Rattle.inputs.specs.inner.Read.{Ready}
 use Rattle.inputs.proofs.Parts.{few-there, all-fit, taken-same}
@@ -37,24 +33,16 @@ use Rattle.laid_out.specs.LaidOut.{laidOut, canBeLaid}
 use Rattle.laid_out.specs.inner.LaidSizes.{laidSizes}
 use Rattle.laid_out.proofs.CanBeLaid.{first-fits, passes-few, fewer-fit}
 use Rattle.laid_out.proofs.LaidRuns.{laid-fitting, laid-run}
-use Rattle.settling.specs.declared.Laid.{Laid}
 use Rattle.settling.specs.declared.Laid.the-variants as L
-use Rattle.settling.specs.Settle.{scratchLength, settlesAfter, fewestPasses, laidBy}
+use Rattle.settling.specs.Settle.{settlesAfter, fewestPasses, laidBy}
 use Rattle.settling.specs.inner.Scratch.{mostParts, mostRows, Room, markAt, Tried, MadeTo, closesOn, Extended, NoneSettles}
 use Rattle.settling.proofs.Later.{later-closed, later-kept, later-again}
-use Rattle.settling.proofs.Searched.{closed-as, settles-as, none-yet, none-next, part-open, all-closed, search-found, search-ended}
+use Rattle.settling.proofs.Searched.{closed-as, none-yet, none-next, part-open, all-closed, search-found, search-ended}
 use Rattle.settling.proofs.Making.{tried-closes, tried-lower, tried-made}
 
-not-true : (c : Bool) → not c ≡ true → c ≡ false
-not-true true e = absurd (false≢true e)
-not-true false e = refl
-
-pub not-false : {c d : Bool} → c ≡ d → not c ≡ false → d ≡ true
-not-false {c} e h = sym e ∙ go c h
-  where
-    go : (c : Bool) → not c ≡ false → c ≡ true
-    go true e = refl
-    go false e = absurd (true≢false e)
+-- a test that does not fail
+pub passed : {c d : Bool} → c ≡ d → not c ≡ false → d ≡ true
+passed {c} e h = sym e ∙ not-false c h
 
 -- At `passes` and part i: so many passes can be laid out, no fewer settle, and the parts below i close there and are made.
 pub record Searching (rule plan : List ℕ) (n : ℕ) (scratch : List ℕ) (passes i : ℕ) : Type 0 where
@@ -245,16 +233,3 @@ module _ (rule plan : List ℕ) {n : ℕ} {z : Sizes} (ready : Ready rule plan n
       let few = s .few in
       let parts = ready .parts in
       sym (ap laidBy (search-found rule plan k (s .none-fewer) (own-cycle (ready .fits)) (all-closed rule plan k (s .can) (λ a q. s .closed a (omega arith)))))
-
--- What is found can be laid out.
-pub found-can : (rule plan : List ℕ) {r : Laid} {n : ℕ} → r ≡ laidBy (fewestPasses rule plan) → r ≡ L.Passes n → canBeLaid plan n ≡ true
-unfolding fewestPasses
-found-can rule plan {n = n} e f = settles-as rule plan n .0 (lowest-some (settlesAfter rule plan) 256 n .0 (go (lowest (settlesAfter rule plan) 256) (sym e ∙ f)) .1) .0
-  where
-    go : (o : Option ℕ) → laidBy o ≡ L.Passes n → o ≡ some n
-    go none e = absurd (let z : _≡_ {A = ℕ} 0 1 = cc in omega arith)
-    go (some m) e = cc
-
--- The scratch has room for every part and row.
-pub room-of : {scratch : List ℕ} → length scratch ≡ scratchLength → Room scratch
-room-of e = record { few-parts = omega arith; few-rows = omega arith; whole = e }

@@ -3,13 +3,13 @@
 use Prim.Native.Nat.{ℕ, _+_, _*_, _≤_, _<_}
 use native.Mathlib.Omega.{arith}
 use mathlib.Core.Path.{_≡_, refl, sym, ap, ap₂, _∙_, subst, subst⁻¹}
-use mathlib.Core.Bool.{Bool, true, false, not, true≢false, false≢true}
+use mathlib.Core.Bool.{Bool, true, false, not, false≢true}
 use mathlib.Core.List.{List}
 use mathlib.Core.Option.{Option, none, some}
 use mathlib.Core.Logic.{_↔_, Iff·rfl, Iff·symm, Iff·trans}
 use lib.IntN.{ℤ}
 use lib.ListN.{length, getD}
-use borrow.Author.Tests.{le-ltb}
+use borrow.Author.Tests.{le-ltb, not-true, not-false}
 use Rattle.fields.specs.inner.Ranges.{Bytes}
 use Rattle.cltlb.specs.Fits.{atomFits, viewFits}
 use Rattle.cltlb.specs.declared.Atom.{Atom}
@@ -34,11 +34,10 @@ use Rattle.verdict.specs.inner.Reach.{TermsFit}
 use Rattle.verdict.proofs.Passes.{means-iff, means-one}
 use Rattle.verdict.proofs.Cycles.{ComparedAt, test-decides, cycle-means, inside-4}
 use Rattle.verdict.proofs.Values.{atom-fit}
-use Rattle.table.specs.Layout.{marked}
 use Rattle.table.specs.Bytes.{byteOf}
 use Rattle.table.specs.inner.Stored.{Stored}
 use Rattle.table.specs.inner.Tables.{mostBytes}
-use Rattle.table.proofs.Stores.{stored-none, stored-same}
+use Rattle.table.proofs.Stores.{stored-same}
 use Rattle.marks.specs.inner.Tables.{wraps}
 use Rattle.marks.specs.Parts.{isChanges, closes, steadyOutcome, closingOutcome}
 use Rattle.marks.proofs.PartsChecked.{at-sizes, own-cycle}
@@ -62,14 +61,6 @@ met-clear : (b : Bool) (r : Refusal) → b ≡ isClear (unless b r)
 unfolding unless
 met-clear true r = refl
 met-clear false r = refl
-
-not-true : (b : Bool) → not b ≡ true → false ≡ b
-not-true true e = absurd (false≢true e)
-not-true false e = refl
-
-not-false : (b : Bool) → not b ≡ false → true ≡ b
-not-false true e = refl
-not-false false e = absurd (true≢false e)
 
 -- what is known of a part by its view
 pub tried-view : {layout old new : List ℕ} {i : ℕ} {p q : View} {b : Bool} → p ≡ q → Tried layout old new i q b → Tried layout old new i p b
@@ -155,7 +146,7 @@ module _ (plan : List ℕ) {z : Sizes} (fit : Fitting plan z) (k : ℕ) (can : c
         -- It changes: nothing is written.
         pub atom-open : not b ≡ true → {old : List ℕ} → Tried (laidOut plan k) old old i (view.Atom a) false
         atom-open h {old} = record {
-          outcome = not-true b h ∙ closes-as old;
+          outcome = sym (not-true b h) ∙ closes-as old;
           rows-alone = (
             λ j. getD old (4 + i * mostRows + j) 0,
             record { long = refl; inside = λ j _ _. refl; outside = λ j _. refl },
@@ -167,7 +158,7 @@ module _ (plan : List ℕ) {z : Sizes} (fit : Fitting plan z) (k : ℕ) (can : c
         pub atom-closed : not b ≡ false → {old new : List ℕ} {own : ℕ} → own ≡ 4 + (i * mostRows + 0)
             → Stored old new own 0 (s + c) (λ t. byteOf (testAt plan x t)) → Tried (laidOut plan k) old new i (view.Atom a) true
         unfolding labelOf atomAt
-        atom-closed h {old} {new} {own} at done = record { outcome = not-false b h ∙ closes-as old; rows-alone = (_, marks); made = λ _. marks }
+        atom-closed h {old} {new} {own} at done = record { outcome = sym (not-false b h) ∙ closes-as old; rows-alone = (_, marks); made = λ _. marks }
           where
             place : own ≡ 4 + i * mostRows
             place = omega arith

@@ -1,12 +1,10 @@
 use borrow.Author.Needs.{needs}
 use native.Mathlib.Omega.{arith}
-use mathlib.Core.Path.{ap, sym, _∙_}
 use denote.Ref.{now}
 use Rattle.fields.proofs.ByteParts.{as-bytes}
 use Prim.Native.Nat.{_+_, _-_}
-use Rattle.plan.specs.declared.sizes.Sizes.{Sizes}
 use Rattle.settling.proofs.Searching.{Searching, few-passes, few-parts, more-room, searching-first, part-closes, no-more, more-laid, all-close}
-use Rattle.settling.proofs.Searching.{not-false}
+use Rattle.settling.proofs.Searching.{passed}
 use Rattle.settling.proofs.search.fewest_passes.Statement.{statement}
 use Rattle.settling.proofs.search.fewest_passes.Tie as tie
 use Rattle.settling.proofs.search.fewest_passes.Reads as reads
@@ -69,7 +67,7 @@ sub-extend c = omega (arith, c .before .before .before .before .next-passes .ens
 
 -- src/search.rt:31:13
 extend-requires : tie.Need-extend-requires Inv-loop μ-loop
-extend-requires c κs = (c .before .before .before .before .before .before .before .before .try-part .ensures .1 .room, more-room (now (c .before .before .before .before .before .before .before .before .before .before .before .before .before .before .before .args .rule)) (now (c .before .before .before .before .before .before .before .before .before .before .before .before .before .before .before .args .plan)) (c .before .before .before .before .before .before .before .before .before .before .before .before .before .before .before .pre .0) (c .before .before .before .before .next-passes .ensures .0) (not-false (c .before .before .before .fits-after .ensures) (c .before .before .if2 .left)) (c .laid-sizes .ensures) .0, more-room (now (c .before .before .before .before .before .before .before .before .before .before .before .before .before .before .before .args .rule)) (now (c .before .before .before .before .before .before .before .before .before .before .before .before .before .before .before .args .plan)) (c .before .before .before .before .before .before .before .before .before .before .before .before .before .before .before .pre .0) (c .before .before .before .before .next-passes .ensures .0) (not-false (c .before .before .before .fits-after .ensures) (c .before .before .if2 .left)) (c .laid-sizes .ensures) .1, few-parts (now (c .before .before .before .before .before .before .before .before .before .before .before .before .before .before .before .args .rule)) (now (c .before .before .before .before .before .before .before .before .before .before .before .before .before .before .before .args .plan)) (c .before .before .before .before .before .before .before .before .before .before .before .before .before .before .before .pre .0) (c .before .before .before .before .before .before .before .before .before .before .before .loop .inv .few))
+extend-requires c κs = (c .before .before .before .before .before .before .before .before .try-part .ensures .1 .room, more-room (now (c .before .before .before .before .before .before .before .before .before .before .before .before .before .before .before .args .rule)) (now (c .before .before .before .before .before .before .before .before .before .before .before .before .before .before .before .args .plan)) (c .before .before .before .before .before .before .before .before .before .before .before .before .before .before .before .pre .0) (c .before .before .before .before .next-passes .ensures .0) (passed (c .before .before .before .fits-after .ensures) (c .before .before .if2 .left)) (c .laid-sizes .ensures) .0, more-room (now (c .before .before .before .before .before .before .before .before .before .before .before .before .before .before .before .args .rule)) (now (c .before .before .before .before .before .before .before .before .before .before .before .before .before .before .before .args .plan)) (c .before .before .before .before .before .before .before .before .before .before .before .before .before .before .before .pre .0) (c .before .before .before .before .next-passes .ensures .0) (passed (c .before .before .before .fits-after .ensures) (c .before .before .if2 .left)) (c .laid-sizes .ensures) .1, few-parts (now (c .before .before .before .before .before .before .before .before .before .before .before .before .before .before .before .args .rule)) (now (c .before .before .before .before .before .before .before .before .before .before .before .before .before .before .before .args .plan)) (c .before .before .before .before .before .before .before .before .before .before .before .before .before .before .before .pre .0) (c .before .before .before .before .before .before .before .before .before .before .before .loop .inv .few))
 
 -- src/search.rt:23:5
 loop-less-2 : tie.Need-loop-less-2 Inv-loop μ-loop
@@ -77,7 +75,7 @@ loop-less-2 c = omega (arith, few-passes (now (c .before .before .before .before
 
 -- src/search.rt:23:5
 loop-again-2 : tie.Need-loop-again-2 Inv-loop μ-loop
-loop-again-2 c = more-laid (now (c .before .before .before .before .before .before .before .before .before .before .before .before .before .before .before .before .before .before .args .rule)) (now (c .before .before .before .before .before .before .before .before .before .before .before .before .before .before .before .before .before .before .args .plan)) (c .before .before .before .before .before .before .before .before .before .before .before .before .before .before .before .before .before .before .pre .0) (c .before .before .before .before .before .before .before .before .before .before .before .before .before .before .loop .inv) (c .before .before .before .before .before .before .before .before .before .before .before .try-part .ensures .0) (c .before .before .before .before .before .before .before .before .before .before .before .before .before .loop-test .taken) (c .before .before .before .before .before .before .before .before .if1 .left) (c .before .before .before .before .before .before .before .next-passes .ensures .0) (c .before .before .before .before .before .before .before .next-passes .ensures .2) (as-bytes (now (c .before .before .before .before .before .before .before .before .before .before .before .before .before .before .before .before .before .before .args .plan)) (λ i. omega (arith, c .before .before .before .before .before .before .before .before .before .before .before .before .before .before .before .before .shared-slice-known2 .given i))) (not-false (c .before .before .before .before .before .before .fits-after .ensures) (c .before .before .before .before .before .if2 .left)) (c .before .before .before .before .before .before .before .before .before .before .before .try-part .ensures .1) (c .before .before .before .laid-sizes .ensures) (c .before .before .extend .ensures)
+loop-again-2 c = more-laid (now (c .before .before .before .before .before .before .before .before .before .before .before .before .before .before .before .before .before .before .args .rule)) (now (c .before .before .before .before .before .before .before .before .before .before .before .before .before .before .before .before .before .before .args .plan)) (c .before .before .before .before .before .before .before .before .before .before .before .before .before .before .before .before .before .before .pre .0) (c .before .before .before .before .before .before .before .before .before .before .before .before .before .before .loop .inv) (c .before .before .before .before .before .before .before .before .before .before .before .try-part .ensures .0) (c .before .before .before .before .before .before .before .before .before .before .before .before .before .loop-test .taken) (c .before .before .before .before .before .before .before .before .if1 .left) (c .before .before .before .before .before .before .before .next-passes .ensures .0) (c .before .before .before .before .before .before .before .next-passes .ensures .2) (as-bytes (now (c .before .before .before .before .before .before .before .before .before .before .before .before .before .before .before .before .before .before .args .plan)) (λ i. omega (arith, c .before .before .before .before .before .before .before .before .before .before .before .before .before .before .before .before .shared-slice-known2 .given i))) (passed (c .before .before .before .before .before .before .fits-after .ensures) (c .before .before .before .before .before .if2 .left)) (c .before .before .before .before .before .before .before .before .before .before .before .try-part .ensures .1) (c .before .before .before .laid-sizes .ensures) (c .before .before .extend .ensures)
 
 -- src/search.rt:17:1
 same-length-2 : tie.Need-same-length-2 Inv-loop μ-loop

@@ -6,7 +6,7 @@ use mathlib.Core.Bool.{true}
 use denote.Ref.{now}
 use Rattle.laid_out.specs.LaidOut.{canBeLaid}
 use Rattle.settling.proofs.Steadying.{fits-no-more, fits-all}
-use Rattle.settling.proofs.Searching.{not-false}
+use Rattle.settling.proofs.Searching.{passed}
 use Rattle.settling.proofs.steady.fits_after.Statement.{statement}
 use Rattle.settling.proofs.steady.fits_after.Tie as tie
 use Rattle.settling.proofs.steady.fits_after.Reads as reads
@@ -41,7 +41,7 @@ loop-less c = omega (arith, c .before .before .loop-test .taken)
 
 -- src/steady.rt:67:5
 loop-again : tie.Need-loop-again Inv-loop μ-loop
-loop-again c = (not-false (c .before .fits-next .ensures) (c .if1 .left), omega (arith, c .before .before .loop-test .taken))
+loop-again c = (passed (c .before .fits-next .ensures) (c .if1 .left), omega (arith, c .before .before .loop-test .taken))
 
 -- src/steady.rt:62:1
 returns-2 : tie.Need-returns-2 Inv-loop μ-loop
