@@ -13,27 +13,34 @@ use laid_out::fits::fits_next;
 use plan::sizes::Sizes;
 use rule::Taken;
 use verdict::Comparison;
+use verdict::bounds::smaller;
 use verdict::rows::comparison_of;
 
 // The most rows of a plan but for its lead-in.
 const MOST_ROWS: usize = 256;
 
-// The fewest passes, from `passes` on, from which on a comparison does not change, or the fewest that take too many rows.
+// The fewest passes, from `passes` on, from which on a comparison does not change, or the fewest that take too many rows. What does
+// not change stays so: the steps ahead double, and then the number is enclosed.
 fn steady_after(plan: &[u8], sizes: Sizes, comparison: Comparison, passes: usize) -> usize
     requires { ⌜ (Fitting (now plan) sizes) × (TermsFit sizes comparison) × (passes ≤ mostRows) ⌝ }
     ensures { λ r. ⌜ (passes ≤ r) × (r ≤ mostRows) × (Unsteady (now (plan .entry)) sizes comparison passes r) ⌝ }
 {
+    let start = sizes.start;
     let cycle = sizes.cycle;
-    let mut from = sizes.start + passes * cycle;
-    let mut k = passes;
-    while from + cycle <= MOST_ROWS {
-        if steady(plan, sizes, comparison, from) {
-            return k;
+    let mut low = passes;
+    let mut high = (MOST_ROWS - start) / cycle;
+    let mut step = 0;
+    while low < high {
+        let ahead = smaller(step, (high - low) / 2);
+        let k = low + ahead;
+        if steady(plan, sizes, comparison, start + k * cycle) {
+            high = k;
+        } else {
+            low = k + 1;
+            step = 2 * ahead + 1;
         }
-        from += cycle;
-        k += 1;
     }
-    k
+    low
 }
 
 // Part `i` of a rule of `n` parts does not close after so many passes: the number of passes to try next.

@@ -2,62 +2,87 @@ use borrow.Author.Needs.{needs}
 use native.Mathlib.Omega.{arith}
 use Prim.Native.Nat.{_-_}
 use denote.Ref.{now}
-use Rattle.settling.proofs.Steadying.{Passing, few-product, passing-first, passing-few, passing-next}
+use Rattle.settling.proofs.Steadying as law
 use Rattle.settling.proofs.steady.steady_after.Statement.{statement}
 use Rattle.settling.proofs.steady.steady_after.Tie as tie
 use Rattle.settling.proofs.steady.steady_after.Reads as reads
 use Rattle.settling.proofs.steady.steady_after.Lts as lts
 use Rattle.settling.proofs.comparisons.steady.Reads as steady-reads
+use Rattle.verdict.proofs.bounds.smaller.Reads as smaller-reads
 
 abbrev Inv-loop : tie.InvT-loop
-Inv-loop plan sizes comparison passes cycle from₀ k₀ from k = Passing plan sizes comparison passes from k
+Inv-loop plan sizes comparison passes start cycle low₀ high₀ step₀ low high step = law.Enclosing plan sizes comparison passes low high step
 
 abbrev μ-loop : tie.MeasureT-loop
-μ-loop plan sizes comparison passes cycle from₀ k₀ from k = 256 - k
+μ-loop plan sizes comparison passes start cycle low₀ high₀ step₀ low high step = high - low
 
--- src/steady.rt:27:34
-mul-from : tie.Need-mul-from Inv-loop μ-loop
-mul-from c = omega (arith, few-product {passes = c .before .args .passes} {cycle = c .before .args .sizes .cycle} (c .before .pre .2) (omega (arith, c .before .pre .0 .few-rows)))
+-- src/steady.rt:31:21
+sub-high : tie.Need-sub-high Inv-loop μ-loop
+sub-high c = omega (arith, c .before .pre .0 .few-rows)
 
--- src/steady.rt:27:20
-add-from : tie.Need-add-from Inv-loop μ-loop
-add-from c = omega (arith, few-product {passes = c .before .before .args .passes} {cycle = c .before .before .args .sizes .cycle} (c .before .before .pre .2) (omega (arith, c .before .before .pre .0 .few-rows)), c .before .before .pre .0 .few-rows)
+-- src/steady.rt:31:20
+div-high : tie.Need-div-high Inv-loop μ-loop
+div-high c = omega (arith, c .before .pre .0 .a-cycle)
 
--- src/steady.rt:29:5
+-- src/steady.rt:33:5
 loop-holds : tie.Need-loop-holds Inv-loop μ-loop
-loop-holds c = passing-first (now (c .before .before .args .plan)) (c .before .before .args .sizes) (c .before .before .args .comparison) (c .before .before .args .passes) (c .before .before .pre .2)
+loop-holds c = law.enclosing-first (now (c .before .args .plan)) (c .before .args .sizes) (c .before .args .comparison) (c .before .args .passes) (c .before .pre .0) (c .before .pre .2)
 
--- src/steady.rt:29:11
-add-loop : tie.Need-add-loop Inv-loop μ-loop
-add-loop c = omega (arith, c .loop .inv .place, few-product {passes = c .loop .k} {cycle = c .before .before .before .args .sizes .cycle} (c .loop .inv .few) (omega (arith, c .before .before .before .pre .0 .few-rows)), c .before .before .before .pre .0 .few-rows)
+-- src/steady.rt:34:36
+sub-smaller : tie.Need-sub-smaller Inv-loop μ-loop
+sub-smaller c = omega (arith, c .loop-test .taken)
 
--- src/steady.rt:30:12
-steady-requires : tie.Need-steady-requires Inv-loop μ-loop
-steady-requires c κs = (c .before .before .before .before .pre .0, c .before .before .before .before .pre .1, omega (arith, c .before .loop .inv .place), c .loop-test .taken)
+-- src/steady.rt:34:13
+smaller-requires : tie.Need-smaller-requires Inv-loop μ-loop
+smaller-requires c κs = search needs
 
--- src/steady.rt:31:13
-returns : tie.Need-returns Inv-loop μ-loop
-returns c = (c .before .before .before .loop .inv .low, c .before .before .before .loop .inv .few, c .before .before .before .loop .inv .over)
-
--- src/steady.rt:33:9
-add-from-2 : tie.Need-add-from-2 Inv-loop μ-loop
-add-from-2 c = omega (arith, c .before .before .loop-test .taken)
-
--- src/steady.rt:34:9
+-- src/steady.rt:35:17
 add-k : tie.Need-add-k Inv-loop μ-loop
-add-k c = omega (arith, c .before .before .before .loop .inv .few)
+add-k c = omega (arith, law.few-between (now (c .before .before .before .before .args .plan)) (c .before .before .before .before .args .sizes) (c .before .before .before .before .args .comparison) (c .before .before .before .before .args .passes) (c .before .before .before .before .pre .0) (c .before .before .loop .inv) (c .before .loop-test .taken) (c .smaller .ensures) .0)
 
--- src/steady.rt:29:5
+-- src/steady.rt:36:52
+mul-steady : tie.Need-mul-steady Inv-loop μ-loop
+mul-steady c = omega (arith, law.few-between (now (c .before .before .before .before .args .plan)) (c .before .before .before .before .args .sizes) (c .before .before .before .before .args .comparison) (c .before .before .before .before .args .passes) (c .before .before .before .before .pre .0) (c .before .before .loop .inv) (c .before .loop-test .taken) (c .smaller .ensures) .1)
+
+-- src/steady.rt:36:44
+add-steady : tie.Need-add-steady Inv-loop μ-loop
+add-steady c = omega (arith, law.few-between (now (c .before .before .before .before .args .plan)) (c .before .before .before .before .args .sizes) (c .before .before .before .before .args .comparison) (c .before .before .before .before .args .passes) (c .before .before .before .before .pre .0) (c .before .before .loop .inv) (c .before .loop-test .taken) (c .smaller .ensures) .2)
+
+-- src/steady.rt:36:12
+steady-requires : tie.Need-steady-requires Inv-loop μ-loop
+steady-requires c κs = (c .before .before .before .before .pre .0, c .before .before .before .before .pre .1, omega arith, law.few-between (now (c .before .before .before .before .args .plan)) (c .before .before .before .before .args .sizes) (c .before .before .before .before .args .comparison) (c .before .before .before .before .args .passes) (c .before .before .before .before .pre .0) (c .before .before .loop .inv) (c .before .loop-test .taken) (c .smaller .ensures) .2)
+
+-- src/steady.rt:33:5
 loop-less : tie.Need-loop-less Inv-loop μ-loop
-loop-less c = omega (arith, passing-few (now (c .before .before .before .before .before .before .args .plan)) (c .before .before .before .before .before .before .args .sizes) (c .before .before .before .before .before .before .args .comparison) (c .before .before .before .before .before .before .args .passes) (c .before .before .before .before .before .before .pre .0 .a-cycle) (c .before .before .before .loop .inv) (c .before .before .loop-test .taken))
+loop-less c = omega (arith, c .before .before .before .loop-test .taken, c .before .before .smaller .ensures)
 
--- src/steady.rt:29:5
+-- src/steady.rt:33:5
 loop-again : tie.Need-loop-again Inv-loop μ-loop
-loop-again c = passing-next (now (c .before .before .before .before .before .before .args .plan)) (c .before .before .before .before .before .before .args .sizes) (c .before .before .before .before .before .before .args .comparison) (c .before .before .before .before .before .before .args .passes) (c .before .before .before .before .before .before .pre .0 .a-cycle) (c .before .before .before .loop .inv) (c .before .before .loop-test .taken) (c .before .steady .ensures) (c .if1 .left)
+loop-again c = law.from-above (now (c .before .before .before .before .before .before .args .plan)) (c .before .before .before .before .before .before .args .sizes) (c .before .before .before .before .before .before .args .comparison) (c .before .before .before .before .before .before .args .passes) (c .before .before .before .before .before .before .pre .0) (c .before .before .before .before .loop .inv) (c .before .before .before .loop-test .taken) (c .before .before .smaller .ensures)
 
--- src/steady.rt:22:1
-returns-2 : tie.Need-returns-2 Inv-loop μ-loop
-returns-2 c = (c .before .loop .inv .low, c .before .loop .inv .few, c .before .loop .inv .over)
+-- src/steady.rt:39:19
+add-low : tie.Need-add-low Inv-loop μ-loop
+add-low c = omega (arith, law.few-between (now (c .before .before .before .before .before .before .args .plan)) (c .before .before .before .before .before .before .args .sizes) (c .before .before .before .before .before .before .args .comparison) (c .before .before .before .before .before .before .args .passes) (c .before .before .before .before .before .before .pre .0) (c .before .before .before .before .loop .inv) (c .before .before .before .loop-test .taken) (c .before .before .smaller .ensures) .0)
+
+-- src/steady.rt:40:20
+mul-step : tie.Need-mul-step Inv-loop μ-loop
+mul-step c = omega (arith, c .before .before .smaller .ensures, c .before .before .before .before .loop .inv .short)
+
+-- src/steady.rt:40:20
+add-step : tie.Need-add-step Inv-loop μ-loop
+add-step c = omega (arith, c .before .before .smaller .ensures, c .before .before .before .before .loop .inv .short)
+
+-- src/steady.rt:33:5
+loop-less-2 : tie.Need-loop-less-2 Inv-loop μ-loop
+loop-less-2 c = omega (arith, c .before .before .before .loop-test .taken)
+
+-- src/steady.rt:33:5
+loop-again-2 : tie.Need-loop-again-2 Inv-loop μ-loop
+loop-again-2 c = law.from-below (now (c .before .before .before .before .before .before .args .plan)) (c .before .before .before .before .before .before .args .sizes) (c .before .before .before .before .before .before .args .comparison) (c .before .before .before .before .before .before .args .passes) (c .before .before .before .before .before .before .pre .0) (c .before .before .before .before .loop .inv) (c .before .before .before .loop-test .taken) (c .before .before .smaller .ensures) (c .before .before .before .before .before .before .pre .1) (c .before .steady .ensures) (c .if1 .left)
+
+-- src/steady.rt:24:1
+returns : tie.Need-returns Inv-loop μ-loop
+returns c = (c .before .loop .inv .from, c .before .loop .inv .few, c .before .loop .inv .over)
 
 pub steady-after-spec : {M : Type 1} → statement M
 steady-after-spec =
@@ -65,14 +90,20 @@ steady-after-spec =
     (tie.spec
     Inv-loop
     μ-loop
-    mul-from
-    add-from
+    sub-high
+    div-high
     loop-holds
-    add-loop
-    steady-requires
-    returns
-    add-from-2
+    sub-smaller
+    smaller-requires
     add-k
+    mul-steady
+    add-steady
+    steady-requires
     loop-less
     loop-again
-    returns-2)
+    add-low
+    mul-step
+    add-step
+    loop-less-2
+    loop-again-2
+    returns)
