@@ -1,41 +1,67 @@
--- One pass more laid out: where n passes can be laid out, the rows that come last decide whether one more can. Assumes nothing.
-use Prim.Native.Nat.{ℕ, zero, suc, _+_, _*_, _≤_, _<_}
-use native.Mathlib.Nat.{add-zero, mul-le-mul}
+-- Whether passes can be laid out: a reading is a straight line in the pass, so that the rows that come last decide. Assumes nothing.
+use Prim.Native.Nat.{ℕ, _+_, _*_, _-_, _≤_, _<_}
+use native.Mathlib.Nat.{mul-le-mul, mul-le-mul-right}
+use native.Mathlib.Decide.{decLt}
 use native.Mathlib.Omega.{arith}
-use mathlib.Core.Path.{_≡_, refl, sym, ap, ap₂, _∙_}
-use mathlib.Core.Bool.{Bool, true, false, not, _&&_, _||_}
+use mathlib.Core.Path.{_≡_, refl, sym, ap, ap₂, _∙_, subst, subst⁻¹}
+use mathlib.Core.Bool.{Bool, true, false, not, _&&_, true≢false}
 use mathlib.Core.List.{List}
-use lib.Dec.{leb}
-use lib.IntN.{ℤ}
-use borrow.Author.Tests.{le-leb, lt-leb, not-true}
+use mathlib.Core.Logic.{_↔_, by-cases}
+use lib.IntN.{ℤ, pos, subℕ, _+ℤ_, _*ℤ_}
+use borrow.Author.Tests.{lt-leb, not-false}
 use Rattle.fields.specs.TwosComplement.{signedFits}
-use Rattle.plan.specs.Layout.{startRows, cycleRows}
+use Rattle.fields.specs.inner.Ranges.{Bytes, SignedFits}
+use Rattle.fields.proofs.Differences.{by-sub, sub-pos, sub-neg, sub-line}
+use Rattle.fields.proofs.Patterns.{fits-found, found-fits}
+use Rattle.plan.specs.Layout.{channels, startRows, cycleRows, leadRows, rows, readingOf, driftOf}
+use Rattle.plan.specs.Positions.{rowOf, passOf}
 use Rattle.plan.specs.Run.{readingOn, readingAt}
 use Rattle.plan.specs.Refusals.{anyBelow}
 use Rattle.plan.specs.inner.Sizes.{Fitting}
 use Rattle.plan.specs.declared.sizes.Sizes.{Sizes}
-use Rattle.plan.proofs.Rows.{row-again, pass-again}
-use Rattle.plan.proofs.Drifts.{one-here}
-use Rattle.plan.proofs.Fits.{both}
+use Rattle.plan.proofs.Rows.{row-again, pass-again, row-ge, row-lt, pass-lt}
+use Rattle.plan.proofs.Lines.{reading-on-pass-0}
+use Rattle.plan.proofs.Drifts.{one-here, none-below, none-each}
+use Rattle.plan.proofs.PlanBytes.{reading-fits}
 use Rattle.laid_out.specs.LaidOut.{startAfter, rowsAfter, tooLarge, canBeLaid}
 use Rattle.laid_out.specs.inner.NextPass.{numberTooLarge, rowTooLarge, cycleTooLarge}
-use Rattle.laid_out.proofs.CanBeLaid.{passes-few}
+use Rattle.laid_out.proofs.CanBeLaid.{passes-few, can-be, laid-fits}
 
--- ---- searches
+-- ---- a straight line between two numbers of 32 bits
 
--- A search goes on behind one that found nothing.
-any-later : (f : ℕ → Bool) (m : ℕ) → anyBelow f m ≡ false → (n : ℕ) → anyBelow f (m + n) ≡ anyBelow (λ j. f (m + j)) n
-unfolding anyBelow
-any-later f m e zero = ap (anyBelow f) (add-zero m) ∙ e
-any-later f m e (suc n) =
-    let next : m + suc n ≡ suc (m + n) = omega arith in
-    ap (anyBelow f) next ∙ ap (λ (b : Bool). b || f (m + n)) (any-later f m e n)
+sub-fits : (a b : ℕ) → SignedFits 4 (subℕ a b) ↔ ((b ≤ a + 2147483648) × (a < b + 2147483648))
+unfolding SignedFits
+sub-fits a b =
+    by-cases (decLt a b)
+    (λ l. rw (sub-neg a b l) (λ h. (omega arith, omega arith), λ p. let q = p .0 in omega arith))
+    (λ l. rw (sub-pos a b (omega arith)) (λ h. (omega arith, omega arith), λ p. let q = p .1 in omega arith))
 
--- Searches for the same.
-any-same : (f g : ℕ → Bool) (n : ℕ) → ((k : ℕ) → k < n → f k ≡ g k) → anyBelow f n ≡ anyBelow g n
-unfolding anyBelow
-any-same f g zero h = refl
-any-same f g (suc n) h = ap₂ _||_ (any-same f g n (λ k l. h k (omega arith))) (h n (omega arith))
+between-fits : (z d : ℤ) (p n : ℕ) → p ≤ n → SignedFits 4 z → SignedFits 4 (z +ℤ pos n *ℤ d) → SignedFits 4 (z +ℤ pos p *ℤ d)
+between-fits z d p n l =
+    by-sub (λ (z : ℤ). SignedFits 4 z → SignedFits 4 (z +ℤ pos n *ℤ d) → SignedFits 4 (z +ℤ pos p *ℤ d)) (λ a b.
+    by-sub (λ (d : ℤ). SignedFits 4 (subℕ a b) → SignedFits 4 (subℕ a b +ℤ pos n *ℤ d) → SignedFits 4 (subℕ a b +ℤ pos p *ℤ d)) (λ c e. straight a b c e) d) z
+  where
+    straight : (a b c e : ℕ) → SignedFits 4 (subℕ a b) → SignedFits 4 (subℕ a b +ℤ pos n *ℤ subℕ c e) → SignedFits 4 (subℕ a b +ℤ pos p *ℤ subℕ c e)
+    straight a b c e f g =
+        let first = sub-fits a b .0 f in
+        let last = sub-fits (a + n * c) (b + n * e) .0 (subst (SignedFits 4) (sub-line a b c e n) g) in
+        let f0 = first .0 in
+        let f1 = first .1 in
+        let l0 = last .0 in
+        let l1 = last .1 in
+        subst⁻¹ (SignedFits 4) (sub-line a b c e p)
+        (sub-fits (a + p * c) (b + p * e) .1
+        (by-cases (decLt c e)
+        (λ t. let up : c + (e - c) ≡ e = omega arith in
+        let pe : p * (c + (e - c)) ≡ p * e = ap (λ (x : ℕ). p * x) up in
+        let ne : n * (c + (e - c)) ≡ n * e = ap (λ (x : ℕ). n * x) up in
+        let less : p * (e - c) ≤ n * (e - c) = mul-le-mul-right (e - c) l in
+        (omega arith, omega arith))
+        (λ t. let up : e + (c - e) ≡ c = omega arith in
+        let pc : p * (e + (c - e)) ≡ p * c = ap (λ (x : ℕ). p * x) up in
+        let nc : n * (e + (c - e)) ≡ n * c = ap (λ (x : ℕ). n * x) up in
+        let less : p * (c - e) ≤ n * (c - e) = mul-le-mul-right (c - e) l in
+        (omega arith, omega arith))))
 
 -- ---- what the loops find
 
@@ -66,50 +92,88 @@ module _ {plan : List ℕ} {z : Sizes} (fits : Fitting plan z) where
   unfolding cycleTooLarge
   cycle-fits pass n h e = sym (rw (fits .c-is, fits .p-is, ← h) e)
 
-  -- ---- one pass more
+  -- ---- so many passes
 
-  module _ (n : ℕ) (can : canBeLaid plan n ≡ true) where
+  module _ (n : ℕ) where
     a-cycle : 1 ≤ cycleRows plan
     a-cycle = omega (arith, fits .c-is, fits .a-cycle)
 
-    pub few-passes : n < 256
-    few-passes = passes-few plan n a-cycle can
+    pub few-passes : canBeLaid plan n ≡ true → n < 256
+    few-passes can = passes-few plan n a-cycle can
 
     -- the product that is computed of them is small
-    pub few-more : (n + 2) * z .cycle ≤ 65792
-    few-more = let l : n + 2 ≤ 257 = omega (arith, few-passes) in let g : z .cycle ≤ 256 = omega (arith, fits .few-rows) in mul-le-mul l g
+    pub few-more : n ≤ 256 → (n + 1) * z .cycle ≤ 65792
+    few-more h = let l : n + 1 ≤ 257 = omega arith in let g : z .cycle ≤ 256 = omega (arith, fits .few-rows) in mul-le-mul l g
 
-    last-row : (j : ℕ) → j < cycleRows plan → tooLarge plan (rowsAfter plan n + j) ≡ rowTooLarge plan (startRows plan + j) (n + 1)
-    unfolding tooLarge rowTooLarge numberTooLarge readingAt rowsAfter startAfter
-    last-row j l =
-        let place : startRows plan + n * cycleRows plan + cycleRows plan + j ≡ startRows plan + j + (n + 1) * cycleRows plan = omega arith in
-        ap (tooLarge plan) place
-        ∙ ap₂ (λ (row pass : ℕ). rowTooLarge plan row pass)
-        (row-again (startRows plan) (cycleRows plan) a-cycle (startRows plan + j) (n + 1) (omega arith) (omega arith))
-        (pass-again (startRows plan) (cycleRows plan) a-cycle (startRows plan + j) (n + 1) (omega arith) (omega arith))
-
-    rows-next : rowsAfter plan (n + 1) ≡ rowsAfter plan n + cycleRows plan
+    rows-are-after : rowsAfter plan n ≡ z .start + (n + 1) * z .cycle
     unfolding rowsAfter startAfter
-    rows-next = omega arith
+    rows-are-after = rw (fits .p-is, fits .c-is) (omega arith)
 
-    next-large : anyBelow (tooLarge plan) (rowsAfter plan (n + 1)) ≡ cycleTooLarge plan (n + 1)
-    unfolding cycleTooLarge canBeLaid
-    next-large =
-        let none = not-true (anyBelow (tooLarge plan) (rowsAfter plan n)) (both (leb (rowsAfter plan n) 256) (not (anyBelow (tooLarge plan) (rowsAfter plan n))) can .1) in
-        ap (anyBelow (tooLarge plan)) rows-next
-        ∙ any-later (tooLarge plan) (rowsAfter plan n) none (cycleRows plan)
-        ∙ any-same _ _ (cycleRows plan) last-row
-
-    rows-are-next : rowsAfter plan (n + 1) ≡ z .start + (n + 2) * z .cycle
-    unfolding rowsAfter startAfter
-    rows-are-next = rw (fits .p-is, fits .c-is) (omega arith)
+    later-reading : (j channel : ℕ) → j < cycleRows plan → readingAt plan channel (startRows plan + j + n * cycleRows plan) ≡ readingOn plan channel (startRows plan + j) n
+    unfolding readingAt
+    later-reading j channel l =
+        ap₂ (readingOn plan channel)
+        (row-again (startRows plan) (cycleRows plan) a-cycle (startRows plan + j) n (omega arith) (omega arith))
+        (pass-again (startRows plan) (cycleRows plan) a-cycle (startRows plan + j) n (omega arith) (omega arith))
 
     -- There are too many rows,
-    pub too-many : 256 < z .start + (n + 2) * z .cycle → false ≡ canBeLaid plan (n + 1)
+    pub too-many : 256 < z .start + (n + 1) * z .cycle → false ≡ canBeLaid plan n
     unfolding canBeLaid
-    too-many h = sym (ap (λ (b : Bool). b && not (anyBelow (tooLarge plan) (rowsAfter plan (n + 1)))) (lt-leb (rowsAfter plan (n + 1)) 256 (omega (arith, rows-are-next))))
+    too-many h = sym (ap (λ (b : Bool). b && not (anyBelow (tooLarge plan) (rowsAfter plan n))) (lt-leb (rowsAfter plan n) 256 (omega (arith, rows-are-after))))
 
-    -- or the cycle decides.
-    pub next-can : z .start + (n + 2) * z .cycle ≤ 256 → {r : Bool} → r ≡ cycleTooLarge plan (n + 1) → not r ≡ canBeLaid plan (n + 1)
-    unfolding canBeLaid
-    next-can h e = sym (ap₂ _&&_ (le-leb (rowsAfter plan (n + 1)) 256 (omega (arith, rows-are-next))) (ap not (next-large ∙ sym e)))
+    -- or the readings of the last cycle decide: where they fit,
+    module _ (bytes : Bytes plan) (few : z .start + (n + 1) * z .cycle ≤ 256) where
+      module _ (none : cycleTooLarge plan n ≡ false) where
+        last-fits : (j channel : ℕ) → j < cycleRows plan → channel < channels plan → SignedFits 4 (readingOn plan channel (startRows plan + j) n)
+        unfolding cycleTooLarge rowTooLarge numberTooLarge
+        last-fits j channel l q =
+            found-fits 4 (readingOn plan channel (startRows plan + j) n)
+            (not-false (signedFits 4 (readingOn plan channel (startRows plan + j) n))
+            (none-each (λ i. not (signedFits 4 (readingOn plan i (startRows plan + j) n))) (channels plan)
+            (none-each (λ i. anyBelow (λ k. not (signedFits 4 (readingOn plan k (startRows plan + i) n))) (channels plan)) (cycleRows plan) none j l) channel q))
+
+        first-fits : (row channel : ℕ) → SignedFits 4 (readingOf plan row channel)
+        unfolding readingOf
+        first-fits row channel = reading-fits plan bytes (leadRows plan + row) channel
+
+        cycle-fits-between : (j channel p : ℕ) → j < cycleRows plan → channel < channels plan → p ≤ n → SignedFits 4 (readingOn plan channel (startRows plan + j) p)
+        unfolding readingOn
+        cycle-fits-between j channel p l q h =
+            between-fits (readingOf plan (startRows plan + j) channel) (driftOf plan (startRows plan + j) channel) p n h (first-fits (startRows plan + j) channel)
+            (last-fits j channel l q)
+
+        all-between : (t channel : ℕ) → t < rowsAfter plan n → channel < channels plan → SignedFits 4 (readingAt plan channel t)
+        unfolding readingAt rowsAfter startAfter rows
+        all-between t channel l q =
+            by-cases (decLt t (startRows plan + cycleRows plan))
+            (λ s. subst⁻¹ (SignedFits 4) (reading-on-pass-0 plan channel t s) (first-fits t channel))
+            (λ s.
+            let low = row-ge (startRows plan) (cycleRows plan) t (omega arith) in
+            let high = row-lt (startRows plan) (cycleRows plan) a-cycle t in
+            let pass = pass-lt (startRows plan) (cycleRows plan) a-cycle t (n + 1) (omega arith) (omega arith) in
+            let row : startRows plan + (rowOf (startRows plan) (cycleRows plan) t - startRows plan) ≡ rowOf (startRows plan) (cycleRows plan) t = omega arith in
+            subst (λ (r : ℕ). SignedFits 4 (readingOn plan channel r (passOf (startRows plan) (cycleRows plan) t))) row
+            (cycle-fits-between (rowOf (startRows plan) (cycleRows plan) t - startRows plan) channel (passOf (startRows plan) (cycleRows plan) t) (omega arith) q (omega arith)))
+
+        none-can : canBeLaid plan n ≡ true
+        none-can = can-be plan n (omega (arith, rows-are-after)) all-between
+
+      -- and where they do not.
+      can-none : canBeLaid plan n ≡ true → cycleTooLarge plan n ≡ false
+      unfolding cycleTooLarge rowTooLarge numberTooLarge
+      can-none can =
+          none-below _ (cycleRows plan) (λ j l. none-below _ (channels plan) (λ channel q. ap not (fits-found 4 (readingOn plan channel (startRows plan + j) n)
+          (subst (SignedFits 4) (later-reading j channel l) (laid-fits plan n can (startRows plan + j + n * cycleRows plan) channel (last-row j l) q)))))
+        where
+          last-row : (j : ℕ) → j < cycleRows plan → startRows plan + j + n * cycleRows plan < rowsAfter plan n
+          last-row j l = let e = rows-are-after in let p = fits .p-is in let c = fits .c-is in
+              let same : n * cycleRows plan ≡ n * z .cycle = ap (λ (m : ℕ). n * m) c in omega arith
+
+      pub cycle-decides : {r : Bool} → r ≡ cycleTooLarge plan n → not r ≡ canBeLaid plan n
+      cycle-decides {r} e = go r (canBeLaid plan n) (λ h. none-can (sym e ∙ h)) (λ h. e ∙ can-none h)
+        where
+          go : (r b : Bool) → (r ≡ false → b ≡ true) → (b ≡ true → r ≡ false) → not r ≡ b
+          go true true f g = absurd (true≢false (g refl))
+          go true false f g = refl
+          go false true f g = refl
+          go false false f g = sym (f refl)

@@ -1,7 +1,7 @@
-// Whether one pass more can be laid out. Of the rows that are laid out then only those that come last are looked at.
+// Whether passes can be laid out. A reading is a straight line in the pass, and fits on pass 0: of the rows that are laid out then
+// only those that come last are looked at.
 ghost use mathlib.Core.Path.{_≡_};
-ghost use mathlib.Core.Bool.{true};
-ghost use Prim.Native.Nat.{_+_, _<_};
+ghost use Prim.Native.Nat.{_+_, _≤_, _<_};
 ghost use Rattle.fields.specs.TwosComplement.{signedFits};
 ghost use Rattle.plan.specs.inner.Lifted.{passes, lowered};
 ghost use Rattle.plan.specs.inner.Sizes.{allRows, Fitting};
@@ -60,13 +60,13 @@ fn cycle_too_large(plan: &[u8], sizes: Sizes, pass: usize) -> bool
     false
 }
 
-// With n passes laid out the plan can be written, and so it can with one more.
-pub fn fits_next(plan: &[u8], sizes: Sizes, n: usize) -> bool
-    requires { ⌜ (Fitting (now plan) sizes) × (canBeLaid (now plan) n ≡ true) ⌝ }
-    ensures { λ r. ⌜ r ≡ canBeLaid (now (plan .entry)) (n + 1) ⌝ }
+// With n passes laid out the plan can be written.
+pub fn can_be_laid(plan: &[u8], sizes: Sizes, n: usize) -> bool
+    requires { ⌜ (Fitting (now plan) sizes) × (n ≤ 256) ⌝ }
+    ensures { λ r. ⌜ r ≡ canBeLaid (now (plan .entry)) n ⌝ }
 {
-    if MOST_ROWS < sizes.start + (n + 2) * sizes.cycle {
+    if MOST_ROWS < sizes.start + (n + 1) * sizes.cycle {
         return false;
     }
-    !cycle_too_large(plan, sizes, n + 1)
+    !cycle_too_large(plan, sizes, n)
 }

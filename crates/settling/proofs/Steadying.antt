@@ -4,7 +4,7 @@ use Prim.Native.Nat.{ℕ, _+_, _*_, _-_, _/_, _≤_, _<_, min}
 use native.Mathlib.Nat.{mul-le-mul-right, le-mul-of-pos-right, div-add-mod'}
 use native.Mathlib.Omega.{arith}
 use mathlib.Core.Path.{_≡_, refl, sym, ap, _∙_, subst, subst⁻¹}
-use mathlib.Core.Bool.{Bool, true, false, not, false≢true}
+use mathlib.Core.Bool.{Bool, true, false, false≢true}
 use mathlib.Core.List.{List}
 use mathlib.Core.Option.{Option, none, some}
 use mathlib.Core.Logic.{_↔_, Iff·rfl}
@@ -41,20 +41,8 @@ use Rattle.inputs.proofs.Parts.{taken-same, taken-fitting}
 use Rattle.laid_out.specs.LaidOut.{laidOut, canBeLaid}
 use Rattle.settling.specs.Settle.{isClear, settlesAfter}
 use Rattle.settling.specs.inner.Scratch.{mostRows, changingFrom, isNone, closesOn, Unsteady, NoneSettles}
-use Rattle.laid_out.proofs.CanBeLaid.{fewer-fit}
 use Rattle.settling.proofs.Searched.{true-false, not-so, part-open, not-laid}
 use Rattle.settling.proofs.Trying.{steady-as}
-use borrow.Author.Tests.{not-true}
-
--- ---- whether so many passes can be laid out
-
-module _ (plan : List ℕ) {k more : ℕ} where
-  pub fits-no-more : k < more → {c : Bool} → c ≡ canBeLaid plan (k + 1) → not c ≡ true → false ≡ canBeLaid plan more
-  fits-no-more l {c} e h =
-      sym (not-so (canBeLaid plan more) (λ t. true-false (fewer-fit plan (k + 1) more (omega arith) t) (sym e ∙ not-true c h)))
-
-  pub fits-all : canBeLaid plan k ≡ true → k ≤ more → more ≤ k → true ≡ canBeLaid plan more
-  fits-all e l h = let same : k ≡ more = omega arith in sym (subst (λ (m : ℕ). canBeLaid plan m ≡ true) same e)
 
 -- ---- a comparison that changes has changed before
 

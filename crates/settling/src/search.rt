@@ -7,8 +7,8 @@ ghost use Rattle.settling.specs.inner.Scratch.{Room};
 use crate::Laid;
 use crate::extend::extend;
 use crate::parts::try_part;
-use crate::steady::fits_after;
 use crate::steady::next_passes;
+use laid_out::fits::can_be_laid;
 use laid_out::numbers::laid_sizes;
 use plan::sizes::Sizes;
 use refusal::Refusal;
@@ -25,7 +25,7 @@ pub fn fewest_passes(rule: &[u8], plan: &[u8], scratch: &mut [u8], n: usize, siz
             i += 1;
         } else {
             let more = next_passes(rule, plan, n, sizes, passes, i);
-            if !fits_after(plan, sizes, passes, more) {
+            if !can_be_laid(plan, sizes, more) {
                 return Laid::Refused(Refusal::NoLayout);
             }
             extend(scratch, laid_sizes(sizes, passes), more - passes, i);

@@ -1,15 +1,11 @@
 // Where a part does not close: the passes on which it can't, or the plan can't be written, are passed over without marks.
-ghost use mathlib.Core.Path.{_≡_};
-ghost use mathlib.Core.Bool.{true};
 ghost use Prim.Native.Nat.{_+_, _≤_, _<_};
 ghost use Rattle.plan.specs.inner.Sizes.{Fitting};
 ghost use Rattle.verdict.specs.inner.Reach.{TermsFit};
 ghost use Rattle.inputs.specs.inner.Read.{Ready};
-ghost use Rattle.laid_out.specs.LaidOut.{canBeLaid};
 ghost use Rattle.settling.specs.inner.Scratch.{mostRows, Unsteady, NoneSettles};
 use crate::comparisons::steady;
 use cltlb::View;
-use laid_out::fits::fits_next;
 use plan::sizes::Sizes;
 use rule::Taken;
 use verdict::Comparison;
@@ -63,19 +59,4 @@ pub fn next_passes(
         return passes + 1;
     };
     steady_after(plan, sizes, comparison_of(atom), passes + 1)
-}
-
-// With `passes` laid out the plan can be written, and so it can with `more`.
-pub fn fits_after(plan: &[u8], sizes: Sizes, passes: usize, more: usize) -> bool
-    requires { ⌜ (Fitting (now plan) sizes) × (canBeLaid (now plan) passes ≡ true) × (passes ≤ more) ⌝ }
-    ensures { λ r. ⌜ r ≡ canBeLaid (now (plan .entry)) more ⌝ }
-{
-    let mut k = passes;
-    while k < more {
-        if !fits_next(plan, sizes, k) {
-            return false;
-        }
-        k += 1;
-    }
-    true
 }

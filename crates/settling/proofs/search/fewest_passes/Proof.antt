@@ -12,7 +12,7 @@ use Rattle.settling.proofs.search.fewest_passes.Lts as lts
 use Rattle.laid_out.proofs.numbers.laid_sizes.Reads as laid-sizes-reads
 use Rattle.settling.proofs.extend.extend.Reads as extend-reads
 use Rattle.settling.proofs.parts.try_part.Reads as try-part-reads
-use Rattle.settling.proofs.steady.fits_after.Reads as fits-after-reads
+use Rattle.laid_out.proofs.fits.can_be_laid.Reads as can-be-laid-reads
 use Rattle.settling.proofs.steady.next_passes.Reads as next-passes-reads
 
 abbrev Inv-loop : tie.InvT-loop
@@ -46,8 +46,8 @@ next-passes-requires : tie.Need-next-passes-requires Inv-loop μ-loop
 next-passes-requires c κs = (c .before .before .before .before .before .before .before .before .before .before .pre .0, c .before .before .before .before .before .loop-test .taken, few-passes (now (c .before .before .before .before .before .before .before .before .before .before .args .rule)) (now (c .before .before .before .before .before .before .before .before .before .before .args .plan)) (c .before .before .before .before .before .before .before .before .before .before .pre .0) (c .before .before .before .before .before .before .loop .passes) (c .before .before .before .before .before .before .loop .inv .can))
 
 -- src/search.rt:28:17
-fits-after-requires : tie.Need-fits-after-requires Inv-loop μ-loop
-fits-after-requires c κs = (c .before .before .before .before .before .before .before .before .before .before .before .pre .0 .fits, c .before .before .before .before .before .before .before .loop .inv .can, omega (arith, c .next-passes .ensures .0))
+can-be-laid-requires : tie.Need-can-be-laid-requires Inv-loop μ-loop
+can-be-laid-requires c κs = (c .before .before .before .before .before .before .before .before .before .before .before .pre .0 .fits, c .next-passes .ensures .1)
 
 -- src/search.rt:29:17
 same-length : tie.Need-same-length Inv-loop μ-loop
@@ -55,7 +55,7 @@ same-length c = search needs
 
 -- src/search.rt:29:17
 returns : tie.Need-returns Inv-loop μ-loop
-returns c = no-more (now (c .before .before .before .before .before .before .before .before .before .before .before .before .before .args .rule)) (now (c .before .before .before .before .before .before .before .before .before .before .before .before .before .args .plan)) (c .before .before .before .before .before .before .before .before .before .before .before .before .before .pre .0) (c .before .before .before .before .before .before .before .before .before .loop .inv) (c .before .before .before .before .before .before .try-part .ensures .0) (c .before .before .before .before .before .before .before .before .loop-test .taken) (c .before .before .before .if1 .left) (c .before .before .next-passes .ensures .0) (c .before .before .next-passes .ensures .2) (c .before .fits-after .ensures) (c .if2 .taken)
+returns c = no-more (now (c .before .before .before .before .before .before .before .before .before .before .before .before .before .args .rule)) (now (c .before .before .before .before .before .before .before .before .before .before .before .before .before .args .plan)) (c .before .before .before .before .before .before .before .before .before .before .before .before .before .pre .0) (c .before .before .before .before .before .before .before .before .before .loop .inv) (c .before .before .before .before .before .before .try-part .ensures .0) (c .before .before .before .before .before .before .before .before .loop-test .taken) (c .before .before .before .if1 .left) (c .before .before .next-passes .ensures .0) (c .before .before .next-passes .ensures .2) (c .before .can-be-laid .ensures) (c .if2 .taken)
 
 -- src/search.rt:31:29
 laid-sizes-requires : tie.Need-laid-sizes-requires Inv-loop μ-loop
@@ -67,7 +67,7 @@ sub-extend c = omega (arith, c .before .before .before .before .next-passes .ens
 
 -- src/search.rt:31:13
 extend-requires : tie.Need-extend-requires Inv-loop μ-loop
-extend-requires c κs = (c .before .before .before .before .before .before .before .before .try-part .ensures .1 .room, more-room (now (c .before .before .before .before .before .before .before .before .before .before .before .before .before .before .before .args .rule)) (now (c .before .before .before .before .before .before .before .before .before .before .before .before .before .before .before .args .plan)) (c .before .before .before .before .before .before .before .before .before .before .before .before .before .before .before .pre .0) (c .before .before .before .before .next-passes .ensures .0) (passed (c .before .before .before .fits-after .ensures) (c .before .before .if2 .left)) (c .laid-sizes .ensures) .0, more-room (now (c .before .before .before .before .before .before .before .before .before .before .before .before .before .before .before .args .rule)) (now (c .before .before .before .before .before .before .before .before .before .before .before .before .before .before .before .args .plan)) (c .before .before .before .before .before .before .before .before .before .before .before .before .before .before .before .pre .0) (c .before .before .before .before .next-passes .ensures .0) (passed (c .before .before .before .fits-after .ensures) (c .before .before .if2 .left)) (c .laid-sizes .ensures) .1, few-parts (now (c .before .before .before .before .before .before .before .before .before .before .before .before .before .before .before .args .rule)) (now (c .before .before .before .before .before .before .before .before .before .before .before .before .before .before .before .args .plan)) (c .before .before .before .before .before .before .before .before .before .before .before .before .before .before .before .pre .0) (c .before .before .before .before .before .before .before .before .before .before .before .loop .inv .few))
+extend-requires c κs = (c .before .before .before .before .before .before .before .before .try-part .ensures .1 .room, more-room (now (c .before .before .before .before .before .before .before .before .before .before .before .before .before .before .before .args .rule)) (now (c .before .before .before .before .before .before .before .before .before .before .before .before .before .before .before .args .plan)) (c .before .before .before .before .before .before .before .before .before .before .before .before .before .before .before .pre .0) (c .before .before .before .before .next-passes .ensures .0) (passed (c .before .before .before .can-be-laid .ensures) (c .before .before .if2 .left)) (c .laid-sizes .ensures) .0, more-room (now (c .before .before .before .before .before .before .before .before .before .before .before .before .before .before .before .args .rule)) (now (c .before .before .before .before .before .before .before .before .before .before .before .before .before .before .before .args .plan)) (c .before .before .before .before .before .before .before .before .before .before .before .before .before .before .before .pre .0) (c .before .before .before .before .next-passes .ensures .0) (passed (c .before .before .before .can-be-laid .ensures) (c .before .before .if2 .left)) (c .laid-sizes .ensures) .1, few-parts (now (c .before .before .before .before .before .before .before .before .before .before .before .before .before .before .before .args .rule)) (now (c .before .before .before .before .before .before .before .before .before .before .before .before .before .before .before .args .plan)) (c .before .before .before .before .before .before .before .before .before .before .before .before .before .before .before .pre .0) (c .before .before .before .before .before .before .before .before .before .before .before .loop .inv .few))
 
 -- src/search.rt:23:5
 loop-less-2 : tie.Need-loop-less-2 Inv-loop μ-loop
@@ -75,7 +75,7 @@ loop-less-2 c = omega (arith, few-passes (now (c .before .before .before .before
 
 -- src/search.rt:23:5
 loop-again-2 : tie.Need-loop-again-2 Inv-loop μ-loop
-loop-again-2 c = more-laid (now (c .before .before .before .before .before .before .before .before .before .before .before .before .before .before .before .before .before .before .args .rule)) (now (c .before .before .before .before .before .before .before .before .before .before .before .before .before .before .before .before .before .before .args .plan)) (c .before .before .before .before .before .before .before .before .before .before .before .before .before .before .before .before .before .before .pre .0) (c .before .before .before .before .before .before .before .before .before .before .before .before .before .before .loop .inv) (c .before .before .before .before .before .before .before .before .before .before .before .try-part .ensures .0) (c .before .before .before .before .before .before .before .before .before .before .before .before .before .loop-test .taken) (c .before .before .before .before .before .before .before .before .if1 .left) (c .before .before .before .before .before .before .before .next-passes .ensures .0) (c .before .before .before .before .before .before .before .next-passes .ensures .2) (as-bytes (now (c .before .before .before .before .before .before .before .before .before .before .before .before .before .before .before .before .before .before .args .plan)) (λ i. omega (arith, c .before .before .before .before .before .before .before .before .before .before .before .before .before .before .before .before .shared-slice-known2 .given i))) (passed (c .before .before .before .before .before .before .fits-after .ensures) (c .before .before .before .before .before .if2 .left)) (c .before .before .before .before .before .before .before .before .before .before .before .try-part .ensures .1) (c .before .before .before .laid-sizes .ensures) (c .before .before .extend .ensures)
+loop-again-2 c = more-laid (now (c .before .before .before .before .before .before .before .before .before .before .before .before .before .before .before .before .before .before .args .rule)) (now (c .before .before .before .before .before .before .before .before .before .before .before .before .before .before .before .before .before .before .args .plan)) (c .before .before .before .before .before .before .before .before .before .before .before .before .before .before .before .before .before .before .pre .0) (c .before .before .before .before .before .before .before .before .before .before .before .before .before .before .loop .inv) (c .before .before .before .before .before .before .before .before .before .before .before .try-part .ensures .0) (c .before .before .before .before .before .before .before .before .before .before .before .before .before .loop-test .taken) (c .before .before .before .before .before .before .before .before .if1 .left) (c .before .before .before .before .before .before .before .next-passes .ensures .0) (c .before .before .before .before .before .before .before .next-passes .ensures .2) (as-bytes (now (c .before .before .before .before .before .before .before .before .before .before .before .before .before .before .before .before .before .before .args .plan)) (λ i. omega (arith, c .before .before .before .before .before .before .before .before .before .before .before .before .before .before .before .before .shared-slice-known2 .given i))) (passed (c .before .before .before .before .before .before .can-be-laid .ensures) (c .before .before .before .before .before .if2 .left)) (c .before .before .before .before .before .before .before .before .before .before .before .try-part .ensures .1) (c .before .before .before .laid-sizes .ensures) (c .before .before .extend .ensures)
 
 -- src/search.rt:17:1
 same-length-2 : tie.Need-same-length-2 Inv-loop μ-loop
@@ -97,7 +97,7 @@ fewest-passes-spec =
     loop-less
     loop-again
     next-passes-requires
-    fits-after-requires
+    can-be-laid-requires
     same-length
     returns
     laid-sizes-requires
