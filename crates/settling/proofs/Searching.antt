@@ -84,12 +84,13 @@ module _ (rule plan : List ℕ) {n : ℕ} {z : Sizes} (ready : Ready rule plan n
   pub more-room : {k more : ℕ} → k < more → canBeLaid plan more ≡ true → {y : Sizes} → y ≡ laidSizes z k
       → (1 ≤ y .cycle) × (y .start + y .cycle + (more - k) * y .cycle ≤ mostRows)
   more-room {k} {more} l can e =
-      subst⁻¹ (λ (q : Sizes). (1 ≤ q .cycle) × (q .start + q .cycle + (more - k) * q .cycle ≤ mostRows)) e
-      (ready .fits .a-cycle,
-      (let few = laid more can .few-rows in
-      let split : k + (more - k) ≡ more = omega arith in
-      let whole : (k + (more - k)) * z .cycle ≡ more * z .cycle = ap (λ (m : ℕ). m * z .cycle) split in
-      omega arith))
+      subst⁻¹ (λ (q : Sizes). (1 ≤ q .cycle) × (q .start + q .cycle + (more - k) * q .cycle ≤ mostRows)) e (
+        ready .fits .a-cycle,
+        (let few = laid more can .few-rows in
+            let split : k + (more - k) ≡ more = omega arith in
+            let whole : (k + (more - k)) * z .cycle ≡ more * z .cycle = ap (λ (m : ℕ). m * z .cycle) split in
+            omega arith),
+      )
 
   -- ---- before the first turn
 

@@ -5,6 +5,7 @@ ghost use Rattle.table.specs.Bytes.{byteOf};
 ghost use Rattle.table.specs.inner.Stored.{Stored};
 ghost use Rattle.table.specs.inner.Tables.{markIn, mostBytes};
 ghost use Rattle.settling.specs.inner.Scratch.{mostParts, mostRows, Room, Extended};
+use crate::MOST_ROWS;
 use plan::sizes::Sizes;
 use table::bytes::place;
 use table::fills::fill_copied;
@@ -33,7 +34,7 @@ pub fn extend(scratch: &mut [u8], sizes: Sizes, times: usize, n: usize)
     let cycle = sizes.cycle;
     let mut a = 0;
     while a < n {
-        repeat(scratch, place(256, a, start), cycle, times);
+        repeat(scratch, place(MOST_ROWS, a, start), cycle, times);
         a += 1;
     }
 }

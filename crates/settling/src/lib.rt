@@ -17,7 +17,11 @@ use plan::sizes::Sizes;
 use refusal::Refusal;
 use table::fills::clear;
 
-// The bytes of the lent scratch.
+// The parts and the rows that the scratch has room for, as many as there can be, and its bytes.
+pub const MOST_PARTS: usize = 64;
+
+pub const MOST_ROWS: usize = 256;
+
 pub const SCRATCH_LENGTH: usize = 16516;
 
 // What settling answers: how many passes are laid out, or the first refusal that applies.

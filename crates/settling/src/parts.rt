@@ -9,6 +9,8 @@ ghost use Rattle.plan.specs.inner.Sizes.{Fitting};
 ghost use Rattle.inputs.specs.inner.Read.{Ready};
 ghost use Rattle.laid_out.specs.LaidOut.{laidOut, canBeLaid};
 ghost use Rattle.settling.specs.inner.Scratch.{mostParts, Room, Tried, MadeTo, closesOn};
+use crate::MOST_PARTS;
+use crate::MOST_ROWS;
 use crate::comparisons::put_truths;
 use crate::comparisons::steady;
 use cltlb::Atom;
@@ -39,7 +41,7 @@ fn try_atom(
     if !steady(plan, sizes, comparison, start) {
         return false;
     }
-    let own = place(256, i, 0);
+    let own = place(MOST_ROWS, i, 0);
     put_truths(scratch, plan, sizes, comparison, own, start + laid.cycle);
     true
 }
@@ -60,8 +62,8 @@ fn try_view(
         View::Atom(atom) => try_atom(plan, scratch, sizes, passes, i, atom),
         View::Operator(operator) => {
             let laid = laid_sizes(sizes, passes);
-            label_operator(scratch, 64, 256, laid, i, operator);
-            wraps_round(scratch, 64, 256, laid, i, operator)
+            label_operator(scratch, MOST_PARTS, MOST_ROWS, laid, i, operator);
+            wraps_round(scratch, MOST_PARTS, MOST_ROWS, laid, i, operator)
         }
     }
 }

@@ -4,6 +4,7 @@ ghost use Rattle.plan.specs.inner.Sizes.{Fitting};
 ghost use Rattle.verdict.specs.inner.Reach.{TermsFit};
 ghost use Rattle.inputs.specs.inner.Read.{Ready};
 ghost use Rattle.settling.specs.inner.Scratch.{mostRows, Unsteady, NoneSettles};
+use crate::MOST_ROWS;
 use crate::comparisons::steady;
 use cltlb::View;
 use plan::sizes::Sizes;
@@ -11,9 +12,6 @@ use rule::Taken;
 use verdict::Comparison;
 use verdict::bounds::smaller;
 use verdict::rows::comparison_of;
-
-// The most rows of a plan but for its lead-in.
-const MOST_ROWS: usize = 256;
 
 // The fewest passes, from `passes` on, from which on a comparison does not change, or the fewest that take too many rows. What does
 // not change stays so: the steps ahead double, and then the number is enclosed.

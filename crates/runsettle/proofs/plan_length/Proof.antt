@@ -41,8 +41,7 @@ mul-result c =
     let u16-at3 = c .before .u16-at3 in
     let u16-at2 = c .before .before .u16-at2 in
     let u16-at = c .before .before .before .u16-at in
-    let small = product-small (u16-at .ensures .1) (u16-at2 .ensures .1) (u16-at3 .ensures .1) (u16-at4 .ensures .1) in
-    omega arith
+    let u16-at4 = u16-at4 in let u16-at3 = u16-at3 in let u16-at2 = u16-at2 in let u16-at = u16-at in let small = product-small (u16-at .ensures .1) (u16-at2 .ensures .1) (u16-at3 .ensures .1) (u16-at4 .ensures .1) in omega arith
 
 -- src/main.rt:21:9
 mul-result-2 : tie.Need-mul-result-2
@@ -51,8 +50,7 @@ mul-result-2 c =
     let u16-at3 = c .before .u16-at3 in
     let u16-at2 = c .before .before .u16-at2 in
     let u16-at = c .before .before .before .u16-at in
-    let small = product-small (u16-at .ensures .1) (u16-at2 .ensures .1) (u16-at3 .ensures .1) (u16-at4 .ensures .1) in
-    omega arith
+    let u16-at4 = u16-at4 in let u16-at3 = u16-at3 in let u16-at2 = u16-at2 in let u16-at = u16-at in let small = product-small (u16-at .ensures .1) (u16-at2 .ensures .1) (u16-at3 .ensures .1) (u16-at4 .ensures .1) in omega arith
 
 -- src/main.rt:21:5
 add-result-3 : tie.Need-add-result-3
@@ -61,8 +59,7 @@ add-result-3 c =
     let u16-at3 = c .before .u16-at3 in
     let u16-at2 = c .before .before .u16-at2 in
     let u16-at = c .before .before .before .u16-at in
-    let small = product-small (u16-at .ensures .1) (u16-at2 .ensures .1) (u16-at3 .ensures .1) (u16-at4 .ensures .1) in
-    omega arith
+    let u16-at4 = u16-at4 in let u16-at3 = u16-at3 in let u16-at2 = u16-at2 in let u16-at = u16-at in let small = product-small (u16-at .ensures .1) (u16-at2 .ensures .1) (u16-at3 .ensures .1) (u16-at4 .ensures .1) in omega arith
 
 -- src/main.rt:13:1
 returns : tie.Need-returns

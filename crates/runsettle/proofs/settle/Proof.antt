@@ -20,8 +20,7 @@ plan-length-requires : tie.Need-plan-length-requires
 plan-length-requires c κs =
     let endless-run-settle = c .before .before .before .before .before .before .endless-run-settle in
     let if1 = c .before .if1 in
-    let told = endless-run-settle .ensures in
-    has-head _ _ _ (told .clears (if1 .taken)) (told .front (if1 .taken))
+    let endless-run-settle = endless-run-settle in let if1 = if1 in let told = endless-run-settle .ensures in has-head _ _ _ (told .clears (if1 .taken)) (told .front (if1 .taken))
 
 -- src/main.rt:51:24
 slice-reshare-prefix-report : tie.Need-slice-reshare-prefix-report
@@ -29,9 +28,7 @@ slice-reshare-prefix-report c =
     let endless-run-settle = c .before .before .before .before .before .before .before .endless-run-settle in
     let if1 = c .before .before .if1 in
     let plan-length = c .plan-length in
-    let told = endless-run-settle .ensures in
-    let inside = within _ _ _ (told .clears (if1 .taken)) (told .front (if1 .taken)) (plan-length .ensures) in
-    inside
+    let endless-run-settle = endless-run-settle in let if1 = if1 in let plan-length = plan-length in let told = endless-run-settle .ensures in let inside = within _ _ _ (told .clears (if1 .taken)) (told .front (if1 .taken)) (plan-length .ensures) in inside
 
 -- src/main.rt:51:24
 slice-aggregate-report : tie.Need-slice-aggregate-report
@@ -39,9 +36,7 @@ slice-aggregate-report c =
     let endless-run-settle = c .before .before .before .before .before .before .before .before .endless-run-settle in
     let if1 = c .before .before .before .if1 in
     let plan-length = c .before .plan-length in
-    let told = endless-run-settle .ensures in
-    let inside = within _ _ _ (told .clears (if1 .taken)) (told .front (if1 .taken)) (plan-length .ensures) in
-    simp length-take (omega arith)
+    let endless-run-settle = endless-run-settle in let if1 = if1 in let plan-length = plan-length in let told = endless-run-settle .ensures in let inside = within _ _ _ (told .clears (if1 .taken)) (told .front (if1 .taken)) (plan-length .ensures) in simp length-take (omega arith)
 
 -- src/main.rt:51:9
 report-requires : tie.Need-report-requires

@@ -19,7 +19,9 @@ mul-if1 c = omega (arith, few-more (c .before .before .pre .0) (c .before .befor
 
 -- src/fits.rt:68:20
 add-if1-2 : tie.Need-add-if1-2
-add-if1-2 c = omega (arith, few-more (c .before .before .before .pre .0) (c .before .before .before .args .n) (c .before .before .before .pre .1), c .before .before .before .pre .0 .few-rows)
+add-if1-2 c =
+    let start = c .before .before .before in
+    omega (arith, few-more (start .pre .0) (start .args .n) (start .pre .1), start .pre .0 .few-rows)
 
 -- src/fits.rt:69:9
 returns : tie.Need-returns
@@ -31,7 +33,12 @@ cycle-too-large-requires c κs = search needs
 
 -- src/fits.rt:64:1
 returns-2 : tie.Need-returns-2
-returns-2 c = cycle-decides (c .before .before .before .before .before .pre .0) (c .before .before .before .before .before .args .n) (as-bytes (now (c .before .before .before .before .before .args .plan)) (λ i. omega (arith, c .before .before .before .before .shared-slice-known .given i))) (c .before .if1 .left) (c .cycle-too-large .ensures)
+returns-2 c =
+    let start = c .before .before .before .before .before in
+    let shared-slice-known = c .before .before .before .before .shared-slice-known in
+    let if1 = c .before .if1 in
+    let cycle-too-large = c .cycle-too-large in
+    cycle-decides (start .pre .0) (start .args .n) (as-bytes (now (start .args .plan)) (λ i. omega (arith, shared-slice-known .given i))) (if1 .left) (cycle-too-large .ensures)
 
 pub can-be-laid-spec : {M : Type 1} → statement M
 can-be-laid-spec =

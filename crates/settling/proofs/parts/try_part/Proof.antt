@@ -24,7 +24,11 @@ enum-told c = search needs
 
 -- src/parts.rt:84:9
 returns : tie.Need-returns
-returns c = absurd (always-taken (now (c .before .before .before .before .before .before .args .rule)) (now (c .before .before .before .before .before .before .args .plan)) (c .before .before .before .before .before .before .pre .0) _ (c .before .before .before .before .before .before .pre .3) (c .before .before .take .ensures .isTake) (c .enum-told .given .1))
+returns c =
+    let start = c .before .before .before .before .before .before in
+    let take = c .before .before .take in
+    let enum-told = c .enum-told in
+    absurd (always-taken (now (start .args .rule)) (now (start .args .plan)) (start .pre .0) _ (start .pre .3) (take .ensures .isTake) (enum-told .given .1))
 
 -- src/parts.rt:86:47
 view-of-requires : tie.Need-view-of-requires
@@ -32,7 +36,12 @@ view-of-requires c κs = search needs
 
 -- src/parts.rt:86:5
 try-view-requires : tie.Need-try-view-requires
-try-view-requires c κs = (c .before .before .before .before .before .before .before .before .before .pre .0 .fits, c .before .before .before .before .before .before .before .before .before .pre .1, c .before .before .before .before .before .before .before .before .before .pre .2 .room, few-parts (now (c .before .before .before .before .before .before .before .before .before .args .rule)) (now (c .before .before .before .before .before .before .before .before .before .args .plan)) (c .before .before .before .before .before .before .before .before .before .pre .0) (c .before .before .before .before .before .before .before .before .before .pre .3), taken-fitting (now (c .before .before .before .before .before .before .before .before .before .args .rule)) (now (c .before .before .before .before .before .before .before .before .before .args .plan)) (c .before .before .before .before .before .before .before .before .before .pre .0) _ (c .before .before .before .before .before .before .before .before .before .pre .3) (c .before .before .before .before .before .take .ensures .isTake) (c .before .before .before .taken .given .1) (c .view-of .ensures))
+try-view-requires c κs =
+    let start = c .before .before .before .before .before .before .before .before .before in
+    let take = c .before .before .before .before .before .take in
+    let taken = c .before .before .before .taken in
+    let view-of = c .view-of in
+    (start .pre .0 .fits, start .pre .1, start .pre .2 .room, few-parts (now (start .args .rule)) (now (start .args .plan)) (start .pre .0) (start .pre .3), taken-fitting (now (start .args .rule)) (now (start .args .plan)) (start .pre .0) _ (start .pre .3) (take .ensures .isTake) (taken .given .1) (view-of .ensures))
 
 -- src/parts.rt:70:1
 same-length : tie.Need-same-length
@@ -40,7 +49,13 @@ same-length c = search needs
 
 -- src/parts.rt:70:1
 returns-2 : tie.Need-returns-2
-returns-2 c = part-tried (now (c .before .before .before .before .before .before .before .before .before .before .before .before .args .rule)) (now (c .before .before .before .before .before .before .before .before .before .before .before .before .args .plan)) (c .before .before .before .before .before .before .before .before .before .before .before .before .pre .0) (c .before .before .before .before .before .before .before .before .before .before .before .before .args .passes) (c .before .before .before .before .before .before .before .before .before .before .before .before .pre .1) (c .before .before .before .before .before .before .before .before .before .before .before .before .args .i) (c .before .before .before .before .before .before .before .before .before .before .before .before .pre .3) (c .before .before .before .before .before .before .before .before .take .ensures .isTake) (c .before .before .before .before .before .before .taken .given .1) (c .before .before .before .view-of .ensures) (c .before .before .before .before .before .before .before .before .before .before .before .before .pre .2) (c .before .before .try-view .ensures)
+returns-2 c =
+    let start = c .before .before .before .before .before .before .before .before .before .before .before .before in
+    let take = c .before .before .before .before .before .before .before .before .take in
+    let taken = c .before .before .before .before .before .before .taken in
+    let view-of = c .before .before .before .view-of in
+    let try-view = c .before .before .try-view in
+    part-tried (now (start .args .rule)) (now (start .args .plan)) (start .pre .0) (start .args .passes) (start .pre .1) (start .args .i) (start .pre .3) (take .ensures .isTake) (taken .given .1) (view-of .ensures) (start .pre .2) (try-view .ensures)
 
 pub try-part-spec : {M : Type 1} → statement M
 try-part-spec =

@@ -25,7 +25,10 @@ enum-known-view c = search needs
 
 -- src/parts.rt:60:29
 try-atom-requires : tie.Need-try-atom-requires
-try-atom-requires c κs = (c .before .before .before .before .before .before .pre .0, c .before .before .before .before .before .before .pre .1, c .before .before .before .before .before .before .pre .2, c .before .before .before .before .before .before .pre .3, atom-fits (c .before .before .before .before .before .before .args .sizes .channels) (c .before .before .before .before .before .before .args .i) _ (subst (λ (q : View). viewFits (c .before .before .before .before .before .before .args .sizes .channels) (c .before .before .before .before .before .before .args .i) q ≡ true) (c .before .before .view .given .1) (c .before .before .before .before .before .before .pre .4)))
+try-atom-requires c κs =
+    let start = c .before .before .before .before .before .before in
+    let view = c .before .before .view in
+    (start .pre .0, start .pre .1, start .pre .2, start .pre .3, atom-fits (start .args .sizes .channels) (start .args .i) _ (subst (λ (q : View). viewFits (start .args .sizes .channels) (start .args .i) q ≡ true) (view .given .1) (start .pre .4)))
 
 -- src/parts.rt:61:24
 enum-known-view-2 : tie.Need-enum-known-view-2
@@ -33,15 +36,26 @@ enum-known-view-2 c = search needs
 
 -- src/parts.rt:62:17
 laid-sizes-requires : tie.Need-laid-sizes-requires
-laid-sizes-requires c κs = (few-passes (c .before .before .before .before .before .pre .0) (c .before .before .before .before .before .args .passes) (c .before .before .before .before .before .pre .1), c .before .before .before .before .before .pre .0 .few-rows)
+laid-sizes-requires c κs =
+    let start = c .before .before .before .before .before in
+    (few-passes (start .pre .0) (start .args .passes) (start .pre .1), start .pre .0 .few-rows)
 
 -- src/parts.rt:63:13
 label-operator-requires : tie.Need-label-operator-requires
-label-operator-requires c κs = (c .before .before .before .before .before .before .before .pre .2, omega (arith, ap (λ (q : Sizes). q .start) (c .before .laid-sizes .ensures), ap (λ (q : Sizes). q .cycle) (c .before .laid-sizes .ensures), laid-rows (now (c .before .before .before .before .before .before .before .args .plan)) (c .before .before .before .before .before .before .before .pre .0) (c .before .before .before .before .before .before .before .args .passes) (c .before .before .before .before .before .before .before .pre .1) .0), omega (arith, ap (λ (q : Sizes). q .cycle) (c .before .laid-sizes .ensures), c .before .before .before .before .before .before .before .pre .0 .a-cycle), c .before .before .before .before .before .before .before .pre .3, operator-fits (c .before .before .before .before .before .before .before .args .sizes .channels) (c .before .before .before .before .before .before .before .args .i) _ (subst (λ (q : View). viewFits (c .before .before .before .before .before .before .before .args .sizes .channels) (c .before .before .before .before .before .before .before .args .i) q ≡ true) (c .before .before .before .view2 .given .1) (c .before .before .before .before .before .before .before .pre .4)))
+label-operator-requires c κs =
+    let start = c .before .before .before .before .before .before .before in
+    let laid-sizes = c .before .laid-sizes in
+    let view2 = c .before .before .before .view2 in
+    (start .pre .2, omega (arith, ap (λ (q : Sizes). q .start) (laid-sizes .ensures), ap (λ (q : Sizes). q .cycle) (laid-sizes .ensures), laid-rows (now (start .args .plan)) (start .pre .0) (start .args .passes) (start .pre .1) .0), omega (arith, ap (λ (q : Sizes). q .cycle) (laid-sizes .ensures), start .pre .0 .a-cycle), start .pre .3, operator-fits (start .args .sizes .channels) (start .args .i) _ (subst (λ (q : View). viewFits (start .args .sizes .channels) (start .args .i) q ≡ true) (view2 .given .1) (start .pre .4)))
 
 -- src/parts.rt:64:13
 wraps-round-requires : tie.Need-wraps-round-requires
-wraps-round-requires c κs = (stored-sized _ _ (c .before .before .before .label-operator .ensures) (c .before .before .before .before .before .before .before .before .before .before .before .pre .2), omega (arith, ap (λ (q : Sizes). q .start) (c .before .before .before .before .before .laid-sizes .ensures), ap (λ (q : Sizes). q .cycle) (c .before .before .before .before .before .laid-sizes .ensures), laid-rows (now (c .before .before .before .before .before .before .before .before .before .before .before .args .plan)) (c .before .before .before .before .before .before .before .before .before .before .before .pre .0) (c .before .before .before .before .before .before .before .before .before .before .before .args .passes) (c .before .before .before .before .before .before .before .before .before .before .before .pre .1) .0), omega (arith, ap (λ (q : Sizes). q .cycle) (c .before .before .before .before .before .laid-sizes .ensures), c .before .before .before .before .before .before .before .before .before .before .before .pre .0 .a-cycle), c .before .before .before .before .before .before .before .before .before .before .before .pre .3, operator-fits (c .before .before .before .before .before .before .before .before .before .before .before .args .sizes .channels) 64 _ (view-more (c .before .before .before .before .before .before .before .before .before .before .before .args .sizes .channels) (c .before .before .before .before .before .before .before .before .before .before .before .args .sizes .channels) (omega arith) (c .before .before .before .before .before .before .before .before .before .before .before .args .i) 64 (omega (arith, c .before .before .before .before .before .before .before .before .before .before .before .pre .3)) _ (subst (λ (q : View). viewFits (c .before .before .before .before .before .before .before .before .before .before .before .args .sizes .channels) (c .before .before .before .before .before .before .before .before .before .before .before .args .i) q ≡ true) (c .before .before .before .before .before .before .before .view2 .given .1) (c .before .before .before .before .before .before .before .before .before .before .before .pre .4))))
+wraps-round-requires c κs =
+    let start = c .before .before .before .before .before .before .before .before .before .before .before in
+    let label-operator = c .before .before .before .label-operator in
+    let laid-sizes = c .before .before .before .before .before .laid-sizes in
+    let view2 = c .before .before .before .before .before .before .before .view2 in
+    (stored-sized _ _ (label-operator .ensures) (start .pre .2), omega (arith, ap (λ (q : Sizes). q .start) (laid-sizes .ensures), ap (λ (q : Sizes). q .cycle) (laid-sizes .ensures), laid-rows (now (start .args .plan)) (start .pre .0) (start .args .passes) (start .pre .1) .0), omega (arith, ap (λ (q : Sizes). q .cycle) (laid-sizes .ensures), start .pre .0 .a-cycle), start .pre .3, operator-fits (start .args .sizes .channels) 64 _ (view-more (start .args .sizes .channels) (start .args .sizes .channels) (omega arith) (start .args .i) 64 (omega (arith, start .pre .3)) _ (subst (λ (q : View). viewFits (start .args .sizes .channels) (start .args .i) q ≡ true) (view2 .given .1) (start .pre .4))))
 
 -- src/parts.rt:48:1
 same-length : tie.Need-same-length
@@ -57,7 +71,13 @@ same-length-2 c = search needs
 
 -- src/parts.rt:48:1
 returns-2 : tie.Need-returns-2
-returns-2 c = tried-view (c .before .before .before .before .before .before .before .before .view2 .given .1) (operator-tried (now (c .before .before .before .before .before .before .before .before .before .before .before .before .args .plan)) (c .before .before .before .before .before .before .before .before .before .before .before .before .pre .0) (c .before .before .before .before .before .before .before .before .before .before .before .before .args .passes) (c .before .before .before .before .before .before .before .before .before .before .before .before .pre .1) (c .before .before .before .before .before .before .before .before .before .before .before .before .args .i) _ (subst (λ (q : View). viewFits (c .before .before .before .before .before .before .before .before .before .before .before .before .args .sizes .channels) (c .before .before .before .before .before .before .before .before .before .before .before .before .args .i) q ≡ true) (c .before .before .before .before .before .before .before .before .view2 .given .1) (c .before .before .before .before .before .before .before .before .before .before .before .before .pre .4)) (c .before .before .before .before .before .before .laid-sizes .ensures) (c .before .before .before .before .label-operator .ensures) (c .wraps-round .ensures))
+returns-2 c =
+    let start = c .before .before .before .before .before .before .before .before .before .before .before .before in
+    let view2 = c .before .before .before .before .before .before .before .before .view2 in
+    let laid-sizes = c .before .before .before .before .before .before .laid-sizes in
+    let label-operator = c .before .before .before .before .label-operator in
+    let wraps-round = c .wraps-round in
+    tried-view (view2 .given .1) (operator-tried (now (start .args .plan)) (start .pre .0) (start .args .passes) (start .pre .1) (start .args .i) _ (subst (λ (q : View). viewFits (start .args .sizes .channels) (start .args .i) q ≡ true) (view2 .given .1) (start .pre .4)) (laid-sizes .ensures) (label-operator .ensures) (wraps-round .ensures))
 
 pub try-view-spec : {M : Type 1} → statement M
 try-view-spec =

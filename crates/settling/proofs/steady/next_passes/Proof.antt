@@ -30,7 +30,9 @@ add-result c = search needs
 
 -- src/steady.rt:53:9
 returns : tie.Need-returns
-returns c = (none-over (now (c .before .before .before .before .before .args .rule)) (now (c .before .before .before .before .before .args .plan)) (c .before .before .before .before .before .args .passes) .0, omega (arith, c .before .before .before .before .before .pre .2), none-over (now (c .before .before .before .before .before .args .rule)) (now (c .before .before .before .before .before .args .plan)) (c .before .before .before .before .before .args .passes) .1)
+returns c =
+    let start = c .before .before .before .before .before in
+    (none-over (now (start .args .rule)) (now (start .args .plan)) (start .args .passes) .0, omega (arith, start .pre .2), none-over (now (start .args .rule)) (now (start .args .plan)) (start .args .passes) .1)
 
 -- src/steady.rt:55:28
 view-of-requires : tie.Need-view-of-requires
@@ -50,7 +52,9 @@ add-result-2 c = search needs
 
 -- src/steady.rt:56:9
 returns-2 : tie.Need-returns-2
-returns-2 c = (none-over (now (c .before .before .before .before .before .before .before .before .before .args .rule)) (now (c .before .before .before .before .before .before .before .before .before .args .plan)) (c .before .before .before .before .before .before .before .before .before .args .passes) .0, omega (arith, c .before .before .before .before .before .before .before .before .before .pre .2), none-over (now (c .before .before .before .before .before .before .before .before .before .args .rule)) (now (c .before .before .before .before .before .before .before .before .before .args .plan)) (c .before .before .before .before .before .before .before .before .before .args .passes) .1)
+returns-2 c =
+    let start = c .before .before .before .before .before .before .before .before .before in
+    (none-over (now (start .args .rule)) (now (start .args .plan)) (start .args .passes) .0, omega (arith, start .pre .2), none-over (now (start .args .rule)) (now (start .args .plan)) (start .args .passes) .1)
 
 -- src/steady.rt:58:31
 comparison-of-requires : tie.Need-comparison-of-requires
@@ -62,11 +66,28 @@ add-steady-after c = search needs
 
 -- src/steady.rt:58:5
 steady-after-requires : tie.Need-steady-after-requires
-steady-after-requires c κs = (c .before .before .before .before .before .before .before .before .before .before .before .pre .0 .fits, part-terms (now (c .before .before .before .before .before .before .before .before .before .before .before .args .rule)) (now (c .before .before .before .before .before .before .before .before .before .before .before .args .plan)) (c .before .before .before .before .before .before .before .before .before .before .before .pre .0) (as-bytes (now (c .before .before .before .before .before .before .before .before .before .before .before .args .plan)) (λ i. omega (arith, c .before .before .before .before .before .before .before .before .before .shared-slice-known2 .given i))) (c .before .before .before .before .before .before .before .before .before .before .before .args .i) (c .before .before .before .before .before .before .before .before .before .before .before .pre .1) (c .before .before .before .before .before .before .before .before .take .ensures .isTake) (c .before .before .before .before .before .before .taken .given .1) (c .before .before .before .before .view-of .ensures) (c .before .before .atom .given .1) (c .comparison-of .ensures), omega (arith, c .before .before .before .before .before .before .before .before .before .before .before .pre .2))
+steady-after-requires c κs =
+    let start = c .before .before .before .before .before .before .before .before .before .before .before in
+    let shared-slice-known2 = c .before .before .before .before .before .before .before .before .before .shared-slice-known2 in
+    let take = c .before .before .before .before .before .before .before .before .take in
+    let taken = c .before .before .before .before .before .before .taken in
+    let view-of = c .before .before .before .before .view-of in
+    let atom = c .before .before .atom in
+    let comparison-of = c .comparison-of in
+    (start .pre .0 .fits, part-terms (now (start .args .rule)) (now (start .args .plan)) (start .pre .0) (as-bytes (now (start .args .plan)) (λ i. omega (arith, shared-slice-known2 .given i))) (start .args .i) (start .pre .1) (take .ensures .isTake) (taken .given .1) (view-of .ensures) (atom .given .1) (comparison-of .ensures), omega (arith, start .pre .2))
 
 -- src/steady.rt:40:1
 returns-3 : tie.Need-returns-3
-returns-3 c = (omega (arith, c .steady-after .ensures .0), c .steady-after .ensures .1, passed-over (now (c .before .before .before .before .before .before .before .before .before .before .before .before .args .rule)) (now (c .before .before .before .before .before .before .before .before .before .before .before .before .args .plan)) (c .before .before .before .before .before .before .before .before .before .before .before .before .pre .0) (as-bytes (now (c .before .before .before .before .before .before .before .before .before .before .before .before .args .plan)) (λ i. omega (arith, c .before .before .before .before .before .before .before .before .before .before .shared-slice-known2 .given i))) (c .before .before .before .before .before .before .before .before .before .before .before .before .args .i) (c .before .before .before .before .before .before .before .before .before .before .before .before .pre .1) (c .before .before .before .before .before .before .before .before .before .take .ensures .isTake) (c .before .before .before .before .before .before .before .taken .given .1) (c .before .before .before .before .before .view-of .ensures) (c .before .before .before .atom .given .1) (c .before .comparison-of .ensures) (c .steady-after .ensures .2))
+returns-3 c =
+    let start = c .before .before .before .before .before .before .before .before .before .before .before .before in
+    let steady-after = c .steady-after in
+    let shared-slice-known2 = c .before .before .before .before .before .before .before .before .before .before .shared-slice-known2 in
+    let take = c .before .before .before .before .before .before .before .before .before .take in
+    let taken = c .before .before .before .before .before .before .before .taken in
+    let view-of = c .before .before .before .before .before .view-of in
+    let atom = c .before .before .before .atom in
+    let comparison-of = c .before .comparison-of in
+    (omega (arith, steady-after .ensures .0), steady-after .ensures .1, passed-over (now (start .args .rule)) (now (start .args .plan)) (start .pre .0) (as-bytes (now (start .args .plan)) (λ i. omega (arith, shared-slice-known2 .given i))) (start .args .i) (start .pre .1) (take .ensures .isTake) (taken .given .1) (view-of .ensures) (atom .given .1) (comparison-of .ensures) (steady-after .ensures .2))
 
 pub next-passes-spec : {M : Type 1} → statement M
 next-passes-spec =
