@@ -12,21 +12,20 @@ use mathlib.Core.Logic.{by-cases}
 use lib.IntN.{ℤ}
 use lib.ListN.{length}
 use Rattle.fields.specs.inner.Ranges.{Bytes}
-use Rattle.cltlb.specs.Fits.{viewFits}
 use Rattle.cltlb.specs.Views.{viewOf}
 use Rattle.cltlb.specs.declared.Part.{Part}
 use Rattle.cltlb.specs.declared.View.{View}
 use Rattle.refusal.specs.Lowest.{lowest}
 use Rattle.refusal.specs.declared.Refusal.the-variants.{NoLayout}
 use Rattle.refusal.proofs.Lowest.{lowest-some}
-use Rattle.rule.specs.Layout.{partCount, channelCount}
+use Rattle.rule.specs.Layout.{channelCount}
 use Rattle.rule.specs.Take.{takeOf, viewsOf}
 use Rattle.rule.specs.declared.Taken.{Taken}
 use Rattle.rule.specs.declared.Taken.the-variants as K
 use Rattle.plan.specs.Layout.{channels, startRows, cycleRows, rows}
 use Rattle.plan.specs.Run.{runOf}
 use Rattle.plan.specs.declared.sizes.Sizes.{Sizes}
-use Rattle.plan.specs.inner.Sizes.{allRows, Fitting}
+use Rattle.plan.specs.inner.Sizes.{Fitting}
 use Rattle.plan.proofs.Fits.{rows-are}
 use Rattle.inputs.specs.inner.Read.{Ready}
 use Rattle.inputs.proofs.Parts.{few-there, all-fit, taken-same}
@@ -96,12 +95,13 @@ module _ (rule plan : List ℕ) {n : ℕ} {z : Sizes} (ready : Ready rule plan n
   pub more-room : {k more : ℕ} → k < more → canBeLaid plan more ≡ true → {y : Sizes} → y ≡ laidSizes z k
       → (1 ≤ y .cycle) × (y .start + y .cycle + (more - k) * y .cycle ≤ mostRows)
   more-room {k} {more} l can e =
-      subst⁻¹ (λ (q : Sizes). (1 ≤ q .cycle) × (q .start + q .cycle + (more - k) * q .cycle ≤ mostRows)) e
-      (ready .fits .a-cycle,
-      (let few = laid more can .few-rows in
-      let split : k + (more - k) ≡ more = omega arith in
-      let whole : (k + (more - k)) * z .cycle ≡ more * z .cycle = ap (λ (m : ℕ). m * z .cycle) split in
-      omega arith))
+      subst⁻¹ (λ (q : Sizes). (1 ≤ q .cycle) × (q .start + q .cycle + (more - k) * q .cycle ≤ mostRows)) e (
+        ready .fits .a-cycle,
+        (let few = laid more can .few-rows in
+            let split : k + (more - k) ≡ more = omega arith in
+            let whole : (k + (more - k)) * z .cycle ≡ more * z .cycle = ap (λ (m : ℕ). m * z .cycle) split in
+            omega arith),
+      )
 
   -- ---- before the first turn
 

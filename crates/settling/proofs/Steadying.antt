@@ -1,5 +1,5 @@
--- The passes that are passed over: on none of them does a comparison that changes close, and it is the one that the rule has.
--- Assumes nothing.
+-- The passes that are passed over: what changes on a layout changes on those of fewer passes, and does not close there. Assumes
+-- nothing.
 use Prim.Native.Nat.{ℕ, _+_, _*_, _-_, _/_, _≤_, _<_, min}
 use native.Mathlib.Nat.{mul-le-mul-right, le-mul-of-pos-right, div-add-mod'}
 use native.Mathlib.Omega.{arith}
@@ -138,7 +138,7 @@ module _ (plan : List ℕ) (z : Sizes) (x : Comparison) (passes : ℕ) where
             over = λ m q r. unsteady-before plan fit x terms m (low + ahead) (omega arith) (sym e ∙ h);
           }
 
--- ---- the part
+-- ---- the part of the rule that it is
 
 module _ (rule plan : List ℕ) {n : ℕ} {z : Sizes} (ready : Ready rule plan n z) (bytes : Bytes plan) (i : ℕ) (l : i < n)
     {t : Taken} (e : t ≡ takeOf rule i) {part : Part} (f : t ≡ K.Part part) {p : View} (g : p ≡ viewOf part) {a : Atom} (h : p ≡ view.Atom a) where

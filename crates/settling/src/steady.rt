@@ -1,4 +1,4 @@
-// Where a part does not close: the passes on which it can't, or the plan can't be written, are passed over without marks.
+// The passes to try next where a part does not close. Those on which a comparison changes are passed over, without marks.
 ghost use Prim.Native.Nat.{_+_, _≤_, _<_};
 ghost use Rattle.plan.specs.inner.Sizes.{Fitting};
 ghost use Rattle.verdict.specs.inner.Reach.{TermsFit};
@@ -6,14 +6,12 @@ ghost use Rattle.inputs.specs.inner.Read.{Ready};
 ghost use Rattle.settling.specs.inner.Scratch.{mostRows, Unsteady, NoneSettles};
 use crate::comparisons::steady;
 use cltlb::View;
+use laid_out::fits::MOST_ROWS;
 use plan::sizes::Sizes;
 use rule::Taken;
 use verdict::Comparison;
 use verdict::bounds::smaller;
 use verdict::rows::comparison_of;
-
-// The most rows of a plan but for its lead-in.
-const MOST_ROWS: usize = 256;
 
 // The fewest passes, from `passes` on, from which on a comparison does not change, or the fewest that take too many rows. What does
 // not change stays so: the steps ahead double, and then the number is enclosed.

@@ -5,7 +5,7 @@ use Rattle.fields.proofs.ByteParts.{as-bytes}
 use Rattle.plan.specs.declared.sizes.Sizes.{Sizes}
 use Rattle.verdict.proofs.Values.{atom-fit}
 use Rattle.settling.proofs.Trying.{laid-rows, laid-room, atom-open, atom-closed}
-use Rattle.laid_out.proofs.NextPass.{few-passes}
+use Rattle.laid_out.proofs.LastCycle.{few-passes}
 use borrow.Author.Needs.{needs}
 use Rattle.settling.proofs.parts.try_atom.Statement.{statement}
 use Rattle.settling.proofs.parts.try_atom.Tie as tie

@@ -1,15 +1,14 @@
 -- Whether passes can be laid out: a reading is a straight line in the pass, so that the rows that come last decide. Assumes nothing.
-use Prim.Native.Nat.{ℕ, _+_, _*_, _-_, _^_, _≤_, _<_, suc}
-use native.Mathlib.Nat.{mul-le-mul, mul-le-mul-left, mul-le-mul-right}
+use Prim.Native.Nat.{ℕ, _+_, _*_, _-_, _≤_, _<_}
+use native.Mathlib.Nat.{mul-le-mul, mul-le-mul-right}
 use native.Mathlib.Decide.{decLt}
 use native.Mathlib.Omega.{arith}
 use mathlib.Core.Path.{_≡_, refl, sym, ap, ap₂, _∙_, subst, subst⁻¹}
 use mathlib.Core.Bool.{Bool, true, false, not, _&&_, true≢false}
 use mathlib.Core.List.{List}
 use mathlib.Core.Logic.{_↔_, by-cases}
-use lib.Dec.{leb}
 use lib.IntN.{ℤ, pos, subℕ, _+ℤ_, _*ℤ_}
-use borrow.Author.Tests.{lt-leb, not-true, not-false}
+use borrow.Author.Tests.{lt-leb, not-false}
 use Rattle.fields.specs.TwosComplement.{signedFits}
 use Rattle.fields.specs.inner.Ranges.{Bytes, SignedFits}
 use Rattle.fields.proofs.Differences.{by-sub, sub-pos, sub-neg, sub-line}
@@ -25,7 +24,7 @@ use Rattle.plan.proofs.Lines.{reading-on-pass-0}
 use Rattle.plan.proofs.Drifts.{one-here, none-below, none-each}
 use Rattle.plan.proofs.PlanBytes.{reading-fits}
 use Rattle.laid_out.specs.LaidOut.{startAfter, rowsAfter, tooLarge, canBeLaid}
-use Rattle.laid_out.specs.inner.NextPass.{numberTooLarge, rowTooLarge, cycleTooLarge}
+use Rattle.laid_out.specs.inner.LastCycle.{numberTooLarge, rowTooLarge, cycleTooLarge}
 use Rattle.laid_out.proofs.CanBeLaid.{passes-few, can-be, laid-fits}
 
 -- ---- a straight line between two numbers of 32 bits
