@@ -55,7 +55,7 @@ changes-before Changes Changes F n m p e = refl
 changes-before v AlwaysTrue F n m p e = absurd (false≢true e)
 changes-before v AlwaysFalse F n m p e = absurd (false≢true e)
 
-none-is : (o : Option ℕ) → isNone o ≡ true → o ≡ none
+pub none-is : (o : Option ℕ) → isNone o ≡ true → o ≡ none
 none-is none e = refl
 none-is (some k) e = absurd (false≢true e)
 
@@ -63,7 +63,7 @@ module _ (plan : List ℕ) {z : Sizes} (fit : Fitting plan z) (x : Comparison) (
   abbrev changes : ℕ → Bool
   changes t = isChanges (judgeCycle plan x 4 t)
 
-  means : (t : ℕ) → z .start ≤ t → PassMeans (judgeCycle plan x 4 t) (λ k. ComparedAt plan x (t + k * cycleRows plan))
+  pub means : (t : ℕ) → z .start ≤ t → PassMeans (judgeCycle plan x 4 t) (λ k. ComparedAt plan x (t + k * cycleRows plan))
   means t h = cycle-means plan x (own-cycle fit) t 4 (inside-4 plan x (z .channels) t (terms .0) (terms .1) (own-cycle fit) (omega (arith, fit .p-is)))
 
   earlier : (t n s : ℕ) → z .start ≤ t → s ≡ t + n * cycleRows plan → changes s ≡ true → changes t ≡ true

@@ -11,7 +11,7 @@ use table::fills::fill_copied;
 use verdict::bounds::smaller;
 
 // The marks of a cycle, which are at `from`, so many times more behind them. All that is there is copied at once.
-fn repeat(scratch: &mut [u8], from: usize, cycle: usize, times: usize)
+pub fn repeat(scratch: &mut [u8], from: usize, cycle: usize, times: usize)
     requires { ⌜ (1 ≤ cycle) × (from + (cycle + times * cycle) ≤ length (now scratch)) × (length (now scratch) ≤ mostBytes) ⌝ }
     ensures { λ _. ⌜ Stored (now (scratch .entry)) (now (scratch .exit)) from cycle (cycle + times * cycle) (λ k. byteOf (markIn (now (scratch .entry)) (from + k % cycle))) ⌝ }
 {

@@ -9,7 +9,7 @@ ghost use Rattle.plan.specs.inner.Sizes.{Fitting};
 ghost use Rattle.inputs.specs.inner.Read.{Ready};
 ghost use Rattle.laid_out.specs.LaidOut.{laidOut, canBeLaid};
 ghost use Rattle.settling.specs.inner.Scratch.{mostParts, Room, Tried, MadeTo, closesOn};
-use crate::comparisons::put_truths;
+use crate::comparisons::put_marks;
 use crate::comparisons::steady;
 use cltlb::Atom;
 use cltlb::View;
@@ -40,7 +40,15 @@ fn try_atom(
         return false;
     }
     let own = place(256, i, 0);
-    put_truths(scratch, plan, sizes, comparison, own, start + laid.cycle);
+    put_marks(
+        scratch,
+        plan,
+        sizes,
+        comparison,
+        own,
+        passes,
+        start + laid.cycle,
+    );
     true
 }
 

@@ -12,7 +12,7 @@ use Rattle.settling.proofs.parts.try_atom.Tie as tie
 use Rattle.settling.proofs.parts.try_atom.Reads as reads
 use Rattle.settling.proofs.parts.try_atom.Lts as lts
 use Rattle.laid_out.proofs.numbers.laid_sizes.Reads as laid-sizes-reads
-use Rattle.settling.proofs.comparisons.put_truths.Reads as put-truths-reads
+use Rattle.settling.proofs.comparisons.put_marks.Reads as put-marks-reads
 use Rattle.settling.proofs.comparisons.steady.Reads as steady-reads
 use Rattle.table.proofs.bytes.place.Reads as place-reads
 use Rattle.verdict.proofs.rows.comparison_of.Reads as comparison-of-reads
@@ -38,12 +38,12 @@ place-requires : tie.Need-place-requires
 place-requires c κs = search needs
 
 -- src/parts.rt:43:55
-add-put-truths : tie.Need-add-put-truths
-add-put-truths c = omega (arith, ap (λ (q : Sizes). q .start) (c .before .before .before .before .before .laid-sizes .ensures), ap (λ (q : Sizes). q .cycle) (c .before .before .before .before .before .laid-sizes .ensures), laid-rows (now (c .before .before .before .before .before .before .before .before .before .args .plan)) (c .before .before .before .before .before .before .before .before .before .pre .0) (c .before .before .before .before .before .before .before .before .before .args .passes) (c .before .before .before .before .before .before .before .before .before .pre .1) .0)
+add-put-marks : tie.Need-add-put-marks
+add-put-marks c = omega (arith, ap (λ (q : Sizes). q .start) (c .before .before .before .before .before .laid-sizes .ensures), ap (λ (q : Sizes). q .cycle) (c .before .before .before .before .before .laid-sizes .ensures), laid-rows (now (c .before .before .before .before .before .before .before .before .before .args .plan)) (c .before .before .before .before .before .before .before .before .before .pre .0) (c .before .before .before .before .before .before .before .before .before .args .passes) (c .before .before .before .before .before .before .before .before .before .pre .1) .0)
 
 -- src/parts.rt:43:5
-put-truths-requires : tie.Need-put-truths-requires
-put-truths-requires c κs = (c .before .before .before .before .before .before .before .before .before .pre .0, atom-fit (c .before .before .before .before .before .before .before .before .before .args .sizes) _ (c .before .before .before .before .before .before .before .before .before .pre .4) (c .before .before .before .before .before .before .comparison-of .ensures), omega (arith, ap (λ (q : Sizes). q .start) (c .before .before .before .before .before .laid-sizes .ensures), ap (λ (q : Sizes). q .cycle) (c .before .before .before .before .before .laid-sizes .ensures), laid-rows (now (c .before .before .before .before .before .before .before .before .before .args .plan)) (c .before .before .before .before .before .before .before .before .before .pre .0) (c .before .before .before .before .before .before .before .before .before .args .passes) (c .before .before .before .before .before .before .before .before .before .pre .1) .0), omega (arith, ap (λ (q : Sizes). q .start) (c .before .before .before .before .before .laid-sizes .ensures), ap (λ (q : Sizes). q .cycle) (c .before .before .before .before .before .laid-sizes .ensures), laid-room (now (c .before .before .before .before .before .before .before .before .before .args .plan)) (c .before .before .before .before .before .before .before .before .before .pre .0) (c .before .before .before .before .before .before .before .before .before .args .passes) (c .before .before .before .before .before .before .before .before .before .pre .1) (c .before .before .before .before .before .before .before .before .before .pre .2) (c .before .before .before .before .before .before .before .before .before .args .i) (c .before .before .before .before .before .before .before .before .before .pre .3) (c .before .before .place .ensures) .0), laid-room (now (c .before .before .before .before .before .before .before .before .before .args .plan)) (c .before .before .before .before .before .before .before .before .before .pre .0) (c .before .before .before .before .before .before .before .before .before .args .passes) (c .before .before .before .before .before .before .before .before .before .pre .1) (c .before .before .before .before .before .before .before .before .before .pre .2) (c .before .before .before .before .before .before .before .before .before .args .i) (c .before .before .before .before .before .before .before .before .before .pre .3) (c .before .before .place .ensures) .1)
+put-marks-requires : tie.Need-put-marks-requires
+put-marks-requires c κs = (c .before .before .before .before .before .before .before .before .before .pre .0, atom-fit (c .before .before .before .before .before .before .before .before .before .args .sizes) _ (c .before .before .before .before .before .before .before .before .before .pre .4) (c .before .before .before .before .before .before .comparison-of .ensures), omega (arith, ap (λ (q : Sizes). q .start) (c .before .before .before .before .before .laid-sizes .ensures), ap (λ (q : Sizes). q .cycle) (c .before .before .before .before .before .laid-sizes .ensures), laid-rows (now (c .before .before .before .before .before .before .before .before .before .args .plan)) (c .before .before .before .before .before .before .before .before .before .pre .0) (c .before .before .before .before .before .before .before .before .before .args .passes) (c .before .before .before .before .before .before .before .before .before .pre .1) .0), omega (arith, ap (λ (q : Sizes). q .start) (c .before .before .before .before .before .laid-sizes .ensures), ap (λ (q : Sizes). q .cycle) (c .before .before .before .before .before .laid-sizes .ensures), laid-room (now (c .before .before .before .before .before .before .before .before .before .args .plan)) (c .before .before .before .before .before .before .before .before .before .pre .0) (c .before .before .before .before .before .before .before .before .before .args .passes) (c .before .before .before .before .before .before .before .before .before .pre .1) (c .before .before .before .before .before .before .before .before .before .pre .2) (c .before .before .before .before .before .before .before .before .before .args .i) (c .before .before .before .before .before .before .before .before .before .pre .3) (c .before .before .place .ensures) .0), laid-room (now (c .before .before .before .before .before .before .before .before .before .args .plan)) (c .before .before .before .before .before .before .before .before .before .pre .0) (c .before .before .before .before .before .before .before .before .before .args .passes) (c .before .before .before .before .before .before .before .before .before .pre .1) (c .before .before .before .before .before .before .before .before .before .pre .2) (c .before .before .before .before .before .before .before .before .before .args .i) (c .before .before .before .before .before .before .before .before .before .pre .3) (c .before .before .place .ensures) .1, omega (arith, ap (λ (q : Sizes). q .start) (c .before .before .before .before .before .laid-sizes .ensures), ap (λ (q : Sizes). q .cycle) (c .before .before .before .before .before .laid-sizes .ensures)))
 
 -- src/parts.rt:25:1
 same-length : tie.Need-same-length
@@ -51,7 +51,7 @@ same-length c = search needs
 
 -- src/parts.rt:25:1
 returns-2 : tie.Need-returns-2
-returns-2 c = atom-closed (now (c .before .before .before .before .before .before .before .before .before .before .before .before .args .plan)) (c .before .before .before .before .before .before .before .before .before .before .before .before .pre .0) (c .before .before .before .before .before .before .before .before .before .before .before .before .args .passes) (c .before .before .before .before .before .before .before .before .before .before .before .before .pre .1) (as-bytes (now (c .before .before .before .before .before .before .before .before .before .before .before .before .args .plan)) (λ i. omega (arith, c .before .before .before .before .before .before .before .before .before .before .before .shared-slice-known .given i))) (c .before .before .before .before .before .before .before .before .before .before .before .before .args .atom) (c .before .before .before .before .before .before .before .before .before .before .before .before .pre .4) (c .before .before .before .before .before .before .before .before .before .comparison-of .ensures) (ap (λ (q : Sizes). q .start) (c .before .before .before .before .before .before .before .before .laid-sizes .ensures)) (ap (λ (q : Sizes). q .cycle) (c .before .before .before .before .before .before .before .before .laid-sizes .ensures)) (c .before .before .before .before .before .before .before .steady .ensures) (c .before .before .before .before .before .before .before .before .before .before .before .before .args .i) (c .before .before .before .before .before .before .if1 .left) (c .before .before .before .before .before .place .ensures) (c .before .before .put-truths .ensures)
+returns-2 c = atom-closed (now (c .before .before .before .before .before .before .before .before .before .before .before .before .args .plan)) (c .before .before .before .before .before .before .before .before .before .before .before .before .pre .0) (c .before .before .before .before .before .before .before .before .before .before .before .before .args .passes) (c .before .before .before .before .before .before .before .before .before .before .before .before .pre .1) (as-bytes (now (c .before .before .before .before .before .before .before .before .before .before .before .before .args .plan)) (λ i. omega (arith, c .before .before .before .before .before .before .before .before .before .before .before .shared-slice-known .given i))) (c .before .before .before .before .before .before .before .before .before .before .before .before .args .atom) (c .before .before .before .before .before .before .before .before .before .before .before .before .pre .4) (c .before .before .before .before .before .before .before .before .before .comparison-of .ensures) (ap (λ (q : Sizes). q .start) (c .before .before .before .before .before .before .before .before .laid-sizes .ensures)) (ap (λ (q : Sizes). q .cycle) (c .before .before .before .before .before .before .before .before .laid-sizes .ensures)) (c .before .before .before .before .before .before .before .steady .ensures) (c .before .before .before .before .before .before .before .before .before .before .before .before .args .i) (c .before .before .before .before .before .before .if1 .left) (c .before .before .before .before .before .place .ensures) (c .before .before .put-marks .ensures)
 
 pub try-atom-spec : {M : Type 1} → statement M
 try-atom-spec =
@@ -62,7 +62,7 @@ try-atom-spec =
     steady-requires
     returns
     place-requires
-    add-put-truths
-    put-truths-requires
+    add-put-marks
+    put-marks-requires
     same-length
     returns-2)

@@ -1,10 +1,8 @@
 use borrow.Author.Needs.{needs}
 use native.Mathlib.Omega.{arith}
-use mathlib.Core.Path.{ap, sym, _∙_}
 use denote.Ref.{now}
 use Rattle.fields.proofs.ByteParts.{as-bytes}
 use Prim.Native.Nat.{_+_, _-_}
-use Rattle.plan.specs.declared.sizes.Sizes.{Sizes}
 use Rattle.settling.proofs.Searching.{Searching, few-passes, few-parts, more-room, searching-first, part-closes, no-more, more-laid, all-close}
 use Rattle.settling.proofs.Searching.{not-false}
 use Rattle.settling.proofs.search.fewest_passes.Statement.{statement}
