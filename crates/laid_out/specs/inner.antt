@@ -1,5 +1,5 @@
 -- What only the contracts of inner functions cite: no promise of an entry point leans on it.
 pub mod LaidSizes
-pub mod NextPass
+pub mod LastCycle
 pub mod Fronted
 pub mod LaidNumbers

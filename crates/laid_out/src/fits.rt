@@ -6,14 +6,14 @@ ghost use Rattle.fields.specs.TwosComplement.{signedFits};
 ghost use Rattle.plan.specs.inner.Lifted.{passes, lowered};
 ghost use Rattle.plan.specs.inner.Sizes.{allRows, Fitting};
 ghost use Rattle.laid_out.specs.LaidOut.{canBeLaid};
-ghost use Rattle.laid_out.specs.inner.NextPass.{rowTooLarge, cycleTooLarge};
+ghost use Rattle.laid_out.specs.inner.LastCycle.{rowTooLarge, cycleTooLarge};
 use fields::BIAS;
 use plan::lookup::LAST_PASS;
 use plan::lookup::number_at;
 use plan::sizes::Sizes;
 
 // The most rows of a plan but for its lead-in.
-const MOST_ROWS: usize = 256;
+pub const MOST_ROWS: usize = 256;
 
 // The numbers of 32 bits, lifted as values are: the least of them, and the end of them.
 const LEAST: u64 = LAST_PASS * BIAS;

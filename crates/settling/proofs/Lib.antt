@@ -12,3 +12,4 @@ pub mod Trying
 pub mod Making
 pub mod Searching
 pub mod Steadying
+pub mod Repeats

@@ -1,5 +1,5 @@
--- The passes that are passed over: on none of them does a comparison that changes close, and it is the one that the rule has.
--- Assumes nothing.
+-- The passes that are passed over: what changes on a layout changes on those of fewer passes, and does not close there. Assumes
+-- nothing.
 use Prim.Native.Nat.{ℕ, _+_, _*_, _-_, _/_, _≤_, _<_, min}
 use native.Mathlib.Nat.{mul-le-mul-right, le-mul-of-pos-right, div-add-mod'}
 use native.Mathlib.Omega.{arith}
@@ -55,7 +55,7 @@ changes-before Changes Changes F n m p e = refl
 changes-before v AlwaysTrue F n m p e = absurd (false≢true e)
 changes-before v AlwaysFalse F n m p e = absurd (false≢true e)
 
-none-is : (o : Option ℕ) → isNone o ≡ true → o ≡ none
+pub none-is : (o : Option ℕ) → isNone o ≡ true → o ≡ none
 none-is none e = refl
 none-is (some k) e = absurd (false≢true e)
 
@@ -63,7 +63,7 @@ module _ (plan : List ℕ) {z : Sizes} (fit : Fitting plan z) (x : Comparison) (
   abbrev changes : ℕ → Bool
   changes t = isChanges (judgeCycle plan x 4 t)
 
-  means : (t : ℕ) → z .start ≤ t → PassMeans (judgeCycle plan x 4 t) (λ k. ComparedAt plan x (t + k * cycleRows plan))
+  pub means : (t : ℕ) → z .start ≤ t → PassMeans (judgeCycle plan x 4 t) (λ k. ComparedAt plan x (t + k * cycleRows plan))
   means t h = cycle-means plan x (own-cycle fit) t 4 (inside-4 plan x (z .channels) t (terms .0) (terms .1) (own-cycle fit) (omega (arith, fit .p-is)))
 
   earlier : (t n s : ℕ) → z .start ≤ t → s ≡ t + n * cycleRows plan → changes s ≡ true → changes t ≡ true
@@ -138,7 +138,7 @@ module _ (plan : List ℕ) (z : Sizes) (x : Comparison) (passes : ℕ) where
             over = λ m q r. unsteady-before plan fit x terms m (low + ahead) (omega arith) (sym e ∙ h);
           }
 
--- ---- the part
+-- ---- the part of the rule that it is
 
 module _ (rule plan : List ℕ) {n : ℕ} {z : Sizes} (ready : Ready rule plan n z) (bytes : Bytes plan) (i : ℕ) (l : i < n)
     {t : Taken} (e : t ≡ takeOf rule i) {part : Part} (f : t ≡ K.Part part) {p : View} (g : p ≡ viewOf part) {a : Atom} (h : p ≡ view.Atom a) where

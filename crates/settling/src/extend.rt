@@ -5,14 +5,14 @@ ghost use Rattle.table.specs.Bytes.{byteOf};
 ghost use Rattle.table.specs.inner.Stored.{Stored};
 ghost use Rattle.table.specs.inner.Tables.{markIn, mostBytes};
 ghost use Rattle.settling.specs.inner.Scratch.{mostParts, mostRows, Room, Extended};
-use crate::MOST_ROWS;
+use laid_out::fits::MOST_ROWS;
 use plan::sizes::Sizes;
 use table::bytes::place;
 use table::fills::fill_copied;
 use verdict::bounds::smaller;
 
 // The marks of a cycle, which are at `from`, so many times more behind them. All that is there is copied at once.
-fn repeat(scratch: &mut [u8], from: usize, cycle: usize, times: usize)
+pub fn repeat(scratch: &mut [u8], from: usize, cycle: usize, times: usize)
     requires { ⌜ (1 ≤ cycle) × (from + (cycle + times * cycle) ≤ length (now scratch)) × (length (now scratch) ≤ mostBytes) ⌝ }
     ensures { λ _. ⌜ Stored (now (scratch .entry)) (now (scratch .exit)) from cycle (cycle + times * cycle) (λ k. byteOf (markIn (now (scratch .entry)) (from + k % cycle))) ⌝ }
 {

@@ -17,10 +17,8 @@ use plan::sizes::Sizes;
 use refusal::Refusal;
 use table::fills::clear;
 
-// The parts and the rows that the scratch has room for, as many as there can be, and its bytes.
+// The parts that the scratch has room for, as many as there can be, and its bytes.
 pub const MOST_PARTS: usize = 64;
-
-pub const MOST_ROWS: usize = 256;
 
 pub const SCRATCH_LENGTH: usize = 16516;
 

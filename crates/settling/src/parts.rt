@@ -10,12 +10,12 @@ ghost use Rattle.inputs.specs.inner.Read.{Ready};
 ghost use Rattle.laid_out.specs.LaidOut.{laidOut, canBeLaid};
 ghost use Rattle.settling.specs.inner.Scratch.{mostParts, Room, Tried, MadeTo, closesOn};
 use crate::MOST_PARTS;
-use crate::MOST_ROWS;
-use crate::comparisons::put_truths;
+use crate::comparisons::put_marks;
 use crate::comparisons::steady;
 use cltlb::Atom;
 use cltlb::View;
 use labelling::operators::label_operator;
+use laid_out::fits::MOST_ROWS;
 use laid_out::numbers::laid_sizes;
 use marks::equations::wraps_round;
 use plan::sizes::Sizes;
@@ -42,7 +42,15 @@ fn try_atom(
         return false;
     }
     let own = place(MOST_ROWS, i, 0);
-    put_truths(scratch, plan, sizes, comparison, own, start + laid.cycle);
+    put_marks(
+        scratch,
+        plan,
+        sizes,
+        comparison,
+        own,
+        passes,
+        start + laid.cycle,
+    );
     true
 }
 

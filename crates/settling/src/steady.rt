@@ -1,12 +1,12 @@
-// Where a part does not close: the passes on which it can't, or the plan can't be written, are passed over without marks.
+// The passes to try next where a part does not close. Those on which a comparison changes are passed over, without marks.
 ghost use Prim.Native.Nat.{_+_, _≤_, _<_};
 ghost use Rattle.plan.specs.inner.Sizes.{Fitting};
 ghost use Rattle.verdict.specs.inner.Reach.{TermsFit};
 ghost use Rattle.inputs.specs.inner.Read.{Ready};
 ghost use Rattle.settling.specs.inner.Scratch.{mostRows, Unsteady, NoneSettles};
-use crate::MOST_ROWS;
 use crate::comparisons::steady;
 use cltlb::View;
+use laid_out::fits::MOST_ROWS;
 use plan::sizes::Sizes;
 use rule::Taken;
 use verdict::Comparison;

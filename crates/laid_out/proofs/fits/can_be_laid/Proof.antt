@@ -1,7 +1,8 @@
+-- `laid_out::fits::can_be_laid` meets its contract. Assumes nothing.
 use native.Mathlib.Omega.{arith}
 use denote.Ref.{now}
 use Rattle.fields.proofs.ByteParts.{as-bytes}
-use Rattle.laid_out.proofs.NextPass.{few-more, too-many, cycle-decides}
+use Rattle.laid_out.proofs.LastCycle.{few-more, too-many, cycle-decides}
 use borrow.Author.Needs.{needs}
 use Rattle.laid_out.proofs.fits.can_be_laid.Statement.{statement}
 use Rattle.laid_out.proofs.fits.can_be_laid.Tie as tie
@@ -9,29 +10,23 @@ use Rattle.laid_out.proofs.fits.can_be_laid.Reads as reads
 use Rattle.laid_out.proofs.fits.can_be_laid.Lts as lts
 use Rattle.laid_out.proofs.fits.cycle_too_large.Reads as cycle-too-large-reads
 
--- src/fits.rt:68:35
 add-if1 : tie.Need-add-if1
 add-if1 c = search needs
 
--- src/fits.rt:68:34
 mul-if1 : tie.Need-mul-if1
 mul-if1 c = omega (arith, few-more (c .before .before .pre .0) (c .before .before .args .n) (c .before .before .pre .1))
 
--- src/fits.rt:68:20
 add-if1-2 : tie.Need-add-if1-2
 add-if1-2 c =
     let start = c .before .before .before in
     omega (arith, few-more (start .pre .0) (start .args .n) (start .pre .1), start .pre .0 .few-rows)
 
--- src/fits.rt:69:9
 returns : tie.Need-returns
 returns c = too-many (c .before .before .before .before .pre .0) (c .before .before .before .before .args .n) (c .if1 .taken)
 
--- src/fits.rt:71:6
 cycle-too-large-requires : tie.Need-cycle-too-large-requires
 cycle-too-large-requires c κs = search needs
 
--- src/fits.rt:64:1
 returns-2 : tie.Need-returns-2
 returns-2 c =
     let start = c .before .before .before .before .before in

@@ -5,8 +5,8 @@ use mathlib.Core.Path.{_≡_, sym, _∙_}
 use mathlib.Core.Bool.{false}
 use Rattle.plan.specs.Refusals.{anyBelow}
 use Rattle.plan.proofs.Drifts.{none-below, none-more}
-use Rattle.laid_out.specs.inner.NextPass.{rowTooLarge}
-use Rattle.laid_out.proofs.NextPass.{row-large, cycle-fits}
+use Rattle.laid_out.specs.inner.LastCycle.{rowTooLarge}
+use Rattle.laid_out.proofs.LastCycle.{row-large, cycle-fits}
 use borrow.Author.Needs.{needs}
 use Rattle.laid_out.proofs.fits.cycle_too_large.Statement.{statement}
 use Rattle.laid_out.proofs.fits.cycle_too_large.Tie as tie

@@ -5,8 +5,8 @@ use mathlib.Core.Path.{_≡_}
 use mathlib.Core.Bool.{false}
 use Rattle.plan.specs.Refusals.{anyBelow}
 use Rattle.plan.proofs.Drifts.{none-below, none-more}
-use Rattle.laid_out.specs.inner.NextPass.{numberTooLarge}
-use Rattle.laid_out.proofs.NextPass.{number-fits, number-large, row-fits}
+use Rattle.laid_out.specs.inner.LastCycle.{numberTooLarge}
+use Rattle.laid_out.proofs.LastCycle.{number-fits, number-large, row-fits}
 use borrow.Author.Needs.{needs}
 use Rattle.laid_out.proofs.fits.row_too_large.Statement.{statement}
 use Rattle.laid_out.proofs.fits.row_too_large.Tie as tie

@@ -1,7 +1,7 @@
 -- `laid_out::writing::put_layout` meets its contract. Assumes nothing.
 use native.Mathlib.Omega.{arith}
 use denote.Ref.{now}
-use Rattle.laid_out.proofs.NextPass.{few-passes}
+use Rattle.laid_out.proofs.LastCycle.{few-passes}
 use Rattle.laid_out.proofs.LaidBytes.{laid-small, stored-is, array-few, readings-behind, drifts-behind}
 use borrow.Author.Needs.{needs}
 use Rattle.laid_out.proofs.writing.put_layout.Statement.{statement}

@@ -6,7 +6,7 @@ use native.Mathlib.Omega.{arith}
 use denote.Ref.{now}
 use Rattle.fields.proofs.ByteParts.{as-bytes}
 use Rattle.laid_out.specs.inner.LaidNumbers.{laidNumber}
-use Rattle.laid_out.proofs.NextPass.{few-passes}
+use Rattle.laid_out.proofs.LastCycle.{few-passes}
 use Rattle.laid_out.proofs.LaidNumbers.{few-laid-rows, number-fits}
 use Rattle.laid_out.proofs.writing.put_row.Statement.{statement}
 use Rattle.laid_out.proofs.writing.put_row.Tie as tie

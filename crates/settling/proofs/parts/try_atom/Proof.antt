@@ -5,14 +5,14 @@ use Rattle.fields.proofs.ByteParts.{as-bytes}
 use Rattle.plan.specs.declared.sizes.Sizes.{Sizes}
 use Rattle.verdict.proofs.Values.{atom-fit}
 use Rattle.settling.proofs.Trying.{laid-rows, laid-room, atom-open, atom-closed}
-use Rattle.laid_out.proofs.NextPass.{few-passes}
+use Rattle.laid_out.proofs.LastCycle.{few-passes}
 use borrow.Author.Needs.{needs}
 use Rattle.settling.proofs.parts.try_atom.Statement.{statement}
 use Rattle.settling.proofs.parts.try_atom.Tie as tie
 use Rattle.settling.proofs.parts.try_atom.Reads as reads
 use Rattle.settling.proofs.parts.try_atom.Lts as lts
 use Rattle.laid_out.proofs.numbers.laid_sizes.Reads as laid-sizes-reads
-use Rattle.settling.proofs.comparisons.put_truths.Reads as put-truths-reads
+use Rattle.settling.proofs.comparisons.put_marks.Reads as put-marks-reads
 use Rattle.settling.proofs.comparisons.steady.Reads as steady-reads
 use Rattle.table.proofs.bytes.place.Reads as place-reads
 use Rattle.verdict.proofs.rows.comparison_of.Reads as comparison-of-reads
@@ -51,20 +51,20 @@ place-requires : tie.Need-place-requires
 place-requires c κs = search needs
 
 -- src/parts.rt:43:55
-add-put-truths : tie.Need-add-put-truths
-add-put-truths c =
+add-put-marks : tie.Need-add-put-marks
+add-put-marks c =
     let start = c .before .before .before .before .before .before .before .before .before in
     let laid-sizes = c .before .before .before .before .before .laid-sizes in
     omega (arith, ap (λ (q : Sizes). q .start) (laid-sizes .ensures), ap (λ (q : Sizes). q .cycle) (laid-sizes .ensures), laid-rows (now (start .args .plan)) (start .pre .0) (start .args .passes) (start .pre .1) .0)
 
 -- src/parts.rt:43:5
-put-truths-requires : tie.Need-put-truths-requires
-put-truths-requires c κs =
+put-marks-requires : tie.Need-put-marks-requires
+put-marks-requires c κs =
     let start = c .before .before .before .before .before .before .before .before .before in
     let comparison-of = c .before .before .before .before .before .before .comparison-of in
     let laid-sizes = c .before .before .before .before .before .laid-sizes in
     let place = c .before .before .place in
-    (start .pre .0, atom-fit (start .args .sizes) _ (start .pre .4) (comparison-of .ensures), omega (arith, ap (λ (q : Sizes). q .start) (laid-sizes .ensures), ap (λ (q : Sizes). q .cycle) (laid-sizes .ensures), laid-rows (now (start .args .plan)) (start .pre .0) (start .args .passes) (start .pre .1) .0), omega (arith, ap (λ (q : Sizes). q .start) (laid-sizes .ensures), ap (λ (q : Sizes). q .cycle) (laid-sizes .ensures), laid-room (now (start .args .plan)) (start .pre .0) (start .args .passes) (start .pre .1) (start .pre .2) (start .args .i) (start .pre .3) (place .ensures) .0), laid-room (now (start .args .plan)) (start .pre .0) (start .args .passes) (start .pre .1) (start .pre .2) (start .args .i) (start .pre .3) (place .ensures) .1)
+    (start .pre .0, atom-fit (start .args .sizes) _ (start .pre .4) (comparison-of .ensures), omega (arith, ap (λ (q : Sizes). q .start) (laid-sizes .ensures), ap (λ (q : Sizes). q .cycle) (laid-sizes .ensures), laid-rows (now (start .args .plan)) (start .pre .0) (start .args .passes) (start .pre .1) .0), omega (arith, ap (λ (q : Sizes). q .start) (laid-sizes .ensures), ap (λ (q : Sizes). q .cycle) (laid-sizes .ensures), laid-room (now (start .args .plan)) (start .pre .0) (start .args .passes) (start .pre .1) (start .pre .2) (start .args .i) (start .pre .3) (place .ensures) .0), laid-room (now (start .args .plan)) (start .pre .0) (start .args .passes) (start .pre .1) (start .pre .2) (start .args .i) (start .pre .3) (place .ensures) .1, omega (arith, ap (λ (q : Sizes). q .start) (laid-sizes .ensures), ap (λ (q : Sizes). q .cycle) (laid-sizes .ensures)))
 
 -- src/parts.rt:25:1
 same-length : tie.Need-same-length
@@ -80,8 +80,8 @@ returns-2 c =
     let steady = c .before .before .before .before .before .before .before .steady in
     let if1 = c .before .before .before .before .before .before .if1 in
     let place = c .before .before .before .before .before .place in
-    let put-truths = c .before .before .put-truths in
-    atom-closed (now (start .args .plan)) (start .pre .0) (start .args .passes) (start .pre .1) (as-bytes (now (start .args .plan)) (λ i. omega (arith, shared-slice-known .given i))) (start .args .atom) (start .pre .4) (comparison-of .ensures) (ap (λ (q : Sizes). q .start) (laid-sizes .ensures)) (ap (λ (q : Sizes). q .cycle) (laid-sizes .ensures)) (steady .ensures) (start .args .i) (if1 .left) (place .ensures) (put-truths .ensures)
+    let put-marks = c .before .before .put-marks in
+    atom-closed (now (start .args .plan)) (start .pre .0) (start .args .passes) (start .pre .1) (as-bytes (now (start .args .plan)) (λ i. omega (arith, shared-slice-known .given i))) (start .args .atom) (start .pre .4) (comparison-of .ensures) (ap (λ (q : Sizes). q .start) (laid-sizes .ensures)) (ap (λ (q : Sizes). q .cycle) (laid-sizes .ensures)) (steady .ensures) (start .args .i) (if1 .left) (place .ensures) (put-marks .ensures)
 
 pub try-atom-spec : {M : Type 1} → statement M
 try-atom-spec =
@@ -92,7 +92,7 @@ try-atom-spec =
     steady-requires
     returns
     place-requires
-    add-put-truths
-    put-truths-requires
+    add-put-marks
+    put-marks-requires
     same-length
     returns-2)

@@ -8,7 +8,7 @@ use Rattle.cltlb.proofs.Fits.{atom-fits, operator-fits, view-more}
 use Rattle.plan.specs.declared.sizes.Sizes.{Sizes}
 use Rattle.table.proofs.Stores.{stored-sized}
 use Rattle.settling.proofs.Trying.{laid-rows, tried-view, operator-tried}
-use Rattle.laid_out.proofs.NextPass.{few-passes}
+use Rattle.laid_out.proofs.LastCycle.{few-passes}
 use borrow.Author.Needs.{needs}
 use Rattle.settling.proofs.parts.try_view.Statement.{statement}
 use Rattle.settling.proofs.parts.try_view.Tie as tie

@@ -24,7 +24,7 @@ use Rattle.plan.proofs.Lines.{reading-on-pass-0}
 use Rattle.plan.proofs.Drifts.{one-here, none-below, none-each}
 use Rattle.plan.proofs.PlanBytes.{reading-fits}
 use Rattle.laid_out.specs.LaidOut.{startAfter, rowsAfter, tooLarge, canBeLaid}
-use Rattle.laid_out.specs.inner.NextPass.{numberTooLarge, rowTooLarge, cycleTooLarge}
+use Rattle.laid_out.specs.inner.LastCycle.{numberTooLarge, rowTooLarge, cycleTooLarge}
 use Rattle.laid_out.proofs.CanBeLaid.{passes-few, can-be, laid-fits}
 
 -- ---- a straight line between two numbers of 32 bits
