@@ -316,7 +316,8 @@ static bool run_late_cases(void)
            "fast C", "plain C");
     right &= run_late_case("i  64 parts, the last one crosses", crossing_late);
     right &= run_late_case("j  64 parts, Y of Y of .., 60 deep", yesterdays_deep);
-    right &= run_late_case("k  20 parts of all kinds, 16 rows", settling_soon);
+    right &= run_late_case("k  64 comparisons, crossing in turn", crossing_in_turn);
+    right &= run_late_case("l  20 parts of all kinds, 16 rows", settling_soon);
     return right;
 }
 

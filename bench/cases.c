@@ -251,6 +251,20 @@ void crossing_late(void)
     write_comparison(&rule, PARTS - 1, LESS, reading(RISING, 0), constant(LIMIT));
 }
 
+/* One cycle row, on which every channel rises. Each comparison crosses its limit about
+   one pass after the one below it. */
+void crossing_in_turn(void)
+{
+    enum { PARTS = 64, START = 4, FIRST = 180 };
+    start_plan(&plan, CHANNELS, START, 1);
+    for (int channel = 0; channel < CHANNELS; channel++)
+        write_drift(&plan, START, channel, 1);
+    start_rule(&rule, PARTS, CHANNELS);
+    for (int part = 0; part < PARTS; part++)
+        write_comparison(&rule, part, LESS, reading(part % CHANNELS, part % 9 - 4),
+                         constant(FIRST + part));
+}
+
 /* One cycle row, which differs from the start rows. Each Y needs one pass more than the
    part below it. */
 void yesterdays_deep(void)

@@ -36,8 +36,9 @@ typedef void late_builder(void);
 
 void build_late_case(struct sheets *sheets, late_builder *build);
 
-late_builder crossing_late;   /* the last of 64 parts changes after some 250 passes */
-late_builder yesterdays_deep; /* Y of Y, 60 deep, over a comparison that looks back */
-late_builder settling_soon;   /* 20 parts of all kinds on 16 rows, a pass or two */
+late_builder crossing_late;    /* the last of 64 parts changes after some 250 passes */
+late_builder crossing_in_turn; /* 64 comparisons, each for a pass more */
+late_builder yesterdays_deep;  /* Y of Y, 60 deep, over a comparison that looks back */
+late_builder settling_soon;    /* 20 parts of all kinds on 16 rows, a pass or two */
 
 #endif

@@ -394,7 +394,7 @@ static void have_marks_made(const struct bytes *rule)
 }
 
 /* No table can be made for these plans as they are. The sudden one settles after one
-   pass. The rising one would after 195, and there is no room for as many rows. */
+   pass. The rising one would after 196, and there is no room for as many rows. */
 static void have_plans_settled(const struct bytes *rule)
 {
     static const char *const names[] = { "the sudden plan", "the rising plan" };

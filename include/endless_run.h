@@ -78,8 +78,8 @@
  *
  * Time. Every call returns. The time is bounded by the sizes N, V, L and W, for
  * endless_run_settle() with 256 for W. It does not grow with the pass on which
- * a comparison changes, but settle tries as many passes as it lays out, or as
- * there is room for.
+ * a comparison changes; settle tries at most as many passes as it lays out, or
+ * as there is room for.
  *
  * Platform. The library is compiled for x86-64 Linux, with the usual calling
  * convention of C there.
