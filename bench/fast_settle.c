@@ -209,10 +209,7 @@ uint64_t fast_settle(const uint8_t *rule, size_t rule_len, const uint8_t *plan, 
 {
     struct plan p;
     struct search s;
-    uint64_t refused = check_rule(rule, rule_len);
-    if (refused)
-        return refused;
-    refused = check_plan(plan, plan_len, get16(rule + 2), &p);
+    uint64_t refused = check_inputs(rule, rule_len, plan, plan_len, &p);
     if (refused)
         return refused;
     if (laid_out_len != LAID_OUT_LENGTH || scratch_len != SCRATCH_LENGTH)

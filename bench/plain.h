@@ -238,4 +238,12 @@ static inline int judge_early_row(const struct plan *plan, int kind, const struc
     return judged;
 }
 
+/* Refusals 1 to 6. */
+static inline uint64_t check_inputs(const uint8_t *rule, size_t rule_len, const uint8_t *plan,
+                                    size_t plan_len, struct plan *p)
+{
+    uint64_t refused = check_rule(rule, rule_len);
+    return refused ? refused : check_plan(plan, plan_len, get16(rule + 2), p);
+}
+
 #endif

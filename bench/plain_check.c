@@ -184,13 +184,10 @@ uint64_t plain_check(const uint8_t *rule, size_t rule_len, const uint8_t *plan, 
                      const uint8_t *marks, size_t marks_len)
 {
     struct plan p;
-    uint64_t refused = check_rule(rule, rule_len);
+    uint64_t refused = check_inputs(rule, rule_len, plan, plan_len, &p);
     if (refused)
         return refused;
     size_t parts = get16(rule);
-    refused = check_plan(plan, plan_len, get16(rule + 2), &p);
-    if (refused)
-        return refused;
     size_t rows = (size_t)p.rows;
     if (marks_len < 4 || get16(marks) != parts || get16(marks + 2) != rows ||
         marks_len != 4 + parts * rows + 2 * parts)
@@ -203,13 +200,10 @@ uint64_t plain_judge(const uint8_t *rule, size_t rule_len, const uint8_t *plan, 
                      uint64_t part, uint64_t row)
 {
     struct plan p;
-    uint64_t refused = check_rule(rule, rule_len);
+    uint64_t refused = check_inputs(rule, rule_len, plan, plan_len, &p);
     if (refused)
         return refused;
     size_t parts = get16(rule);
-    refused = check_plan(plan, plan_len, get16(rule + 2), &p);
-    if (refused)
-        return refused;
     if (part >= parts || row >= (uint64_t)p.rows || !is_comparison(rule[4 + part]))
         return refuse(12, 0, 0);
     const uint8_t *operand = rule + 4 + parts + 12 * part;

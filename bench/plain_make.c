@@ -54,21 +54,7 @@ static int make_comparison(const struct plan *plan, int kind, const uint8_t *ope
     return plan->rows;
 }
 
-/* ---- Operators ---- */
-
-/* The marks of an operator over the marks of the parts that it names. Gives row P
-   if it does not close, else W. */
-static int make_operator(const struct plan *plan, int kind, uint8_t *m, const uint8_t *a,
-                         const uint8_t *b)
-{
-    int start = plan->start, rows = plan->rows;
-    if (!is_past(kind)) {
-        make_closed(kind, m, a, b, start, rows);
-        return rows;
-    }
-    make_past(kind, m, a, b, 0, rows);
-    return past_closes(kind, m, a, b, start, rows) ? rows : start;
-}
+/* ---- Witnesses ---- */
 
 /* The lowest cycle row that serves, or none. */
 static size_t lowest_witness(const struct plan *plan, int kind, const uint8_t *m, const uint8_t *b)
@@ -86,10 +72,7 @@ uint64_t plain_make(const uint8_t *rule, size_t rule_len, const uint8_t *plan, s
                     uint8_t *marks, size_t marks_len)
 {
     struct plan p;
-    uint64_t refused = check_rule(rule, rule_len);
-    if (refused)
-        return refused;
-    refused = check_plan(plan, plan_len, get16(rule + 2), &p);
+    uint64_t refused = check_inputs(rule, rule_len, plan, plan_len, &p);
     if (refused)
         return refused;
     size_t parts = get16(rule), rows = (size_t)p.rows;
@@ -111,7 +94,7 @@ uint64_t plain_make(const uint8_t *rule, size_t rule_len, const uint8_t *plan, s
             /* Of a part that names one the second field is 0: b is not used. */
             const uint8_t *a = cells + get16(operand) * rows;
             const uint8_t *b = cells + get16(operand + 2) * rows;
-            open = make_operator(&p, kinds[i], m, a, b);
+            open = make_operator(kinds[i], m, a, b, p.start, p.rows) ? p.rows : p.start;
             witness = lowest_witness(&p, kinds[i], m, b);
         }
         if (open < p.rows) {

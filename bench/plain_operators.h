@@ -134,4 +134,17 @@ static inline bool past_closes(int kind, const uint8_t *m, const uint8_t *a, con
     return m[start] == a[rows - 1];
 }
 
+/* The marks of an operator over the marks of the parts that it names. Gives whether it
+   closes. */
+static inline bool make_operator(int kind, uint8_t *m, const uint8_t *a, const uint8_t *b, int start,
+                                 int rows)
+{
+    if (!is_past(kind)) {
+        make_closed(kind, m, a, b, start, rows);
+        return true;
+    }
+    make_past(kind, m, a, b, 0, rows);
+    return past_closes(kind, m, a, b, start, rows);
+}
+
 #endif

@@ -84,22 +84,6 @@ static bool make_comparison(const struct layout *layout, int kind, const uint8_t
     return true;
 }
 
-/* ---- Operators ---- */
-
-/* The marks of an operator over the marks of the parts that it names. Gives whether it
-   closes. */
-static bool make_operator(const struct layout *layout, int kind, uint8_t *m, const uint8_t *a,
-                          const uint8_t *b)
-{
-    int start = layout->start, rows = layout->rows;
-    if (!is_past(kind)) {
-        make_closed(kind, m, a, b, start, rows);
-        return true;
-    }
-    make_past(kind, m, a, b, 0, rows);
-    return past_closes(kind, m, a, b, start, rows);
-}
-
 /* ---- The settler ---- */
 
 /* Whether every part closes with so many passes laid out. */
@@ -119,7 +103,7 @@ static bool passes_settle(const uint8_t *rule, const struct plan *plan, int pass
             /* Of a part that names one the second field is 0: b is not used. */
             const uint8_t *a = marks + MOST_ROWS * get16(operand);
             const uint8_t *b = marks + MOST_ROWS * get16(operand + 2);
-            closes = make_operator(&layout, kinds[i], m, a, b);
+            closes = make_operator(kinds[i], m, a, b, layout.start, layout.rows);
         }
         if (!closes)
             return false;
@@ -132,10 +116,7 @@ uint64_t plain_settle(const uint8_t *rule, size_t rule_len, const uint8_t *plan,
                       size_t scratch_len)
 {
     struct plan p;
-    uint64_t refused = check_rule(rule, rule_len);
-    if (refused)
-        return refused;
-    refused = check_plan(plan, plan_len, get16(rule + 2), &p);
+    uint64_t refused = check_inputs(rule, rule_len, plan, plan_len, &p);
     if (refused)
         return refused;
     if (laid_out_len != LAID_OUT_LENGTH || scratch_len != SCRATCH_LENGTH)
