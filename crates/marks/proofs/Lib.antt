@@ -3,6 +3,7 @@ pub mod Rows
 pub mod Endless
 pub mod Temporal
 pub mod Comparisons
+pub mod ByMarks
 pub mod Unrolled
 pub mod Witnesses
 pub mod Witnessed

@@ -1,4 +1,4 @@
--- The checks on one part, 9, 10 and 11, in that order: equations, closing (the consistency of the loop) and witnesses (of
+-- The checks on one part, 10, 9 and 11, in that order: closing (the consistency of the loop), equations and witnesses (of
 -- eventualities). Assumes nothing.
 use Prim.Native.Nat.{ℕ, zero, suc, _+_}
 use mathlib.Core.List.{List}
@@ -86,19 +86,20 @@ module _ (plan : List ℕ) where
     unfoldable pub breaks : View → ℕ → ℕ → Bool
     breaks p i row = not (Bool·beq (mark i row) (expected (startRows plan) (cycleRows plan) mark (atomAt plan) p i row))
 
-    -- 9 A mark breaks its equation (part, lowest row).
-    unfoldable pub equationOutcome : View → ℕ → Outcome
-    equationOutcome p i = atLowest (breaks p i) (rows plan) (Equation i)
-
-    -- 10 A part does not close (part; for a comparison the lowest changing row, else row P).
+    -- 10 A part does not close (part; for a comparison the lowest changing row, else row P), by its truth, whatever its own marks
+    -- say.
     unfoldable pub closingOutcome : View → ℕ → Outcome
     closingOutcome (view.Atom x) i = steadyOutcome x i
     closingOutcome (view.Operator o) i = unless (closes (startRows plan) (cycleRows plan) mark o) (Closing i (startRows plan))
+
+    -- 9 A mark breaks its equation (part, lowest row).
+    unfoldable pub equationOutcome : View → ℕ → Outcome
+    equationOutcome p i = atLowest (breaks p i) (rows plan) (Equation i)
 
     -- 11 A witness is not as stated (part).
     unfoldable pub witnessOutcome : View → ℕ → ℕ → Outcome
     witnessOutcome p i w = unless (witnessInOrder (startRows plan) (cycleRows plan) mark p i w) (Witness i)
 
-    -- Checks 9, 10 and 11 are made on one part before the next part.
+    -- Checks 9, 10 and 11 are made on one part before the next part. Within one part, 10 comes before 9.
     unfoldable pub partOutcome : View → ℕ → ℕ → Outcome
-    partOutcome p i w = equationOutcome p i orElse closingOutcome p i orElse witnessOutcome p i w
+    partOutcome p i w = closingOutcome p i orElse equationOutcome p i orElse witnessOutcome p i w

@@ -8,7 +8,6 @@ ghost use Rattle.plan.specs.inner.Sizes.{allRows, Fitting};
 ghost use Rattle.verdict.specs.Rows.{atomAt};
 ghost use Rattle.table.specs.Layout.{marked};
 ghost use Rattle.marks.specs.Equations.{stepOn, markBeside, operatorMark, expected};
-ghost use Rattle.marks.specs.inner.Tables.{wraps};
 ghost use Rattle.table.specs.inner.Tables.{Sized};
 use crate::operators::Beside;
 use crate::operators::beside_of;
@@ -19,10 +18,16 @@ use cltlb::Operator;
 use cltlb::View;
 use plan::sizes::Sizes;
 use table::bytes::mark_at;
-use table::sweeps::agree;
 
 // The mark of an operator on a row, by the mark beside.
-fn step_on(table: &[u8], n: usize, w: usize, operator: Operator, row: usize, beside: bool) -> bool
+pub fn step_on(
+    table: &[u8],
+    n: usize,
+    w: usize,
+    operator: Operator,
+    row: usize,
+    beside: bool,
+) -> bool
     requires { ⌜ (Sized (now table) n w) × (namesLower n operator ≡ true) × (row < w) ⌝ }
     ensures { λ r. ⌜ r ≡ stepOn (marked w (now (table .entry))) operator row beside ⌝ }
 {
@@ -101,33 +106,5 @@ pub fn expected_mark(
     match view {
         View::Atom(atom) => verdict::rows::atom_at(plan, sizes, atom, row),
         View::Operator(operator) => operator_mark(table, n, sizes, i, operator, row),
-    }
-}
-
-// An operator that looks back meets its equation on row P after row W - 1; of others it is true. The table has room for `w` rows of
-// each part, as many as there are or more.
-pub fn wraps_round(
-    table: &[u8],
-    n: usize,
-    w: usize,
-    sizes: Sizes,
-    i: usize,
-    operator: Operator,
-) -> bool
-    requires { ⌜ (Sized (now table) n w) × (allRows sizes ≤ w) × (1 ≤ sizes .cycle) × (i < n) × (namesLower n operator ≡ true) ⌝ }
-    ensures { λ r. ⌜ r ≡ wraps (sizes .start) (sizes .cycle) (marked w (now (table .entry))) operator i ⌝ }
-{
-    let p = sizes.start;
-    let side = beside_of(operator);
-    match side {
-        Beside::After => true,
-        Beside::Before(_) => {
-            let end = p + sizes.cycle - 1;
-            let before = mark_at(table, n, w, watched(operator, i), end);
-            agree(
-                mark_at(table, n, w, i, p),
-                step_on(table, n, w, operator, p, before),
-            )
-        }
     }
 }

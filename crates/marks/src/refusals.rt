@@ -3,15 +3,16 @@ ghost use mathlib.Core.Path.{_≡_};
 ghost use mathlib.Core.Bool.{true};
 ghost use Prim.Native.Nat.{_*_, _<_};
 ghost use Rattle.cltlb.specs.Fits.{atomFits};
-ghost use Rattle.refusal.specs.First.{_orElse_};
+ghost use Rattle.refusal.specs.First.{unless};
+ghost use Rattle.refusal.specs.declared.Refusal.the-variants.{Closing};
 ghost use Rattle.plan.specs.inner.Sizes.{allRows, Fitting};
 ghost use Rattle.table.specs.Layout.{marked, witnessOf};
 ghost use Rattle.marks.specs.Parts.{isChanges, breaks, closingOutcome, witnessOutcome, steadyOutcome};
 ghost use Rattle.table.specs.inner.Tables.{MarkBytes};
-ghost use Rattle.marks.specs.inner.PartsRead.{Readable, Met, PartClear};
+ghost use Rattle.marks.specs.inner.PartsRead.{Readable, PartClear};
 ghost use Rattle.lanes.specs.inner.Lanes.{Lanes};
+use crate::closing::closes;
 use crate::equations::expected_mark;
-use crate::equations::wraps_round;
 use crate::stretches::operator_clear;
 use crate::witness::witness_in_order;
 use cltlb::Atom;
@@ -26,8 +27,8 @@ use verdict::Verdict;
 use verdict::rows::comparison_of;
 use verdict::rows::judge_row;
 
-// All rows at once, of a table whose bytes are marks, over the plan's lanes: where this is true, part `i` meets its equation on every
-// row and closes.
+// All rows at once, of a table whose bytes are marks, over the plan's lanes: where this is true, part `i` closes and meets its
+// equation on every row.
 pub fn surely_clear(
     plan: &[u8],
     values: &[u8],
@@ -104,46 +105,22 @@ fn check_steady(plan: &[u8], sizes: Sizes, i: usize, atom: Atom) -> Outcome
     Outcome::Clear
 }
 
-// Refusal 10 of part `i`. Its marks meet the equation, so that they are its truth.
-pub fn check_closing(
-    plan: &[u8],
-    table: &[u8],
-    n: usize,
-    sizes: Sizes,
-    i: usize,
-    view: View,
-) -> Outcome
-    requires { ⌜ (Readable (now plan) (now table) n sizes i view) × (Met (now plan) (now table) sizes view i) ⌝ }
-    ensures { λ r. ⌜ r ≡ closingOutcome (now (plan .entry)) (marked (allRows sizes) (now (table .entry))) view i ⌝ }
+// Refusal 10 of part `i`, an operator, by whether it closes.
+pub fn closing_outcome(sizes: Sizes, i: usize, closed: bool) -> Outcome
+    ensures { λ r. ⌜ r ≡ unless closed (Closing i (sizes .start)) ⌝ }
 {
-    match view {
-        View::Atom(atom) => check_steady(plan, sizes, i, atom),
-        View::Operator(operator) => {
-            let p = sizes.start;
-            let w = p + sizes.cycle;
-            if wraps_round(table, n, w, sizes, i, operator) {
-                Outcome::Clear
-            } else {
-                Outcome::Refused(Refusal::Closing { part: i, row: p })
-            }
-        }
-    }
-}
-
-// Refusal 11 of part `i`.
-fn check_witness(plan: &[u8], table: &[u8], n: usize, sizes: Sizes, i: usize, view: View) -> Outcome
-    requires { ⌜ Readable (now plan) (now table) n sizes i view ⌝ }
-    ensures { λ r. ⌜ r ≡ witnessOutcome (now (plan .entry)) (marked (allRows sizes) (now (table .entry))) view i (witnessOf n (allRows sizes) (now (table .entry)) i) ⌝ }
-{
-    if witness_in_order(table, n, sizes, i, view) {
+    if closed {
         Outcome::Clear
     } else {
-        Outcome::Refused(Refusal::Witness { part: i })
+        Outcome::Refused(Refusal::Closing {
+            part: i,
+            row: sizes.start,
+        })
     }
 }
 
-// Refusals 10 and 11 of part `i`, whose marks meet the equation; where it is sure that the part closes, 11 alone.
-pub fn check_rest(
+// Refusal 10 of part `i`, whatever its own marks are; where it is sure that the part closes, nothing is looked at.
+pub fn check_closing(
     plan: &[u8],
     table: &[u8],
     n: usize,
@@ -152,15 +129,36 @@ pub fn check_rest(
     view: View,
     sure: bool,
 ) -> Outcome
-    requires { ⌜ (Readable (now plan) (now table) n sizes i view) × (Met (now plan) (now table) sizes view i) × (sure ≡ true → PartClear (now plan) (now table) sizes view i) ⌝ }
-    ensures { λ r. ⌜ r ≡ (closingOutcome (now (plan .entry)) (marked (allRows sizes) (now (table .entry))) view i orElse witnessOutcome (now (plan .entry)) (marked (allRows sizes) (now (table .entry))) view i (witnessOf n (allRows sizes) (now (table .entry)) i)) ⌝ }
+    requires { ⌜ (Readable (now plan) (now table) n sizes i view) × (sure ≡ true → PartClear (now plan) (now table) sizes view i) ⌝ }
+    ensures { λ r. ⌜ r ≡ closingOutcome (now (plan .entry)) (marked (allRows sizes) (now (table .entry))) view i ⌝ }
 {
     if sure {
-        return check_witness(plan, table, n, sizes, i, view);
+        return Outcome::Clear;
     }
-    let closing = check_closing(plan, table, n, sizes, i, view);
-    if let Outcome::Refused(refusal) = closing {
-        return Outcome::Refused(refusal);
+    match view {
+        View::Atom(atom) => check_steady(plan, sizes, i, atom),
+        View::Operator(operator) => {
+            let w = sizes.start + sizes.cycle;
+            closing_outcome(sizes, i, closes(table, n, w, sizes, operator))
+        }
     }
-    check_witness(plan, table, n, sizes, i, view)
+}
+
+// Refusal 11 of part `i`.
+pub fn check_witness(
+    plan: &[u8],
+    table: &[u8],
+    n: usize,
+    sizes: Sizes,
+    i: usize,
+    view: View,
+) -> Outcome
+    requires { ⌜ Readable (now plan) (now table) n sizes i view ⌝ }
+    ensures { λ r. ⌜ r ≡ witnessOutcome (now (plan .entry)) (marked (allRows sizes) (now (table .entry))) view i (witnessOf n (allRows sizes) (now (table .entry)) i) ⌝ }
+{
+    if witness_in_order(table, n, sizes, i, view) {
+        Outcome::Clear
+    } else {
+        Outcome::Refused(Refusal::Witness { part: i })
+    }
 }

@@ -9,7 +9,7 @@ use Rattle.refusal.specs.declared.Outcome.the-variants.{Clear}
 use Rattle.plan.specs.declared.sizes.Sizes.{Sizes}
 use Rattle.plan.specs.inner.Sizes.{allRows, Fitting}
 use Rattle.table.specs.Layout.{marked}
-use Rattle.marks.specs.Parts.{equationOutcome, closingOutcome}
+use Rattle.marks.specs.Parts.{closingOutcome, equationOutcome}
 use Rattle.table.specs.inner.Tables.{Sized}
 
 -- a plan and a table of n parts whose sizes fit, and part i of them, whose terms fit and which names some of the n parts
@@ -19,11 +19,7 @@ pub record Readable (plan table : List ℕ) (n : ℕ) (z : Sizes) (i : ℕ) (p :
   pub present : i < n
   pub part-fits : viewFits (z .channels) n p ≡ true
 
--- 9 refuses nothing of part i
-unfoldable pub Met : List ℕ → List ℕ → Sizes → View → ℕ → Type 0
-Met plan table z p i = equationOutcome plan (marked (allRows z) table) p i ≡ Clear
-
--- 9 and 10 refuse nothing of part i
+-- 10 and 9 refuse nothing of part i
 pub record PartClear (plan table : List ℕ) (z : Sizes) (p : View) (i : ℕ) : Type 0 where
-  pub equation : Met plan table z p i
   pub closing : closingOutcome plan (marked (allRows z) table) p i ≡ Clear
+  pub equation : equationOutcome plan (marked (allRows z) table) p i ≡ Clear

@@ -1,31 +1,28 @@
 -- What the code goes by: equations on all rows at once. Assumes nothing.
-use Prim.Native.Nat.{ℕ, suc, _+_, _*_, _-_, _≤_}
-use mathlib.Core.Bool.{Bool, true, false, _&&_, Bool·beq}
+use Prim.Native.Nat.{ℕ, suc, _+_, _*_, _-_, _≤_, _<_}
+use mathlib.Core.Path.{_≡_}
+use mathlib.Core.Bool.{Bool, false, _&&_, Bool·beq}
 use mathlib.Core.List.{List}
 use Rattle.cltlb.specs.declared.Operator.{Operator}
-use Rattle.plan.specs.Positions.{last, after}
+use Rattle.plan.specs.Positions.{after}
 use Rattle.plan.specs.declared.sizes.Sizes.{Sizes}
 use Rattle.plan.specs.inner.Sizes.{allRows}
-use Rattle.marks.specs.declared.operators.Beside.{Beside}
-use Rattle.marks.specs.declared.operators.Beside.the-variants.{After, Before}
-use Rattle.marks.specs.Equations.{besideOf, watched, stepOn, operatorMark}
+use Rattle.marks.specs.declared.operators.Beside.the-variants.{Before}
+use Rattle.marks.specs.Equations.{besideOf, operatorMark}
+use Rattle.marks.specs.Parts.{running, closes}
 use Rattle.table.specs.inner.Tables.{allBelow, copyOf, stepOf, markIn, Sized, MarkBytes}
 
 -- Part i, which is an operator, meets its equation on a row, with P start rows and C cycle rows.
 unfoldable pub meetsOn : ℕ → ℕ → (ℕ → ℕ → Bool) → Operator → ℕ → ℕ → Bool
 meetsOn P C mark o i row = Bool·beq (mark i row) (operatorMark P C mark o i row)
 
--- Its mark on row P is what the equation gives there with row W - 1 as the row before, if it looks back.
-unfoldable pub wrapsBy : Beside → ℕ → ℕ → (ℕ → ℕ → Bool) → Operator → ℕ → Bool
-wrapsBy After P C mark o i = true
-wrapsBy (Before first) P C mark o i = Bool·beq (mark i P) (stepOn mark o P (mark (watched o i) (last P C)))
-
-unfoldable pub wraps : ℕ → ℕ → (ℕ → ℕ → Bool) → Operator → ℕ → Bool
-wraps P C mark o i = wrapsBy (besideOf o) P C mark o i
-
 -- It meets its equation on every row, and closes.
 unfoldable pub clearOf : ℕ → ℕ → (ℕ → ℕ → Bool) → Operator → ℕ → Bool
-clearOf P C mark o i = allBelow (meetsOn P C mark o i) (P + C) && wraps P C mark o i
+clearOf P C mark o i = allBelow (meetsOn P C mark o i) (P + C) && closes P C mark o
+
+-- The marks of part i on the rows are its truth, if it looks back.
+abbrev pub TruthMarked : ℕ → ℕ → (ℕ → ℕ → Bool) → Operator → ℕ → Type 0
+TruthMarked P C mark o i = (first : Bool) → besideOf o ≡ Before first → (row : ℕ) → row < P + C → mark i row ≡ running P C mark o first row
 
 -- A test of a row and a row beside it is true of every row and the row after it.
 unfoldable pub aheadOf : ℕ → ℕ → (ℕ → ℕ → Bool) → Bool
