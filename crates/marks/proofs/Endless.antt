@@ -9,7 +9,7 @@ use Rattle.cltlb.specs.declared.View.the-variants.{Atom, Operator}
 use Rattle.verdict.specs.Rows.{atomAt}
 use Rattle.marks.specs.declared.operators.Beside.{Beside}
 use Rattle.marks.specs.declared.operators.Beside.the-variants.{After, Before}
-use Rattle.marks.specs.Equations.{besideOf, watched, stepOn}
+use Rattle.marks.specs.Equations.{besideOf, stepOn, watchedTruth}
 use Rattle.marks.proofs.Rows.{rowAt}
 
 -- The marks at the positions are the truth of a statement.
@@ -27,7 +27,7 @@ module _ (plan : List ℕ) (mark : ℕ → ℕ → Bool) where
   abbrev pub markAt : ℕ → ℕ → Bool
   markAt i t = mark i (rowAt plan t)
 
-  -- What the mark of part i at a position has to be.
-  unfoldable pub due : View → ℕ → ℕ → Bool
-  due (Atom x) i t = atomAt plan x t
-  due (Operator o) i t = stepOn mark o (rowAt plan t) (besideAt (besideOf o) (markAt (watched o i)) t)
+  -- What the mark of a part at a position has to be, by its own marks at the positions.
+  unfoldable pub due : View → (ℕ → Bool) → ℕ → Bool
+  due (Atom x) own t = atomAt plan x t
+  due (Operator o) own t = stepOn mark o (rowAt plan t) (besideAt (besideOf o) (λ s. watchedTruth mark o (own s) (rowAt plan s)) t)

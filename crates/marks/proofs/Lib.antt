@@ -9,6 +9,8 @@ pub mod Witnesses
 pub mod Witnessed
 pub mod Parts
 pub mod Faults
+pub mod ByTruth
+pub mod Settled
 pub mod Accepted
 pub mod RefusalMeans
 pub mod Swept

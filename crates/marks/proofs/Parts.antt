@@ -1,4 +1,4 @@
--- One part, where the marks of the parts that it names are the truth: it passes refusals 9, 10 and 11 exactly where its marks
+-- One part, where the marks of the parts that it names are the truth: it passes refusals 10, 9 and 11 exactly where its marks
 -- are its published truth at every position and its witness is in order. Assumes nothing.
 use mathlib.Core.Path.{_≡_, refl, sym, ap, subst}
 use mathlib.Core.Bool.{Bool, true}
@@ -52,12 +52,12 @@ module _ (plan : List ℕ) (mark : ℕ → ℕ → Bool) (f : ℕ → Formula) w
 
   -- The two ways in which what is due of a part at a position is the truth there.
   pub data Due (p : View) (i : ℕ) : Type 0 where
-    -- every kind but U and R: where the part's own earlier marks are true
-    byEarlier : ((t : ℕ) → ((k : ℕ) → k < t → T (markAt plan mark i k) ↔ This p k) → T (due plan mark p i t) ↔ This p t) → Due p i
+    -- every kind but U and R: where the part's own earlier marks are true, whichever they are
+    byEarlier : ((own : ℕ → Bool) (t : ℕ) → ((k : ℕ) → k < t → T (own k) ↔ This p k) → T (due plan mark p own t) ↔ This p t) → Due p i
     -- U and R: where its next mark is true. Their truth in the cycle is the same on every pass, they close by their equation,
     -- and a witness in order makes marks that meet it true.
     byLater : Ahead p
-        → ((t : ℕ) → T (markAt plan mark i (suc t)) ↔ This p (suc t) → T (due plan mark p i t) ↔ This p t)
+        → ((t : ℕ) → T (markAt plan mark i (suc t)) ↔ This p (suc t) → T (due plan mark p (markAt plan mark i) t) ↔ This p t)
         → RepeatsFrom (cycleRows plan) (startRows plan) (This p)
         → closingOutcome plan mark p i ≡ Clear
         → ((w : ℕ) → T (witnessInOrder (startRows plan) (cycleRows plan) mark p i w) → Meets plan mark p i → Right i (formulaFrom p f))
@@ -72,7 +72,7 @@ module _ (plan : List ℕ) (mark : ℕ → ℕ → Bool) (f : ℕ → Formula) w
     Of a = Holds (runOf plan) (f a)
 
     -- the truth of a named part in the cycle is the same on every pass
-    repeats : (a : ℕ) → a < i → (t : ℕ) → startRows plan ≤ t → RepeatsFrom (cycleRows plan) t (Of a)
+    pub repeats : (a : ℕ) → a < i → (t : ℕ) → startRows plan ≤ t → RepeatsFrom (cycleRows plan) t (Of a)
     repeats a l t h k q =
         let once = sym (once-more plan hC k (omega arith)) in
         Iff·trans (Iff·symm (named a l k)) (Iff·trans (T-path (ap (mark a) once)) (named a l (k + cycleRows plan)))
@@ -80,8 +80,8 @@ module _ (plan : List ℕ) (mark : ℕ → ℕ → Bool) (f : ℕ → Formula) w
     -- an operator over two parts
     two-due : (o : Binary) (a b : ℕ) → a < i → b < i → Due (twoView o a b) i
     unfolding formulaFrom Holds BinaryHolds due closingOutcome closes closesBy
-    two-due binary.And a b la lb = byEarlier (λ t _. and-iff (at a t) (at b t) (named a la t) (named b lb t))
-    two-due binary.Or a b la lb = byEarlier (λ t _. or-iff (at a t) (at b t) (named a la t) (named b lb t))
+    two-due binary.And a b la lb = byEarlier (λ _ t _. and-iff (at a t) (at b t) (named a la t) (named b lb t))
+    two-due binary.Or a b la lb = byEarlier (λ _ t _. or-iff (at a t) (at b t) (named a la t) (named b lb t))
     two-due binary.Until a b la lb =
         byLater
         (inl (a, b, refl))
@@ -96,37 +96,37 @@ module _ (plan : List ℕ) (mark : ℕ → ℕ → Bool) (f : ℕ → Formula) w
         (λ t h. release-shift (Of a) (Of b) (cycleRows plan) t (repeats a la t h) (repeats b lb t h))
         (unless-clear true _ .1 refl)
         (λ w ok meets. release-agrees (Of a) (Of b) (at a) (at b) (at i) (named a la) (named b lb) meets (release-decides plan mark hC (Of b) a b i w (named b lb) ok))
-    two-due binary.Since a b la lb = byEarlier (since-by (Of a) (Of b) (at a) (at b) (at i) (named a la) (named b lb))
-    two-due binary.Trigger a b la lb = byEarlier (trigger-by (Of a) (Of b) (at a) (at b) (at i) (named a la) (named b lb))
+    two-due binary.Since a b la lb = byEarlier (λ own. since-by (Of a) (Of b) (at a) (at b) own (named a la) (named b lb))
+    two-due binary.Trigger a b la lb = byEarlier (λ own. trigger-by (Of a) (Of b) (at a) (at b) own (named a la) (named b lb))
 
     pub is-due : (v : ℕ) (p : View) → viewFits v i p ≡ true → Due p i
     unfolding formulaFrom Holds due
-    is-due v (view.Atom x) fits = byEarlier (λ t _. Iff·trans (T-true (atomAt plan x t)) (atom-tells plan x t))
+    is-due v (view.Atom x) fits = byEarlier (λ _ t _. Iff·trans (T-true (atomAt plan x t)) (atom-tells plan x t))
     is-due v (view.Operator (One o a)) fits =
-        let l = one-lower i o a (operator-fits v i (One o a) fits) in byEarlier (λ t _. unary-agrees (Of a) (at a) (named a l) o t)
+        let l = one-lower i o a (operator-fits v i (One o a) fits) in byEarlier (λ _ t _. unary-agrees (Of a) (at a) (named a l) o t)
     is-due v (view.Operator (Two o a b)) fits = let l = two-lower i o a b (operator-fits v i (Two o a b) fits) in two-due o a b (l .0) (l .1)
 
     -- Marks that meet the equation at every position are the truth, with a witness in order, and the truth meets it.
     meets-right : (p : View) (w : ℕ) → Due p i → T (witnessInOrder (startRows plan) (cycleRows plan) mark p i w)
         → Meets plan mark p i ↔ Right i (formulaFrom p f)
-    meets-right p w (byEarlier by) ok = meets-agrees (This p) (markAt plan mark i) (due plan mark p i) by
+    meets-right p w (byEarlier by) ok = meets-agrees (This p) (markAt plan mark i) (due plan mark p (markAt plan mark i)) (by (markAt plan mark i))
     meets-right p w (byLater kind by later closes decides) ok = (
       decides w ok,
-      λ right t. T-ext (markAt plan mark i t) (due plan mark p i t) (Iff·trans (right t) (Iff·symm (by t (right (suc t))))),
+      λ right t. T-ext (markAt plan mark i t) (due plan mark p (markAt plan mark i) t) (Iff·trans (right t) (Iff·symm (by t (right (suc t))))),
     )
 
     pub part-accepted : (v : ℕ) (p : View) (w : ℕ) → viewFits v i p ≡ true
         → (partOutcome plan mark p i w ≡ Clear) ↔ (Right i (formulaFrom p f) × T (witnessInOrder (startRows plan) (cycleRows plan) mark p i w))
     unfolding partOutcome witnessOutcome
     part-accepted v p w fits =
-        Iff·trans (orElse-clear (equationOutcome plan mark p i) (closingOutcome plan mark p i orElse witnessOutcome plan mark p i w))
-        (Iff·trans (Iff·and Iff·rfl (Iff·trans (orElse-clear (closingOutcome plan mark p i) (witnessOutcome plan mark p i w))
+        Iff·trans (orElse-clear (closingOutcome plan mark p i) (equationOutcome plan mark p i orElse witnessOutcome plan mark p i w))
+        (Iff·trans (Iff·and Iff·rfl (Iff·trans (orElse-clear (equationOutcome plan mark p i) (witnessOutcome plan mark p i w))
         (Iff·and Iff·rfl (unless-clear-T (witnessInOrder (startRows plan) (cycleRows plan) mark p i w) (Witness i))))) (
           λ h. (right (h .1 .1) .0 (whole .0 (h .0, h .1 .0)), h .1 .1),
           λ h. let met = whole .1 (right (h .1) .1 (h .0)) in (met .0, (met .1, h .1)),
         ))
       where
-        whole : ((equationOutcome plan mark p i ≡ Clear) × (closingOutcome plan mark p i ≡ Clear)) ↔ Meets plan mark p i
+        whole : ((closingOutcome plan mark p i ≡ Clear) × (equationOutcome plan mark p i ≡ Clear)) ↔ Meets plan mark p i
         whole = meets-iff plan mark hC p i (λ x e. (_, judged-atom plan hC v x (atom-fits v i x (subst (λ q. viewFits v i q ≡ true) e fits))))
 
         right : T (witnessInOrder (startRows plan) (cycleRows plan) mark p i w) → Meets plan mark p i ↔ Right i (formulaFrom p f)

@@ -1,8 +1,8 @@
--- Refusals 9, 10 and 11 of a table say of the published truth what marks/specs/RefusalMeaning states. Assumes nothing.
-use mathlib.Core.Path.{_≡_, sym, _∙_, subst}
+-- Refusals 10, 9 and 11 of a table say of the published truth what marks/specs/RefusalMeaning states. Assumes nothing.
+use mathlib.Core.Path.{_≡_, refl, sym, _∙_, subst}
 use mathlib.Core.Bool.{Bool, true}
 use mathlib.Core.List.{List}
-use mathlib.Core.Logic.{⊎-elim}
+use mathlib.Core.Logic.{_↔_, ⊎-elim}
 use Prim.Native.Nat.{ℕ, _≤_, _<_}
 use native.Mathlib.Omega.{arith}
 use lib.Dec.{T}
@@ -13,17 +13,19 @@ use Rattle.cltlb.proofs.Depth.{formula-made}
 use Rattle.refusal.specs.First.{_orElse_, inTurn}
 use Rattle.refusal.specs.declared.Refusal.{Refusal}
 use Rattle.refusal.specs.declared.Refusal.the-variants.{RuleSizes, Kind, Operand, PlanSizes, Channels, StartDrift, MarkSizes, MarkByte, Equation, Closing, Witness, Absent, BufferLength, NoTable, NoLayout}
+use Rattle.refusal.specs.declared.Outcome.{Outcome}
 use Rattle.refusal.specs.declared.Outcome.the-variants.{Clear, Refused}
 use Rattle.refusal.proofs.First.{unless-refused, unless-clear-T, orElse-refused, inTurn-refused, clear-refused}
 use Rattle.plan.specs.Layout.{startRows, cycleRows, rows}
 use Rattle.plan.specs.Positions.{after}
 use Rattle.marks.specs.Parts.{witnessInOrder, equationOutcome, closingOutcome, witnessOutcome, partOutcome}
-use Rattle.marks.specs.Meaning.{Truth, SameOn, DiffersOn, MarkTrue, PartMarksTrue, PartWitnessed}
+use Rattle.marks.specs.Meaning.{Truth, SameOn, DiffersOn, PartSettled, MarkTrue, PartMarksTrue, PartWitnessed}
 use Rattle.marks.specs.RefusalMeaning.{FirstFault, EquationMeans, ClosingMeans, WitnessMeans}
 use Rattle.marks.proofs.Rows.{after-is-row}
-use Rattle.marks.proofs.Unrolled.{equation-clear}
 use Rattle.marks.proofs.Parts.{Ahead}
-use Rattle.marks.proofs.Faults.{Open, equation-broken, closing-open}
+use Rattle.marks.proofs.Faults.{equation-broken}
+use Rattle.marks.proofs.ByTruth.{Open, closing-open, closing-repeats}
+use Rattle.marks.proofs.Settled.{same-differs, settled-repeats}
 use Rattle.marks.proofs.Accepted.{TrueAt, true-settled, true-marks, below}
 
 module _ (plan : List ℕ) (parts : ℕ → View) (n : ℕ) (mark : ℕ → ℕ → Bool) (witness : ℕ → ℕ) where
@@ -67,20 +69,36 @@ module _ (plan : List ℕ) (hC : 1 ≤ cycleRows plan) (parts : ℕ → View) (v
         rw (formula-made parts v n fits i l)
         (equation-broken plan mark (formulaOf parts) hC i (λ a q. lower a q .0) v (parts i) (fits i l) r e)
 
-    opened : equationOutcome plan mark (parts i) i ≡ Clear → (r : Refusal) → closingOutcome plan mark (parts i) i ≡ Refused r → Open plan (Truth parts plan i) (parts i) i r
+    opened : (r : Refusal) → closingOutcome plan mark (parts i) i ≡ Refused r → Open plan (Truth parts plan i) (parts i) i r
     unfolding Truth DiffersOn SameOn
-    opened met r e =
+    opened r e =
         rw (formula-made parts v n fits i l)
-        (closing-open plan mark (formulaOf parts) hC i (λ a q. lower a q .0) v (parts i) (fits i l)
-        (equation-clear plan mark (parts i) i .0 met) r e)
+        (closing-open plan mark (formulaOf parts) hC i (λ a q. lower a q .0) v (parts i) (fits i l) r e)
 
-    equation-means : (r : Refusal) → equationOutcome plan mark (parts i) i ≡ Refused r → Means plan parts n mark witness r
+    closed : closingOutcome plan mark (parts i) i ≡ Clear → PartSettled parts plan i
+    unfolding Truth
+    closed e =
+        settled-repeats parts plan hC i .1
+        (rw (formula-made parts v n fits i l)
+        (closing-repeats plan mark (formulaOf parts) hC i (λ a q. lower a q .0) v (parts i) (fits i l) e))
+
+    -- CLOSING IS BEING SETTLED: a part closes exactly where it has, on each cycle row, the same published truth on all passes.
+    pub closing-settled : (closingOutcome plan mark (parts i) i ≡ Clear) ↔ PartSettled parts plan i
+    unfolding PartSettled
+    closing-settled = (closed, λ s. go s (closingOutcome plan mark (parts i) i) refl)
+      where
+        go : PartSettled parts plan i → (o : Outcome) → closingOutcome plan mark (parts i) i ≡ o → o ≡ Clear
+        go s Clear e = refl
+        go s (Refused r) e = let d = opened r e in absurd (same-differs plan (Truth parts plan i) (d .0) (s (d .0) (d .2) (d .3)) (d .4))
+
+    equation-means : closingOutcome plan mark (parts i) i ≡ Clear → (r : Refusal) → equationOutcome plan mark (parts i) i ≡ Refused r → Means plan parts n mark witness r
     unfolding Means PartMarksTrue
-    equation-means r e =
+    equation-means closes r e =
         let s = broken r e in
         let here = s .2 in
         subst (Means plan parts n mark witness) (s .1) (record {
           fault = first-fault;
+          settled = closed closes;
           row-there = here;
           not-true = λ all. s .4 (all (s .0) here, all (after (startRows plan) (cycleRows plan) (s .0)) (after-is-row plan hC (s .0) here));
           false-here = λ no-until no-release. s .3 (⊎-elim (λ u. no-until (u .0) (u .1) (u .2)) (λ u. no-release (u .0) (u .1) (u .2)));
@@ -88,30 +106,30 @@ module _ (plan : List ℕ) (hC : 1 ≤ cycleRows plan) (parts : ℕ → View) (v
         })
 
     -- 10 names part i and a row, of which it says what the definition states
-    pub closing-says : equationOutcome plan mark (parts i) i ≡ Clear → (r : Refusal) → closingOutcome plan mark (parts i) i ≡ Refused r
+    pub closing-says : (r : Refusal) → closingOutcome plan mark (parts i) i ≡ Refused r
         → (row : ℕ) × (Closing i row ≡ r) × ClosingMeans parts n plan mark witness i row
-    closing-says met r e =
-        let s = opened met r e in
+    closing-says r e =
+        let s = opened r e in
         (s .0, s .1, record { fault = first-fault; in-cycle = (s .2, s .3); differs = s .4; lowest = s .5 })
 
-    closing-means : equationOutcome plan mark (parts i) i ≡ Clear → (r : Refusal) → closingOutcome plan mark (parts i) i ≡ Refused r → Means plan parts n mark witness r
+    closing-means : (r : Refusal) → closingOutcome plan mark (parts i) i ≡ Refused r → Means plan parts n mark witness r
     unfolding Means
-    closing-means met r e = let s = closing-says met r e in subst (Means plan parts n mark witness) (s .1) (s .2)
+    closing-means r e = let s = closing-says r e in subst (Means plan parts n mark witness) (s .1) (s .2)
 
-    witness-means : (r : Refusal) → witnessOutcome plan mark (parts i) i (witness i) ≡ Refused r → Means plan parts n mark witness r
+    witness-means : closingOutcome plan mark (parts i) i ≡ Clear → (r : Refusal) → witnessOutcome plan mark (parts i) i (witness i) ≡ Refused r → Means plan parts n mark witness r
     unfolding Means witnessOutcome PartWitnessed
-    witness-means r e =
+    witness-means closes r e =
         let test = witnessInOrder (startRows plan) (cycleRows plan) mark (parts i) i (witness i) in
         subst (Means plan parts n mark witness) (unless-refused test (Witness i) r e .1)
-        (record { fault = first-fault; not-in-order = λ ok. clear-refused (sym e ∙ unless-clear-T test (Witness i) .1 ok) })
+        (record { fault = first-fault; settled = closed closes; not-in-order = λ ok. clear-refused (sym e ∙ unless-clear-T test (Witness i) .1 ok) })
 
     part-means : (r : Refusal) → partOutcome plan mark (parts i) i (witness i) ≡ Refused r → Means plan parts n mark witness r
     unfolding partOutcome
     part-means r e =
-        ⊎-elim (equation-means r)
-        (λ h. ⊎-elim (closing-means (h .0) r) (λ k. witness-means r (k .1))
-        (orElse-refused (closingOutcome plan mark (parts i) i) (witnessOutcome plan mark (parts i) i (witness i)) r (h .1)))
-        (orElse-refused (equationOutcome plan mark (parts i) i) (closingOutcome plan mark (parts i) i orElse witnessOutcome plan mark (parts i) i (witness i)) r e)
+        ⊎-elim (closing-means r)
+        (λ h. ⊎-elim (equation-means (h .0) r) (λ k. witness-means (h .0) r (k .1))
+        (orElse-refused (equationOutcome plan mark (parts i) i) (witnessOutcome plan mark (parts i) i (witness i)) r (h .1)))
+        (orElse-refused (closingOutcome plan mark (parts i) i) (equationOutcome plan mark (parts i) i orElse witnessOutcome plan mark (parts i) i (witness i)) r e)
 
   -- A table that is refused: the first part at fault says so, and every lower one is right.
   pub refused-means : (r : Refusal) → inTurn (λ i. partOutcome plan mark (parts i) i (witness i)) n ≡ Refused r → Means plan parts n mark witness r

@@ -1,7 +1,7 @@
 -- A part meets its equation on all rows and closes exactly where it meets it at every position of the endless run.
 -- Assumes nothing.
 use mathlib.Core.Path.{_≡_, refl, sym, ap, ap₂, _∙_, subst, subst₂, subst⁻¹}
-use mathlib.Core.Bool.{Bool, Bool·beq}
+use mathlib.Core.Bool.{Bool}
 use mathlib.Core.List.{List}
 use mathlib.Core.Logic.{_↔_, Iff·rfl, Iff·trans, Iff·and, ⊎-elim}
 use Prim.Native.Nat.{ℕ, zero, suc, _≤_, _<_}
@@ -21,12 +21,12 @@ use Rattle.verdict.specs.Rows.{atomAt}
 use Rattle.marks.specs.declared.operators.Beside.{Beside}
 use Rattle.marks.specs.declared.operators.Beside.the-variants.{After, Before}
 use Rattle.marks.specs.Equations.{besideOf, watched, stepOn, watchedTruth, markBeside, operatorMark, expected}
-use Rattle.marks.specs.Parts.{running, closesBy, closes, breaks, equationOutcome, closingOutcome}
-use Rattle.marks.specs.inner.Tables.{wrapsBy, wraps}
+use Rattle.marks.specs.Parts.{closes, breaks, equationOutcome, closingOutcome}
 use Rattle.marks.proofs.Tests.{beq-false, beq-T}
 use Rattle.marks.proofs.Rows.{lastRow, rowAt, first-position, is-row, row-0, last-is-row, row-after, after-row, next-position, after-last-row}
 use Rattle.marks.proofs.Endless.{besideAt, markAt, due}
 use Rattle.marks.proofs.Comparisons.{Judged, steady-iff}
+use Rattle.marks.proofs.ByMarks.{wrapsBy, wraps, met-truth, closes-by-marks}
 
 -- ---- an equation by the mark beside, on rows and at positions: the marks k are G of the marks m beside
 
@@ -83,14 +83,14 @@ module _ (plan : List ℕ) (hC : 1 ≤ cycleRows plan) (k m : ℕ → Bool) (G :
 
 -- ---- parts
 
--- What an operator sees of the row beside is the mark that it watches, where its truth is its mark.
-pub truth-watched : (mark : ℕ → ℕ → Bool) (o : Operator) (i row : ℕ) {own : Bool} → own ≡ mark i row → watchedTruth mark o own row ≡ mark (watched o i) row
-truth-watched mark (One o a) i row e = refl
-truth-watched mark (Two o a b) i row e = e
+-- What an operator sees of its own marks is the marks that it watches.
+watched-as : (mark : ℕ → ℕ → Bool) (o : Operator) (i : ℕ) (Q : (ℕ → Bool) → Type 0) → Q (mark (watched o i)) ↔ Q (λ row. watchedTruth mark o (mark i row) row)
+watched-as mark (One o a) i Q = Iff·rfl
+watched-as mark (Two o a b) i Q = Iff·rfl
 
 module _ (plan : List ℕ) (mark : ℕ → ℕ → Bool) where
   abbrev pub Meets : View → ℕ → Type 0
-  Meets p i = (t : ℕ) → markAt plan mark i t ≡ due plan mark p i t
+  Meets p i = (t : ℕ) → markAt plan mark i t ≡ due plan mark p (markAt plan mark i) t
 
   -- what the mark of part i on a row has to be
   abbrev pub expectedOn : View → ℕ → ℕ → Bool
@@ -107,38 +107,13 @@ module _ (plan : List ℕ) (mark : ℕ → ℕ → Bool) where
 
   module _ (hC : 1 ≤ cycleRows plan) where
     -- What the equation asks on a row is what is due at the row's first position.
-    pub expected-due : (p : View) (i row : ℕ) → row < rows plan → expectedOn p i row ≡ due plan mark p i row
+    pub expected-due : (p : View) (i row : ℕ) → row < rows plan → expectedOn p i row ≡ due plan mark p (markAt plan mark i) row
     unfolding expected operatorMark due
     expected-due (view.Atom x) i row l = refl
     expected-due (view.Operator o) i row l =
-        ap₂ (stepOn mark o) (sym (first-position plan row l)) (beside-same plan hC (mark i) (mark (watched o i)) (stepOn mark o) (besideOf o) row l)
-
-    -- ---- closing, by the part's truth and by its marks
-
-    module _ (o : Operator) (i : ℕ) (first : Bool) (met : RowsMet plan hC (mark i) (mark (watched o i)) (stepOn mark o) (Before first)) where
-      -- The truth of a part whose marks meet the equation is its marks.
-      running-marks : (row : ℕ) → row < rows plan → running (startRows plan) (cycleRows plan) mark o first row ≡ mark i row
-      unfolding running markBeside
-      running-marks zero l = sym (met 0 l)
-      running-marks (suc row) l = ap (stepOn mark o (suc row)) (truth-watched mark o i row (running-marks row (omega arith))) ∙ sym (met (suc row) l)
-
-      closes-wraps : closesBy (startRows plan) (cycleRows plan) mark (Before first) o
-          ≡ Bool·beq (mark i (startRows plan)) (stepOn mark o (startRows plan) (mark (watched o i) (lastRow plan)))
-      unfolding closesBy rows
-      closes-wraps =
-          ap₂ Bool·beq (running-marks (startRows plan) (omega arith))
-          (ap (stepOn mark o (startRows plan)) (truth-watched mark o i (lastRow plan) (running-marks (lastRow plan) (last-is-row plan hC))))
-
-    -- Where its marks meet the equation, an operator closes by its truth exactly where it does by its marks.
-    pub closes-by-marks : (o : Operator) (i : ℕ) → OnRows (view.Operator o) i
-        → closes (startRows plan) (cycleRows plan) mark o ≡ wraps (startRows plan) (cycleRows plan) mark o i
-    unfolding closes closesBy wraps wrapsBy expected operatorMark
-    closes-by-marks o i met = go (besideOf o) met
-      where
-        go : (s : Beside) → RowsMet plan hC (mark i) (mark (watched o i)) (stepOn mark o) s
-            → closesBy (startRows plan) (cycleRows plan) mark s o ≡ wrapsBy s (startRows plan) (cycleRows plan) mark o i
-        go After met = refl
-        go (Before first) met = closes-wraps o i first met
+        watched-as mark o i (λ m. stepOn mark o row (markBeside (startRows plan) (cycleRows plan) (besideOf o) (mark (watched o i)) row)
+        ≡ stepOn mark o (rowAt plan row) (besideAt (besideOf o) (λ t. m (rowAt plan t)) row)) .0
+        (ap₂ (stepOn mark o) (sym (first-position plan row l)) (beside-same plan hC (mark i) (mark (watched o i)) (stepOn mark o) (besideOf o) row l))
 
     -- The test of closing by marks is what it is of rows.
     wraps-iff : (o : Operator) (i : ℕ) → T (wraps (startRows plan) (cycleRows plan) mark o i) ↔ Wrapped plan hC (mark i) (mark (watched o i)) (stepOn mark o) (besideOf o)
@@ -149,35 +124,40 @@ module _ (plan : List ℕ) (mark : ℕ → ℕ → Bool) where
         go After = Iff·rfl
         go (Before first) = beq-T (mark i (startRows plan)) (stepOn mark o (startRows plan) (mark (watched o i) (lastRow plan)))
 
-    operator-meets : (o : Operator) (i : ℕ) → (OnRows (view.Operator o) i × (closingOutcome plan mark (view.Operator o) i ≡ Clear)) ↔ Meets (view.Operator o) i
-    unfolding closingOutcome expected operatorMark due
+    operator-meets : (o : Operator) (i : ℕ) → ((closingOutcome plan mark (view.Operator o) i ≡ Clear) × OnRows (view.Operator o) i) ↔ Meets (view.Operator o) i
+    unfolding closingOutcome expected operatorMark due rows
     operator-meets o i =
         Iff·trans (
-          λ h. (h .0, wraps-iff o i .0 (subst T (closes-by-marks o i (h .0)) (closing .0 (h .1)))),
-          λ h. (h .0, closing .1 (subst⁻¹ T (closes-by-marks o i (h .0)) (wraps-iff o i .1 (h .1)))),
-        ) (unrolled plan hC (mark i) (mark (watched o i)) (stepOn mark o) (besideOf o))
+          λ h. (h .1, wraps-iff o i .0 (subst T (by-marks (h .1)) (closing .0 (h .0)))),
+          λ h. (closing .1 (subst⁻¹ T (by-marks (h .0)) (wraps-iff o i .1 (h .1))), h .0),
+        ) (Iff·trans (unrolled plan hC (mark i) (mark (watched o i)) (stepOn mark o) (besideOf o))
+        (watched-as mark o i (λ m. (t : ℕ) → markAt plan mark i t ≡ stepOn mark o (rowAt plan t) (besideAt (besideOf o) (λ s. m (rowAt plan s)) t))))
       where
+        by-marks : OnRows (view.Operator o) i → closes (startRows plan) (cycleRows plan) mark o ≡ wraps (startRows plan) (cycleRows plan) mark o i
+        by-marks met =
+            closes-by-marks (startRows plan) (cycleRows plan) mark o i hC (met-truth (startRows plan) (cycleRows plan) mark o i met)
+
         closing : (closingOutcome plan mark (view.Operator o) i ≡ Clear) ↔ T (closes (startRows plan) (cycleRows plan) mark o)
         closing = unless-clear-T (closes (startRows plan) (cycleRows plan) mark o) (Closing i (startRows plan))
 
     atom-meets : (x : Atom) (i : ℕ) (F : ℕ → Type 0) → Judged plan x F
-        → (OnRows (view.Atom x) i × (closingOutcome plan mark (view.Atom x) i ≡ Clear)) ↔ Meets (view.Atom x) i
+        → ((closingOutcome plan mark (view.Atom x) i ≡ Clear) × OnRows (view.Atom x) i) ↔ Meets (view.Atom x) i
     unfolding closingOutcome expected due
     atom-meets x i F judged =
         let steady = steady-iff plan hC x i F judged in (
-          λ h t. h .0 (rowAt plan t) (is-row plan hC t) ∙ steady .0 (h .1) t,
+          λ h t. h .1 (rowAt plan t) (is-row plan hC t) ∙ steady .0 (h .0) t,
           λ h. (
-            λ row l. ap (mark i) (sym (first-position plan row l)) ∙ h row,
             steady .1 (λ t. sym (h (rowAt plan t)) ∙ ap (mark i) (first-position plan (rowAt plan t) (is-row plan hC t)) ∙ h t),
+            λ row l. ap (mark i) (sym (first-position plan row l)) ∙ h row,
           ),
         )
 
-    -- A part passes refusals 9 and 10 exactly where it meets its equation at every position; of an atom, where its verdicts are
+    -- A part passes refusals 10 and 9 exactly where it meets its equation at every position; of an atom, where its verdicts are
     -- right.
     pub meets-iff : (p : View) (i : ℕ) → ((x : Atom) → p ≡ view.Atom x → (F : ℕ → Type 0) × Judged plan x F)
-        → ((equationOutcome plan mark p i ≡ Clear) × (closingOutcome plan mark p i ≡ Clear)) ↔ Meets p i
-    meets-iff p i judged = Iff·trans (Iff·and (equation-clear p i) Iff·rfl) (by-view p judged)
+        → ((closingOutcome plan mark p i ≡ Clear) × (equationOutcome plan mark p i ≡ Clear)) ↔ Meets p i
+    meets-iff p i judged = Iff·trans (Iff·and Iff·rfl (equation-clear p i)) (by-view p judged)
       where
-        by-view : (p : View) → ((x : Atom) → p ≡ view.Atom x → (F : ℕ → Type 0) × Judged plan x F) → (OnRows p i × (closingOutcome plan mark p i ≡ Clear)) ↔ Meets p i
+        by-view : (p : View) → ((x : Atom) → p ≡ view.Atom x → (F : ℕ → Type 0) × Judged plan x F) → ((closingOutcome plan mark p i ≡ Clear) × OnRows p i) ↔ Meets p i
         by-view (view.Atom x) judged = atom-meets x i (judged x refl .0) (judged x refl .1)
         by-view (view.Operator o) judged = operator-meets o i

@@ -1,4 +1,4 @@
--- What refusals 9, 10 and 11 of a part say of the published truth, over any n parts, plan and marks. Assumes nothing.
+-- What refusals 10, 9 and 11 of a part say of the published truth, over any n parts, plan and marks. Assumes nothing.
 use Prim.Native.Nat.{ℕ, _≤_, _<_}
 use mathlib.Core.Path.{_≡_}
 use mathlib.Core.List.{List}
@@ -25,6 +25,8 @@ module _ (parts : ℕ → View) (n : ℕ) (plan : List ℕ) (mark : ℕ → ℕ 
   -- 9 of part i and a row
   pub record EquationMeans (i row : ℕ) : Type 0 where
     pub fault : FirstFault i
+    -- the plan is not at fault there: the part is settled
+    pub settled : PartSettled parts plan i
     pub row-there : row < rows plan
     -- the marks of the part are not all true:
     pub not-true : ¬ PartMarksTrue parts plan i mark
@@ -43,7 +45,8 @@ module _ (parts : ℕ → View) (n : ℕ) (plan : List ℕ) (mark : ℕ → ℕ 
     -- of a comparison it is the lowest such row
     pub lowest : isAtom (parts i) ≡ true → (q : ℕ) → startRows plan ≤ q → q < row → SameOn plan (Truth parts plan i) q
 
-  -- 11 of part i: its witness is not in order
+  -- 11 of part i: it is settled, and its witness is not in order
   pub record WitnessMeans (i : ℕ) : Type 0 where
     pub fault : FirstFault i
+    pub settled : PartSettled parts plan i
     pub not-in-order : ¬ PartWitnessed parts plan i mark witness
