@@ -50,7 +50,7 @@ module _ (plan : List ℕ) (few : rows plan ≤ 256) (n : ℕ) (parts : n ≤ 64
     pub part-small : (p : View) (w : ℕ) → RefusesOnly Small (partOutcome plan mark p i w)
     unfolding partOutcome equationOutcome witnessOutcome
     part-small p w =
-        orElse-only Small (equationOutcome plan mark p i) (closingOutcome plan mark p i orElse witnessOutcome plan mark p i w)
+        orElse-only Small (closingOutcome plan mark p i) (equationOutcome plan mark p i orElse witnessOutcome plan mark p i w) (closing-small p)
+        (λ _. orElse-only Small (equationOutcome plan mark p i) (witnessOutcome plan mark p i w)
         (atLowest-only Small (breaks plan mark p i) (rows plan) (Equation i) (λ j h. omega arith))
-        (λ _. orElse-only Small (closingOutcome plan mark p i) (witnessOutcome plan mark p i w) (closing-small p)
         (λ _. unless-only Small (witnessInOrder (startRows plan) (cycleRows plan) mark p i w) (Witness i) (omega arith)))

@@ -1,10 +1,9 @@
 -- Refusals 9 to 11 of one part by the tests that the code makes, with the sizes that it has read. Assumes nothing.
-use Prim.Native.Nat.{ℕ, _+_, _-_, _≤_, _<_}
+use Prim.Native.Nat.{ℕ, _+_, _≤_, _<_}
 use native.Mathlib.Omega.{arith}
 use mathlib.Core.Path.{_≡_, refl, sym, ap, ap₂, _∙_, subst, subst₂}
 use mathlib.Core.List.{List}
 use mathlib.Core.Bool.{Bool, true, false, not, Bool·beq, false≢true, and-eq-true-iff}
-use lib.Dec.{T}
 use Rattle.cltlb.specs.Truth.{AtomHolds}
 use Rattle.cltlb.specs.Fits.{atomFits, namesLower, viewFits}
 use Rattle.cltlb.specs.declared.Atom.{Atom}
@@ -13,9 +12,9 @@ use Rattle.cltlb.specs.declared.View.{View}
 use Rattle.cltlb.specs.declared.View.the-variants as view
 use Rattle.cltlb.proofs.Fits.{atom-fits, operator-fits}
 use Rattle.refusal.specs.Lowest.{lowestFrom}
-use Rattle.refusal.specs.First.{_orElse_, unless, refusedAt}
+use Rattle.refusal.specs.First.{unless, refusedAt}
 use Rattle.refusal.specs.declared.Outcome.{Outcome}
-use Rattle.refusal.specs.declared.Outcome.the-variants.{Clear, Refused}
+use Rattle.refusal.specs.declared.Outcome.the-variants.{Clear}
 use Rattle.refusal.specs.declared.Refusal.the-variants.{Closing, Witness}
 use Rattle.refusal.proofs.Lowest.{from-none}
 use Rattle.refusal.proofs.First.{refusedAt-clear}
@@ -34,15 +33,15 @@ use Rattle.verdict.specs.Comparisons.{comparisonOf}
 use Rattle.verdict.specs.Rows.{atomAt, judgeRow, verdictOf}
 use Rattle.verdict.proofs.Verdicts.{judged, atom-tells}
 use Rattle.table.specs.Layout.{marked}
-use Rattle.marks.specs.Equations.{operatorMark, expected}
-use Rattle.marks.specs.Parts.{isChanges, witnessInOrder, breaks, equationOutcome, steadyOutcome, closingOutcome, witnessOutcome}
-use Rattle.marks.specs.inner.Tables.{meetsOn, wraps, clearOf}
+use Rattle.marks.specs.Equations.{expected}
+use Rattle.marks.specs.Parts.{isChanges, closes, witnessInOrder, breaks, equationOutcome, steadyOutcome, closingOutcome, witnessOutcome}
+use Rattle.marks.specs.inner.Tables.{meetsOn, clearOf}
 use Rattle.table.specs.inner.Tables.{allBelow}
-use Rattle.marks.specs.inner.PartsRead.{Met, PartClear}
+use Rattle.marks.specs.inner.PartsRead.{PartClear}
 use Rattle.lanes.specs.inner.Agreement.{verdictAgrees}
 use Rattle.table.proofs.AllBelow.{all-each}
-use Rattle.marks.proofs.Tests.{beq-T}
-use Rattle.marks.proofs.Unrolled.{equation-clear, closes-by-marks}
+use Rattle.marks.proofs.Unrolled.{equation-clear}
+use Rattle.marks.proofs.Swept.{met-each}
 
 -- ---- atoms
 
@@ -96,18 +95,8 @@ module _ (plan : List ℕ) (hC : 1 ≤ cycleRows plan) (mark : ℕ → ℕ → B
 module _ (plan : List ℕ) (mark : ℕ → ℕ → Bool) (i : ℕ) (o : Operator) where
   met-equation : allBelow (meetsOn (startRows plan) (cycleRows plan) mark o i) (startRows plan + cycleRows plan) ≡ true
       → equationOutcome plan mark (view.Operator o) i ≡ Clear
-  unfolding expected rows meetsOn
-  met-equation h =
-      equation-clear plan mark (view.Operator o) i .1 (λ row l.
-      beq-T (mark i row) (operatorMark (startRows plan) (cycleRows plan) mark o i row) .0
-      (subst T (sym (all-each (meetsOn (startRows plan) (cycleRows plan) mark o i) (startRows plan + cycleRows plan) h row l)) tt))
-
-  -- closing, by the marks, which meet the equation
-  by-marks : 1 ≤ cycleRows plan → equationOutcome plan mark (view.Operator o) i ≡ Clear
-      → unless (wraps (startRows plan) (cycleRows plan) mark o i) (Closing i (startRows plan)) ≡ closingOutcome plan mark (view.Operator o) i
-  unfolding closingOutcome
-  by-marks hC e =
-      ap (λ b. unless b (Closing i (startRows plan))) (sym (closes-by-marks plan mark hC o i (equation-clear plan mark (view.Operator o) i .0 e)))
+  unfolding expected rows
+  met-equation all = equation-clear plan mark (view.Operator o) i .1 (met-each (startRows plan) (cycleRows plan) mark i o all)
 
 -- ---- with the sizes that were read
 
@@ -134,23 +123,23 @@ module _ (plan table : List ℕ) {z : Sizes} (fit : Fitting plan z) (i : ℕ) wh
 
       pub atom-clear : (n : ℕ) → viewFits (z .channels) n p ≡ true → {k : Comparison} → k ≡ comparisonOf x → {r : Bool}
           → r ≡ allBelow (λ row. verdictAgrees (judgeRow plan k row) (marked (allRows z) table i row)) (allRows z) → r ≡ true → PartClear plan table z p i
-      unfolding Met verdictOf
+      unfolding verdictOf
       atom-clear n h {k} g {r} c t =
           subst (λ (q : View). PartClear plan table z q i) (sym e) (record {
-            equation = own .0;
-            closing = own .1;
+            closing = own .0;
+            equation = own .1;
           })
         where
           d : r ≡ allBelow (λ row. verdictAgrees (verdictOf plan x row) (marked (allRows z) table i row)) (allRows z)
           d = c ∙ ap (λ (k : Comparison). allBelow (λ row. verdictAgrees (judgeRow plan k row) (marked (allRows z) table i row)) (allRows z)) g
 
-          own : (equationOutcome plan (marked (allRows z) table) (view.Atom x) i ≡ Clear) × (closingOutcome plan (marked (allRows z) table) (view.Atom x) i ≡ Clear)
+          own : (closingOutcome plan (marked (allRows z) table) (view.Atom x) i ≡ Clear) × (equationOutcome plan (marked (allRows z) table) (view.Atom x) i ≡ Clear)
           own =
               at-sizes fit (λ p c. r ≡ allBelow (λ row. verdictAgrees (verdictOf plan x row) (marked (p + c) table i row)) (p + c)
-              → (equationOutcome plan (marked (p + c) table) (view.Atom x) i ≡ Clear) × (closingOutcome plan (marked (p + c) table) (view.Atom x) i ≡ Clear))
+              → (closingOutcome plan (marked (p + c) table) (view.Atom x) i ≡ Clear) × (equationOutcome plan (marked (p + c) table) (view.Atom x) i ≡ Clear))
               (λ d. (
-                agree-equation plan (own-cycle fit) (marked (startRows plan + cycleRows plan) table) (z .channels) i x (atom-there n h) (sym d ∙ t),
                 agree-closing plan (own-cycle fit) (marked (startRows plan + cycleRows plan) table) (z .channels) i x (atom-there n h) (sym d ∙ t),
+                agree-equation plan (own-cycle fit) (marked (startRows plan + cycleRows plan) table) (z .channels) i x (atom-there n h) (sym d ∙ t),
               )) d
 
       pub atom-closing : {r : Outcome} → r ≡ steadyOutcome plan x i → r ≡ closingOutcome plan (marked (allRows z) table) p i
@@ -162,39 +151,27 @@ module _ (plan table : List ℕ) {z : Sizes} (fit : Fitting plan z) (i : ℕ) wh
       pub operator-there : (n : ℕ) → viewFits (z .channels) n p ≡ true → namesLower n o ≡ true
       operator-there n h = operator-fits (z .channels) n o (subst (λ (q : View). viewFits (z .channels) n q ≡ true) e h)
 
-      closing-is : Met plan table z p i → {b : Bool} → b ≡ wraps (z .start) (z .cycle) (marked (allRows z) table) o i
-          → unless b (Closing i (z .start)) ≡ closingOutcome plan (marked (allRows z) table) p i
-      unfolding Met
-      closing-is m {b} d =
-          at-sizes fit (λ p c. equationOutcome plan (marked (p + c) table) (view.Operator o) i ≡ Clear → b ≡ wraps p c (marked (p + c) table) o i
-          → unless b (Closing i p) ≡ closingOutcome plan (marked (p + c) table) (view.Operator o) i)
-          (λ m d. ap (λ b. unless b (Closing i (startRows plan))) d ∙ by-marks plan (marked (startRows plan + cycleRows plan) table) i o (own-cycle fit) m)
-          (subst (λ (q : View). equationOutcome plan (marked (allRows z) table) q i ≡ Clear) e m) d
+      pub operator-closing : {b : Bool} {r : Outcome} → b ≡ closes (z .start) (z .cycle) (marked (allRows z) table) o → r ≡ unless b (Closing i (z .start))
+          → r ≡ closingOutcome plan (marked (allRows z) table) p i
+      unfolding closingOutcome
+      operator-closing {b} d h =
+          h
+          ∙ at-sizes fit (λ p c. b ≡ closes p c (marked (p + c) table) o → unless b (Closing i p) ≡ closingOutcome plan (marked (p + c) table) (view.Operator o) i)
+          (ap (λ b. unless b (Closing i (startRows plan)))) d
           ∙ sym (ap (λ (q : View). closingOutcome plan (marked (allRows z) table) q i) e)
 
-      pub closes-clear : Met plan table z p i → {b : Bool} → b ≡ wraps (z .start) (z .cycle) (marked (allRows z) table) o i → b ≡ true
-          → Clear ≡ closingOutcome plan (marked (allRows z) table) p i
-      unfolding unless
-      closes-clear m d t = sym (ap (λ b. unless b (Closing i (z .start))) t) ∙ closing-is m d
-
-      pub closes-refused : Met plan table z p i → {b : Bool} → b ≡ wraps (z .start) (z .cycle) (marked (allRows z) table) o i → b ≡ false
-          → Refused (Closing i (z .start)) ≡ closingOutcome plan (marked (allRows z) table) p i
-      unfolding unless
-      closes-refused m d t = sym (ap (λ b. unless b (Closing i (z .start))) t) ∙ closing-is m d
-
-      met-rows : {a : Bool} → a ≡ allBelow (meetsOn (z .start) (z .cycle) (marked (allRows z) table) o i) (allRows z) → a ≡ true → Met plan table z p i
-      unfolding Met
-      met-rows {a} d t =
+      operator-met : allBelow (meetsOn (z .start) (z .cycle) (marked (allRows z) table) o i) (allRows z) ≡ true
+          → equationOutcome plan (marked (allRows z) table) p i ≡ Clear
+      operator-met all =
           subst (λ (q : View). equationOutcome plan (marked (allRows z) table) q i ≡ Clear) (sym e)
-          (at-sizes fit (λ p c. a ≡ allBelow (meetsOn p c (marked (p + c) table) o i) (p + c) → equationOutcome plan (marked (p + c) table) (view.Operator o) i ≡ Clear)
-          (λ d. met-equation plan (marked (startRows plan + cycleRows plan) table) i o (sym d ∙ t)) d)
+          (at-sizes fit (λ p c. allBelow (meetsOn p c (marked (p + c) table) o i) (p + c) ≡ true → equationOutcome plan (marked (p + c) table) (view.Operator o) i ≡ Clear)
+          (met-equation plan (marked (startRows plan + cycleRows plan) table) i o) all)
 
       pub operator-clear : {r : Bool} → r ≡ clearOf (z .start) (z .cycle) (marked (allRows z) table) o i → r ≡ true → PartClear plan table z p i
-      unfolding clearOf
+      unfolding clearOf unless
       operator-clear d t =
-          let q = and-eq-true-iff (allBelow (meetsOn (z .start) (z .cycle) (marked (allRows z) table) o i) (allRows z)) (wraps (z .start) (z .cycle) (marked (allRows z) table) o i) .0 (sym d ∙ t) in
-          let met = met-rows refl (q .0) in
-          record { equation = met; closing = sym (closes-clear met refl (q .1)) }
+          let q = and-eq-true-iff (allBelow (meetsOn (z .start) (z .cycle) (marked (allRows z) table) o i) (allRows z)) (closes (z .start) (z .cycle) (marked (allRows z) table) o) .0 (sym d ∙ t) in
+          record { closing = sym (operator-closing (sym (q .1)) refl); equation = operator-met (q .0) }
 
   -- the witness
   pub witness-told : (p : View) (w : ℕ) {b : Bool} → b ≡ witnessInOrder (z .start) (z .cycle) (marked (allRows z) table) p i w
@@ -210,13 +187,3 @@ module _ (plan table : List ℕ) {z : Sizes} (fit : Fitting plan z) (i : ℕ) wh
   steady-starts x =
       at-sizes fit (λ p c. steadyOutcome plan x i ≡ searchFrom (λ row. isChanges (verdictOf plan x row)) (p + c) (Closing i) p)
       (ap (λ (n : ℕ). refusedAt (Closing i) (lowestFrom (λ row. isChanges (verdictOf plan x row)) (startRows plan) n)) (omega arith))
-
--- ---- a first test that refuses, and one that does not
-
-pub first-refuses : {o : Outcome} {r : _} (x : Outcome) → o ≡ Refused r → Refused r ≡ (o orElse x)
-unfolding _orElse_
-first-refuses x e = simp e
-
-pub first-clears : {o : Outcome} (x : Outcome) → o ≡ Clear → x ≡ (o orElse x)
-unfolding _orElse_
-first-clears x e = simp e

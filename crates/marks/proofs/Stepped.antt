@@ -1,8 +1,8 @@
--- The mark of an operator on a row, as the code comes to it. Assumes nothing.
-use Prim.Native.Nat.{ℕ, suc, _-_, _<_}
+-- The mark of an operator on a row, its truth there, and its closing, as the code comes to them. Assumes nothing.
+use Prim.Native.Nat.{ℕ, suc, _+_, _-_, _≤_, _<_}
 use native.Mathlib.Omega.{arith}
 use mathlib.Core.Path.{_≡_, sym, ap, ap₂, _∙_, subst}
-use mathlib.Core.Bool.{Bool, true}
+use mathlib.Core.Bool.{Bool, true, Bool·beq}
 use Rattle.cltlb.specs.Fits.{namesLower}
 use Rattle.cltlb.specs.declared.Atom.{Atom}
 use Rattle.cltlb.specs.declared.View.{View}
@@ -12,10 +12,12 @@ use Rattle.cltlb.specs.declared.Binary.{Binary}
 use Rattle.cltlb.specs.declared.Operator.{Operator}
 use Rattle.cltlb.specs.declared.Operator.the-variants.{One, Two}
 use Rattle.cltlb.proofs.Fits.{one-lower, two-lower}
-use Rattle.plan.specs.Positions.{after}
+use Rattle.plan.specs.Positions.{last, after}
 use Rattle.marks.specs.declared.operators.Beside.{Beside}
 use Rattle.marks.specs.declared.operators.Beside.the-variants.{After, Before}
-use Rattle.marks.specs.Equations.{besideOf, watched, markOne, markTwo, stepOn, markBeside, operatorMark, expected}
+use Rattle.marks.specs.Equations.{besideOf, watched, markOne, markTwo, stepOn, watchedTruth, markBeside, operatorMark, expected}
+use Rattle.marks.specs.Parts.{running, closesBy, closes}
+use Rattle.marks.specs.inner.Tables.{TruthMarked}
 
 -- ---- the parts that an operator names, and the one that it watches, are there
 
@@ -76,3 +78,47 @@ module _ (P C : ℕ) (mark : ℕ → ℕ → Bool) (atoms : Atom → ℕ → Boo
   pub operator-expected : {o : Operator} → p ≡ view.Operator o → r ≡ operatorMark P C mark o i row → r ≡ expected P C mark atoms p i row
   unfolding expected
   operator-expected e h = rw e h
+
+-- ---- its truth, row after row, where it looks back
+
+module _ (mark : ℕ → ℕ → Bool) (own : Bool) (row : ℕ) {o : Operator} where
+  pub sees-named : {sort : Unary} {a : ℕ} {r : Bool} → o ≡ One sort a → r ≡ mark a row → r ≡ watchedTruth mark o own row
+  sees-named e h = h ∙ sym (ap (λ (x : Operator). watchedTruth mark x own row) e)
+
+module _ (P C : ℕ) (mark : ℕ → ℕ → Bool) (o : Operator) (first : Bool) where
+  pub first-truth : {r : Bool} → r ≡ stepOn mark o 0 first → r ≡ running P C mark o first 0
+  unfolding running
+  first-truth h = h
+
+  pub next-truth : (row : ℕ) {own seen r : Bool} → own ≡ running P C mark o first row → seen ≡ watchedTruth mark o own row → r ≡ stepOn mark o (row + 1) seen
+      → r ≡ running P C mark o first (row + 1)
+  unfolding running
+  next-truth row {own} {seen} {r} d e h =
+      let one-on : row + 1 ≡ suc row = omega arith in
+      h ∙ ap₂ (stepOn mark o) one-on (e ∙ ap (λ (x : Bool). watchedTruth mark o x row) d) ∙ ap (running P C mark o first) (sym one-on)
+
+  pub last-truth : {row at : ℕ} {r : Bool} → at ≤ row → row ≤ at → r ≡ running P C mark o first at → r ≡ running P C mark o first row
+  last-truth {row} {at} h g e = let there : at ≡ row = omega arith in e ∙ ap (running P C mark o first) there
+
+-- ---- closing
+
+module _ (P C : ℕ) (mark : ℕ → ℕ → Bool) (o : Operator) where
+  pub turned : (start end : Bool) {seen step r : Bool} → seen ≡ watchedTruth mark o end (P + C - 1) → step ≡ stepOn mark o P seen → r ≡ Bool·beq start step
+      → r ≡ Bool·beq start (stepOn mark o P (watchedTruth mark o end (last P C)))
+  unfolding last
+  turned start end d e h = h ∙ ap (Bool·beq start) (e ∙ ap (stepOn mark o P) d)
+
+  pub ahead-closes : besideOf o ≡ After → true ≡ closes P C mark o
+  unfolding closes closesBy
+  ahead-closes s = ap (λ (s : Beside). closesBy P C mark s o) (sym s)
+
+  pub back-closes : {first start end r : Bool} → besideOf o ≡ Before first → start ≡ running P C mark o first P → end ≡ running P C mark o first (P + C - 1)
+      → r ≡ Bool·beq start (stepOn mark o P (watchedTruth mark o end (last P C))) → r ≡ closes P C mark o
+  unfolding closes closesBy last
+  back-closes s d e h =
+      h ∙ ap₂ (λ (x y : Bool). Bool·beq x (stepOn mark o P (watchedTruth mark o y (P + C - 1)))) d e ∙ ap (λ (s : Beside). closesBy P C mark s o) (sym s)
+
+  -- where its marks are its truth
+  pub made-closes : 1 ≤ C → {i : ℕ} → TruthMarked P C mark o i → {first start end r : Bool} → besideOf o ≡ Before first → start ≡ mark i P → end ≡ mark i (P + C - 1)
+      → r ≡ Bool·beq start (stepOn mark o P (watchedTruth mark o end (last P C))) → r ≡ closes P C mark o
+  made-closes hC truth {first} s d e = back-closes s (d ∙ truth first s P (omega arith)) (e ∙ truth first s (P + C - 1) (omega arith))

@@ -1,9 +1,10 @@
 -- The equations of operators on all rows, as the sweeps make them. Assumes nothing.
 use Prim.Native.Nat.{ℕ, suc, _+_, _*_, _-_, _≤_, _<_}
 use native.Mathlib.Omega.{arith}
-use mathlib.Core.Path.{_≡_, refl, sym, ap, ap₂, _∙_}
+use mathlib.Core.Path.{_≡_, refl, sym, ap, ap₂, _∙_, subst}
 use mathlib.Core.Bool.{Bool, true, false, not, _&&_, _||_, Bool·beq, and-self, or-self, and-comm, or-comm, and-true}
 use mathlib.Core.List.{List}
+use lib.Dec.{T}
 use lib.ListN.{length}
 use Rattle.cltlb.specs.declared.Unary.{Unary}
 use Rattle.cltlb.specs.declared.Unary.the-variants as unary
@@ -19,12 +20,15 @@ use Rattle.table.specs.Layout.{markByte, marked}
 use Rattle.marks.specs.declared.operators.Beside.{Beside}
 use Rattle.marks.specs.declared.operators.Beside.the-variants.{After, Before}
 use Rattle.marks.specs.Equations.{besideOf, watched, markTwo, stepOn, markBeside, operatorMark}
-use Rattle.marks.specs.inner.Tables.{meetsOn, wrapsBy, wraps, clearOf, aheadOf, behindOf, copyTest, stepTest, MarkTable}
+use Rattle.marks.specs.Parts.{closesBy, closes}
+use Rattle.marks.specs.inner.Tables.{meetsOn, clearOf, aheadOf, behindOf, copyTest, stepTest, MarkTable}
 use Rattle.table.specs.inner.Tables.{allBelow, copyOf, copiesOf, stepOf, stepsOf, markIn, mostBytes, MarkBytes}
 use Rattle.table.proofs.Places.{part-cells, area}
 use Rattle.table.proofs.Flips.{dual-step}
 use Rattle.table.proofs.ByteTests.{some-bytes}
-use Rattle.table.proofs.AllBelow.{all-ext, all-first, all-last}
+use Rattle.table.proofs.AllBelow.{all-each, all-ext, all-first, all-last}
+use Rattle.marks.proofs.Tests.{beq-T}
+use Rattle.marks.proofs.ByMarks.{wrapsBy, wraps, met-truth, closes-by-marks}
 
 -- ---- from the lone rows and the sweep of the others to all rows
 
@@ -91,24 +95,39 @@ module _ (P C : ℕ) (mark : ℕ → ℕ → Bool) (i : ℕ) (o : Operator) wher
   unfolding meetsOn operatorMark
   beside-is s e row = ap (λ (s : Beside). rowTest row (markBeside P C s (mark (watched o i)) row)) (sym e)
 
+  -- all rows meet the equation
+  pub met-each : allBelow (meetsOn P C mark o i) (P + C) ≡ true → (row : ℕ) → row < P + C → mark i row ≡ operatorMark P C mark o i row
+  unfolding meetsOn
+  met-each all row l = beq-T (mark i row) (operatorMark P C mark o i row) .0 (subst T (sym (all-each (meetsOn P C mark o i) (P + C) all row l)) tt)
+
+  -- Where they do, closing by the marks is closing by the truth.
+  by-truth : 1 ≤ C → (allBelow (meetsOn P C mark o i) (P + C) && wraps P C mark o i) ≡ clearOf P C mark o i
+  unfolding clearOf
+  by-truth hC = go (allBelow (meetsOn P C mark o i) (P + C)) refl
+    where
+      go : (all : Bool) → allBelow (meetsOn P C mark o i) (P + C) ≡ all → (all && wraps P C mark o i) ≡ (all && closes P C mark o)
+      go true e = sym (closes-by-marks P C mark o i hC (met-truth P C mark o i (met-each e)))
+      go false e = refl
+
   -- a test of each row and the row beside it that is the equation
   module _ (test : ℕ → ℕ → Bool) (same : (row beside : ℕ) → test row beside ≡ rowTest row (mark (watched o i) beside)) where
     -- X, U and R; and not, and, or, whose equations look at no row beside
     ahead-clear : besideOf o ≡ After → aheadOf P C test ≡ clearOf P C mark o i
-    unfolding aheadOf clearOf wraps wrapsBy markBeside
+    unfolding aheadOf clearOf closes closesBy markBeside
     ahead-clear s =
         all-ext (λ row. test row (after P C row)) (meetsOn P C mark o i) (P + C) (λ row l. same row (after P C row) ∙ beside-is After s row)
         ∙ sym (and-true (allBelow (meetsOn P C mark o i) (P + C)))
-        ∙ ap (λ (s : Beside). allBelow (meetsOn P C mark o i) (P + C) && wrapsBy s P C mark o i) (sym s)
+        ∙ ap (λ (s : Beside). allBelow (meetsOn P C mark o i) (P + C) && closesBy P C mark s o) (sym s)
 
     -- Y, Z, S and T
     behind-clear : 1 ≤ C → (before : Bool) → besideOf o ≡ Before before → {first : Bool} → first ≡ rowTest 0 before
         → behindOf P C first test ≡ clearOf P C mark o i
-    unfolding behindOf clearOf wraps wrapsBy markBeside last
+    unfolding behindOf wraps wrapsBy markBeside last
     behind-clear hC before s e =
         ap₂ _&&_ (all-first (λ k. test (suc k) k) (meetsOn P C mark o i) (P + C - 1) (e ∙ beside-is (Before before) s 0)
         (λ k l. same (suc k) k ∙ beside-is (Before before) s (suc k)) ∙ ap (allBelow (meetsOn P C mark o i)) whole)
         (same P (P + C - 1) ∙ ap (λ (s : Beside). wrapsBy s P C mark o i) (sym s))
+        ∙ by-truth hC
       where
         whole : suc (P + C - 1) ≡ P + C
         whole = omega arith
@@ -223,21 +242,6 @@ module _ (P C : ℕ) (hC : 1 ≤ C) (table : List ℕ) (i a : ℕ) {m s : ℕ} (
 -- whichever operator it is
 pub clear-of : (P C : ℕ) (mark : ℕ → ℕ → Bool) (i : ℕ) {o q : Operator} {r : Bool} → o ≡ q → r ≡ clearOf P C mark q i → r ≡ clearOf P C mark o i
 clear-of P C mark i e h = h ∙ ap (λ (o : Operator). clearOf P C mark o i) (sym e)
-
--- ---- closing on its own
-
-module _ (P C : ℕ) (mark : ℕ → ℕ → Bool) (i : ℕ) (o : Operator) where
-  pub stepped-from : {k : ℕ} {x y : Bool} → k ≡ watched o i → x ≡ mark k (P + C - 1) → y ≡ stepOn mark o P x → y ≡ stepOn mark o P (mark (watched o i) (P + C - 1))
-  stepped-from e d h = h ∙ ap (stepOn mark o P) (d ∙ ap (λ (k : ℕ). mark k (P + C - 1)) e)
-
-  pub back-wraps : (first : Bool) → besideOf o ≡ Before first → {x y : Bool} → x ≡ mark i P → y ≡ stepOn mark o P (mark (watched o i) (P + C - 1))
-      → Bool·beq x y ≡ wraps P C mark o i
-  unfolding wraps wrapsBy last
-  back-wraps first s e f = ap₂ Bool·beq e f ∙ ap (λ (s : Beside). wrapsBy s P C mark o i) (sym s)
-
-  pub ahead-wraps : besideOf o ≡ After → true ≡ wraps P C mark o i
-  unfolding wraps wrapsBy
-  ahead-wraps s = ap (λ (s : Beside). wrapsBy s P C mark o i) (sym s)
 
 -- ---- bounds
 

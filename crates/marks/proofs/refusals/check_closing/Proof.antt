@@ -1,3 +1,4 @@
+use mathlib.Core.Path.{sym}
 use native.Mathlib.Omega.{arith}
 use denote.Ref.{now}
 use Rattle.marks.proofs.PartsChecked as law
@@ -6,70 +7,71 @@ use Rattle.marks.proofs.refusals.check_closing.Statement.{statement}
 use Rattle.marks.proofs.refusals.check_closing.Tie as tie
 use Rattle.marks.proofs.refusals.check_closing.Reads as reads
 use Rattle.marks.proofs.refusals.check_closing.Lts as lts
-use Rattle.marks.proofs.equations.wraps_round.Reads as wraps-round-reads
+use Rattle.marks.proofs.closing.closes.Reads as closes-reads
 use Rattle.marks.proofs.refusals.check_steady.Reads as check-steady-reads
+use Rattle.marks.proofs.refusals.closing_outcome.Reads as closing-outcome-reads
 
--- src/refusals.rt:120:20
+-- src/refusals.rt:136:9
+returns : tie.Need-returns
+returns c = sym (c .before .before .before .pre .1 (c .if1 .taken) .closing)
+
+-- src/refusals.rt:139:20
 enum-known-view : tie.Need-enum-known-view
 enum-known-view c = search needs
 
--- src/refusals.rt:120:29
+-- src/refusals.rt:139:29
 check-steady-requires : tie.Need-check-steady-requires
 check-steady-requires c κs =
-    let start = c .before .before .before .before .before in
+    let start = c .before .before .before .before .before .before in
     let view = c .before .view in
     (start .pre .0 .fits, law.atom-there (now (start .args .plan)) (now (start .args .table)) (start .pre .0 .fits) (start .args .i) _ (view .given .1) (start .args .n) (start .pre .0 .part-fits))
 
--- src/refusals.rt:121:24
+-- src/refusals.rt:140:24
 enum-known-view-2 : tie.Need-enum-known-view-2
 enum-known-view-2 c = search needs
 
--- src/refusals.rt:123:21
+-- src/refusals.rt:141:21
 add-w : tie.Need-add-w
 add-w c = search needs
 
--- src/refusals.rt:124:16
-wraps-round-requires : tie.Need-wraps-round-requires
-wraps-round-requires c κs =
-    let start = c .before .before .before .before .before .before in
+-- src/refusals.rt:142:39
+closes-requires : tie.Need-closes-requires
+closes-requires c κs =
+    let start = c .before .before .before .before .before .before .before in
     let view2 = c .before .before .view2 in
-    (start .pre .0 .sized, omega arith, start .pre .0 .fits .a-cycle, start .pre .0 .present, law.operator-there (now (start .args .plan)) (now (start .args .table)) (start .pre .0 .fits) (start .args .i) _ (view2 .given .1) (start .args .n) (start .pre .0 .part-fits))
+    (start .pre .0 .sized, omega arith, start .pre .0 .fits .a-cycle, law.operator-there (now (start .args .plan)) (now (start .args .table)) (start .pre .0 .fits) (start .args .i) _ (view2 .given .1) (start .args .n) (start .pre .0 .part-fits))
 
--- src/refusals.rt:108:1
-returns : tie.Need-returns
-returns c =
-    let start = c .before .before .before .before .before .before in
+-- src/refusals.rt:142:13
+closing-outcome-requires : tie.Need-closing-outcome-requires
+closing-outcome-requires c κs = search needs
+
+-- src/refusals.rt:123:1
+returns-2 : tie.Need-returns-2
+returns-2 c =
+    let start = c .before .before .before .before .before .before .before in
     let view = c .before .before .view in
     let check-steady = c .check-steady in
     law.atom-closing (now (start .args .plan)) (now (start .args .table)) (start .pre .0 .fits) (start .args .i) _ (view .given .1) (check-steady .ensures)
 
--- src/refusals.rt:108:1
-returns-2 : tie.Need-returns-2
-returns-2 c =
-    let start = c .before .before .before .before .before .before .before .before in
-    let view2 = c .before .before .before .before .view2 in
-    let wraps-round = c .before .wraps-round in
-    let if1 = c .if1 in
-    law.closes-clear (now (start .args .plan)) (now (start .args .table)) (start .pre .0 .fits) (start .args .i) _ (view2 .given .1) (start .pre .1) (wraps-round .ensures) (if1 .taken)
-
--- src/refusals.rt:108:1
+-- src/refusals.rt:123:1
 returns-3 : tie.Need-returns-3
 returns-3 c =
-    let start = c .before .before .before .before .before .before .before .before in
+    let start = c .before .before .before .before .before .before .before .before .before in
     let view2 = c .before .before .before .before .view2 in
-    let wraps-round = c .before .wraps-round in
-    let if1 = c .if1 in
-    law.closes-refused (now (start .args .plan)) (now (start .args .table)) (start .pre .0 .fits) (start .args .i) _ (view2 .given .1) (start .pre .1) (wraps-round .ensures) (if1 .left)
+    let closes = c .before .closes in
+    let closing-outcome = c .closing-outcome in
+    law.operator-closing (now (start .args .plan)) (now (start .args .table)) (start .pre .0 .fits) (start .args .i) _ (view2 .given .1) (closes .ensures) (closing-outcome .ensures)
 
 pub check-closing-spec : {M : Type 1} → statement M
 check-closing-spec =
     tie.close
     (tie.spec
+    returns
     enum-known-view
     check-steady-requires
     enum-known-view-2
     add-w
-    wraps-round-requires
-    returns
+    closes-requires
+    closing-outcome-requires
     returns-2
     returns-3)
