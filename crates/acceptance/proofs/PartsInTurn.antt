@@ -25,16 +25,16 @@ use Rattle.plan.proofs.Fits.{rows-are}
 use Rattle.inputs.proofs.Parts.{taken-same, taken-fitting}
 use Rattle.table.specs.Layout.{marked, witnessOf}
 use Rattle.marks.specs.Parts.{breaks, equationOutcome, closingOutcome, witnessOutcome, partOutcome}
-use Rattle.marks.specs.inner.PartsRead.{Readable, Met, PartClear}
+use Rattle.marks.specs.inner.PartsRead.{Readable, PartClear}
 use Rattle.acceptance.specs.Check.{markOf, witnessAt, partsOutcome}
 use Rattle.acceptance.specs.inner.Parts.{Prepared}
 
--- the three checks on part i, with n parts and w rows, and those after 9
+-- the three checks on part i, with n parts and w rows, and its witness alone
 abbrev pub turn : List ℕ → List ℕ → List ℕ → ℕ → ℕ → ℕ → Outcome
 turn rule plan table n w i = partOutcome plan (marked w table) (viewsOf rule i) i (witnessOf n w table i)
 
-abbrev pub rest : List ℕ → List ℕ → ℕ → ℕ → View → ℕ → Outcome
-rest plan table n w p i = closingOutcome plan (marked w table) p i orElse witnessOutcome plan (marked w table) p i (witnessOf n w table i)
+abbrev pub eleven : List ℕ → List ℕ → ℕ → ℕ → View → ℕ → Outcome
+eleven plan table n w p i = witnessOutcome plan (marked w table) p i (witnessOf n w table i)
 
 -- the search for a row that breaks the equation, from a row on
 abbrev pub rowsFrom : List ℕ → List ℕ → ℕ → View → ℕ → ℕ → ℕ → Outcome
@@ -59,7 +59,10 @@ module _ (rule plan table : List ℕ) {n : ℕ} {z : Sizes} (prep : Prepared rul
         part-fits = view-more (z .channels) (z .channels) (omega arith) i n (omega arith) p (taken-fitting rule plan (prep .ready) i low e f g);
       }
 
-      -- the outcome of 9, and where it refuses nothing
+      -- the outcomes of 10 and of 9
+      abbrev pub ten : Outcome
+      ten = closingOutcome plan (marked (allRows z) table) p i
+
       abbrev pub nine : Outcome
       nine = equationOutcome plan (marked (allRows z) table) p i
 
@@ -67,7 +70,7 @@ module _ (rule plan table : List ℕ) {n : ℕ} {z : Sizes} (prep : Prepared rul
 
       pub searched : (sure : Bool) → (sure ≡ true → PartClear plan table z p i) → (k : ℕ) → k ≡ cond sure 0 (allRows z)
           → nine ≡ rowsFrom plan table (allRows z) p i k 0
-      unfolding Met equationOutcome
+      unfolding equationOutcome
       searched true h k d = h refl .equation ∙ search-ends (breaks plan (marked (allRows z) table) p i) k (Equation i) 0 (omega arith)
       searched false h k d =
           ap (λ (m : ℕ). atLowest (breaks plan (marked (allRows z) table) p i) m (Equation i)) (rows-are (prep .ready .fits) ∙ sym d)
@@ -80,8 +83,7 @@ module _ (rule plan table : List ℕ) {n : ℕ} {z : Sizes} (prep : Prepared rul
         row-broken : row < k → {x : Bool} → x ≡ breaks plan (marked (allRows z) table) p i row → x ≡ true → nine ≡ Refused (Equation i row)
         row-broken l d h = so-far ∙ sym (search-stops (breaks plan (marked (allRows z) table) p i) k (Equation i) row l (sym d ∙ h))
 
-        pub rows-met : k ≤ row → Met plan table z p i
-        unfolding Met
+        pub rows-met : k ≤ row → nine ≡ Clear
         rows-met l = so-far ∙ sym (search-ends (breaks plan (marked (allRows z) table) p i) k (Equation i) row l)
 
       -- ---- the turn of part i, by what its three checks say
@@ -90,34 +92,46 @@ module _ (rule plan table : List ℕ) {n : ℕ} {z : Sizes} (prep : Prepared rul
         later : Outcome
         later = inTurnFrom (turn rule plan table n (allRows z)) (i + 1) (n - (i + 1))
 
-        taken-up : inTurn (turn rule plan table n (allRows z)) n ≡ ((nine orElse rest plan table n (allRows z) p i) orElse later)
-        unfolding partOutcome later
+        last : Outcome
+        last = eleven plan table n (allRows z) p i
+
+        taken-up : inTurn (turn rule plan table n (allRows z)) n ≡ ((ten orElse nine orElse last) orElse later)
+        unfolding partOutcome later last
         taken-up =
             up-to
             ∙ turn-next (turn rule plan table n (allRows z)) i n low
             ∙ ap (λ (q : View). partOutcome plan (marked (allRows z) table) q i (witnessOf n (allRows z) table i) orElse later) same
 
-        all-refused : {r : Refusal} → ((nine orElse rest plan table n (allRows z) p i) orElse later) ≡ Refused r → Refused r ≡ partsOutcome rule plan table
+        all-refused : {r : Refusal} → ((ten orElse nine orElse last) orElse later) ≡ Refused r → Refused r ≡ partsOutcome rule plan table
         all-refused h = sym (taken-up ∙ h) ∙ turns-all
 
-        pub equation-refused : (k row : ℕ) → nine ≡ rowsFrom plan table (allRows z) p i k row → row < k → {x : Bool}
-            → x ≡ breaks plan (marked (allRows z) table) p i row → x ≡ true → Refused (Equation i row) ≡ partsOutcome rule plan table
+        pub closing-refused : {o : Outcome} {r : Refusal} → o ≡ ten → o ≡ Refused r → Refused r ≡ partsOutcome rule plan table
         unfolding _orElse_
-        equation-refused k row so-far l d h = all-refused (ap (λ x. (x orElse rest plan table n (allRows z) p i) orElse later) (row-broken k row so-far l d h))
+        closing-refused d h = all-refused (ap (λ x. (x orElse nine orElse last) orElse later) (sym d ∙ h))
 
-        module _ (met : Met plan table z p i) where
-          after-nine : ((nine orElse rest plan table n (allRows z) p i) orElse later) ≡ (rest plan table n (allRows z) p i orElse later)
-          unfolding Met _orElse_
-          after-nine = ap (λ x. (x orElse rest plan table n (allRows z) p i) orElse later) met
-
-          pub rest-refused : {o : Outcome} {r : Refusal} → o ≡ rest plan table n (allRows z) p i → o ≡ Refused r → Refused r ≡ partsOutcome rule plan table
+        module _ {c : Outcome} (is-ten : c ≡ ten) (closed : c ≡ Clear) where
+          after-ten : ((ten orElse nine orElse last) orElse later) ≡ ((nine orElse last) orElse later)
           unfolding _orElse_
-          rest-refused d h = all-refused (after-nine ∙ ap (λ x. x orElse later) (sym d ∙ h))
+          after-ten = ap (λ x. (x orElse nine orElse last) orElse later) (sym is-ten ∙ closed)
 
-          pub part-passed : {o : Outcome} → o ≡ rest plan table n (allRows z) p i → o ≡ Clear
-              → inTurn (turn rule plan table n (allRows z)) n ≡ inTurnFrom (turn rule plan table n (allRows z)) (i + 1) (n - (i + 1))
-          unfolding _orElse_ later
-          part-passed d h = taken-up ∙ after-nine ∙ ap (λ x. x orElse later) (sym d ∙ h)
+          pub equation-refused : (k row : ℕ) → nine ≡ rowsFrom plan table (allRows z) p i k row → row < k → {x : Bool}
+              → x ≡ breaks plan (marked (allRows z) table) p i row → x ≡ true → Refused (Equation i row) ≡ partsOutcome rule plan table
+          unfolding _orElse_
+          equation-refused k row so-far l d h = all-refused (after-ten ∙ ap (λ x. (x orElse last) orElse later) (row-broken k row so-far l d h))
+
+          module _ (met : nine ≡ Clear) where
+            after-nine : ((ten orElse nine orElse last) orElse later) ≡ (last orElse later)
+            unfolding _orElse_
+            after-nine = after-ten ∙ ap (λ x. (x orElse last) orElse later) met
+
+            pub witness-refused : {o : Outcome} {r : Refusal} → o ≡ eleven plan table n (allRows z) p i → o ≡ Refused r → Refused r ≡ partsOutcome rule plan table
+            unfolding _orElse_ last
+            witness-refused d h = all-refused (after-nine ∙ ap (λ x. x orElse later) (sym d ∙ h))
+
+            pub part-passed : {o : Outcome} → o ≡ eleven plan table n (allRows z) p i → o ≡ Clear
+                → inTurn (turn rule plan table n (allRows z)) n ≡ inTurnFrom (turn rule plan table n (allRows z)) (i + 1) (n - (i + 1))
+            unfolding _orElse_ later last
+            part-passed d h = taken-up ∙ after-nine ∙ ap (λ x. x orElse later) (sym d ∙ h)
 
   -- All parts are passed.
   pub all-passed : (i : ℕ) → inTurn (turn rule plan table n (allRows z)) n ≡ inTurnFrom (turn rule plan table n (allRows z)) i (n - i) → n ≤ i

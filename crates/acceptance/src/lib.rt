@@ -14,7 +14,8 @@ use lanes::layout::LANE_BYTES;
 use lanes::layout::lay_drifts;
 use lanes::layout::lay_readings;
 use marks::refusals::breaks_on;
-use marks::refusals::check_rest;
+use marks::refusals::check_closing;
+use marks::refusals::check_witness;
 use marks::refusals::surely_clear;
 use marks::stretches::choose;
 use plan::sizes::Sizes;
@@ -31,7 +32,7 @@ pub enum Checked {
     Refused(Refusal),
 }
 
-// Refusals 9 to 11 of a table of `n` parts, the lowest part first, each with all its rows. `values` and `drifts` are the plan's
+// Refusals 9 to 11 of a table of `n` parts, the lowest part first, each with all its rows; within a part 10 comes before 9. `values` and `drifts` are the plan's
 // lanes; where it is `still`, nothing drifts in the cycle.
 fn check_parts(
     rule: &[u8],
@@ -57,6 +58,11 @@ fn check_parts(
         };
         let view = cltlb::view_of(part);
         let sure = surely_clear(plan, values, drifts, still, table, n, sizes, i, view);
+        let closing = check_closing(plan, table, n, sizes, i, view, sure);
+        if let Outcome::Refused(refusal) = closing {
+            answer = Outcome::Refused(refusal);
+            break 'parts;
+        }
         let rows = choose(sure, 0, w);
         let mut row = 0;
         while row < rows {
@@ -66,8 +72,8 @@ fn check_parts(
             }
             row += 1;
         }
-        let rest = check_rest(plan, table, n, sizes, i, view, sure);
-        if let Outcome::Refused(refusal) = rest {
+        let witness = check_witness(plan, table, n, sizes, i, view);
+        if let Outcome::Refused(refusal) = witness {
             answer = Outcome::Refused(refusal);
             break 'parts;
         }

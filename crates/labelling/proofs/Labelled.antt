@@ -27,7 +27,8 @@ use Rattle.marks.specs.Equations.{besideOf, watched, stepOn, markBeside, operat
 use Rattle.marks.specs.Parts.{noWitness, isCycleRow, names, witnessTwo, witnessOfOperator, witnessInOrder, running}
 use Rattle.marks.proofs.Rows.{lastRow, last-is-row, start-to-last, after-is-row}
 use Rattle.marks.proofs.Tests.{T-dec, and-iff, or-iff}
-use Rattle.marks.proofs.Unrolled.{OnRows, truth-watched}
+use Rattle.marks.proofs.ByMarks.{truth-watched}
+use Rattle.marks.proofs.Unrolled.{OnRows}
 use Rattle.labelling.specs.Labels.{following, labelBy, operatorLabel, labelOf, orNone, lowestWitness}
 use Rattle.labelling.proofs.Following.{ahead-step}
 

@@ -17,12 +17,13 @@ use Rattle.refusal.specs.declared.Refusal.the-variants.{Closing, Witness}
 use Rattle.refusal.proofs.First.{orElse-clear, unless-clear-T, inTurn-clear}
 use Rattle.plan.specs.Layout.{startRows, cycleRows, rows}
 use Rattle.marks.specs.Parts.{witnessInOrder, equationOutcome, closingOutcome, witnessOutcome, partOutcome}
+use Rattle.marks.specs.Meaning.{PartSettled}
 use Rattle.marks.specs.RefusalMeaning.{ClosingMeans}
 use Rattle.marks.proofs.Rows.{first-position}
 use Rattle.marks.proofs.Tests.{T-ext}
 use Rattle.marks.proofs.Unrolled.{equation-clear}
 use Rattle.marks.proofs.Accepted.{TrueAt, Accepted, below}
-use Rattle.marks.proofs.RefusalMeans.{closing-says}
+use Rattle.marks.proofs.RefusalMeans.{closing-says, closing-settled}
 use Rattle.labelling.specs.Labels.{lowestWitness, labelTo, madeMark, madeWitness}
 use Rattle.labelling.proofs.Labelled.{Labelled, label-meets, lowest-in-order}
 use Rattle.labelling.proofs.SameMarks.{SameBelow, label-same, closing-same, witness-same}
@@ -62,10 +63,10 @@ module _ (plan : List ℕ) (hC : 1 ≤ cycleRows plan) (parts : ℕ → View) (v
         → partOutcome plan mark (parts i) i w ≡ Clear
     unfolding partOutcome witnessOutcome
     closed-passes i l closed {w} e =
-        orElse-clear (equationOutcome plan mark p i) (closingOutcome plan mark p i orElse witnessOutcome plan mark p i w) .1 (
-          equation-clear plan mark p i .1 (label-meets plan hC mark p i (labelled i l)),
-          orElse-clear (closingOutcome plan mark p i) (witnessOutcome plan mark p i w) .1 (
-            closed,
+        orElse-clear (closingOutcome plan mark p i) (equationOutcome plan mark p i orElse witnessOutcome plan mark p i w) .1 (
+          closed,
+          orElse-clear (equationOutcome plan mark p i) (witnessOutcome plan mark p i w) .1 (
+            equation-clear plan mark p i .1 (label-meets plan hC mark p i (labelled i l)),
             unless-clear-T (witnessInOrder (startRows plan) (cycleRows plan) mark p i w) (Witness i) .1
                 (subst⁻¹ (λ (u : ℕ). T (witnessInOrder (startRows plan) (cycleRows plan) mark p i u)) e (lowest-in-order plan hC mark p i (labelled i l))),
           ),
@@ -118,8 +119,12 @@ module _ (plan : List ℕ) (hC : 1 ≤ cycleRows plan) (parts : ℕ → View) (v
   pub open-says : (i : ℕ) → i < n → ((a : ℕ) → a < i → Closed a) → (r : Refusal) → closingOutcome plan (madeMark parts plan) (parts i) i ≡ Refused r
       → (row : ℕ) × (Closing i row ≡ r) × ClosingMeans parts n plan (madeMark parts plan) (madeWitness parts plan) i row
   open-says i l closed r e =
-      closing-says plan hC parts v n fits (madeMark parts plan) (madeWitness parts plan) i l (lower-true i (omega arith) closed)
-      (equation-clear plan (madeMark parts plan) (parts i) i .1 (label-meets plan hC (madeMark parts plan) (parts i) i (made-labelled i l))) r e
+      closing-says plan hC parts v n fits (madeMark parts plan) (madeWitness parts plan) i l (lower-true i (omega arith) closed) r e
+
+  -- It closes exactly where it is settled.
+  pub closes-settled : (i : ℕ) → i < n → ((a : ℕ) → a < i → Closed a) → Closed i ↔ PartSettled parts plan i
+  closes-settled i l closed =
+      closing-settled plan hC parts v n fits (madeMark parts plan) (madeWitness parts plan) i l (lower-true i (omega arith) closed)
 
   -- And so are those of any table that is accepted: the two agree.
   agree : (mark other : ℕ → ℕ → Bool) (i : ℕ) → ((a : ℕ) → a < i → TrueAt plan parts n mark a) → ((a : ℕ) → a < i → TrueAt plan parts n other a)
@@ -140,8 +145,7 @@ module _ (plan : List ℕ) (hC : 1 ≤ cycleRows plan) (parts : ℕ → View) (v
 
       passed : closingOutcome plan mark (parts i) i ≡ Clear
       passed =
-          orElse-clear (closingOutcome plan mark (parts i) i) (witnessOutcome plan mark (parts i) i (witness i)) .0
-          (orElse-clear (equationOutcome plan mark (parts i) i) (closingOutcome plan mark (parts i) i orElse witnessOutcome plan mark (parts i) i (witness i)) .0 (turns i l) .1) .0
+          orElse-clear (closingOutcome plan mark (parts i) i) (equationOutcome plan mark (parts i) i orElse witnessOutcome plan mark (parts i) i (witness i)) .0 (turns i l) .0
 
       lower : SameBelow plan (madeMark parts plan) mark i
       lower =

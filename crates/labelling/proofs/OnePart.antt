@@ -1,6 +1,6 @@
 -- One part made, by its view, in a table with room for w rows of each part: what the code knows once its rows are written. Assumes
 -- nothing.
-use mathlib.Core.Path.{_≡_, sym, ap, _∙_, subst, subst⁻¹}
+use mathlib.Core.Path.{_≡_, refl, sym, ap, _∙_, subst, subst⁻¹}
 use mathlib.Core.Bool.{Bool, true}
 use mathlib.Core.List.{List}
 use mathlib.Core.Logic.{inl}
@@ -15,7 +15,10 @@ use Rattle.cltlb.specs.declared.Operator.{Operator}
 use Rattle.cltlb.specs.declared.View.{View}
 use Rattle.cltlb.specs.declared.View.the-variants as view
 use Rattle.cltlb.proofs.Fits.{atom-fits, operator-fits, view-more}
+use Rattle.refusal.specs.First.{unless}
 use Rattle.refusal.specs.declared.Outcome.{Outcome}
+use Rattle.refusal.specs.declared.Refusal.the-variants.{Closing}
+use Rattle.plan.specs.Layout.{startRows, cycleRows, rows}
 use Rattle.plan.specs.declared.sizes.Sizes.{Sizes}
 use Rattle.plan.specs.inner.Sizes.{allRows, Fitting}
 use Rattle.plan.proofs.Fits.{rows-are}
@@ -26,13 +29,13 @@ use Rattle.table.specs.inner.Tables.{Sized}
 use Rattle.table.specs.inner.Stored.{Stored}
 use Rattle.table.proofs.Stores.{stored-sized}
 use Rattle.table.proofs.TableBytes.{read-byte}
-use Rattle.marks.specs.Parts.{steadyOutcome, closingOutcome}
-use Rattle.marks.specs.inner.PartsRead.{Readable, Met}
-use Rattle.marks.proofs.PartsChecked.{at-sizes, own-cycle}
-use Rattle.marks.proofs.Unrolled.{OnRows, equation-clear}
-use Rattle.labelling.specs.Labels.{operatorLabel, labelOf}
+use Rattle.marks.specs.declared.operators.Beside.{Beside}
+use Rattle.marks.specs.Parts.{closes, steadyOutcome, closingOutcome}
+use Rattle.marks.specs.inner.Tables.{TruthMarked}
+use Rattle.marks.proofs.PartsChecked.{at-sizes, own-cycle, operator-closing}
+use Rattle.labelling.specs.Labels.{labelBy, operatorLabel, labelOf}
 use Rattle.labelling.specs.inner.Rows.{RowsLabelled}
-use Rattle.labelling.proofs.Labelled.{Labelled, label-meets}
+use Rattle.labelling.proofs.Labelled.{Labelled}
 use Rattle.labelling.proofs.SameMarks.{SameBelow, label-same, closing-same}
 
 -- ---- rows written over, as marks
@@ -77,9 +80,12 @@ module _ (plan : List ℕ) {z : Sizes} (fit : Fitting plan z) (w i : ℕ) (few :
       own-mark w i few (labelOf plan (marked w old) own) label-done row (subst (λ (m : ℕ). row < m) (rows-are fit) l)
       ∙ label-same plan (own-cycle fit) (marked w old) (marked w new) i same (z .channels) own fits row l
 
-  -- its equation is met,
-  pub label-met : OnRows plan (marked w new) (view.Operator o) i
-  label-met = label-meets plan (own-cycle fit) (marked w new) own i labelled
+  -- which are its truth, if it looks back,
+  pub label-truth : TruthMarked (z .start) (z .cycle) (marked w new) o i
+  unfolding labelOf operatorLabel labelBy rows
+  label-truth =
+      at-sizes fit (λ P C. TruthMarked P C (marked w new) o i)
+      (λ first e row l. labelled row l ∙ ap (λ (s : Beside). labelBy (startRows plan) (cycleRows plan) (marked w new) s o row) e)
 
   -- and whether it closes is what it was before.
   pub closing-kept : closingOutcome plan (marked w new) (view.Operator o) i ≡ closingOutcome plan (marked w old) (view.Operator o) i
@@ -110,24 +116,23 @@ module _ (plan : List ℕ) {z : Sizes} (fit : Fitting plan z) (n i : ℕ) {p : V
       all : allRows z ≤ allRows z
       all = omega arith
 
-      -- Refusal 9 turns nothing away,
-      pub operator-met : Met plan new z (view.Operator o) i
-      unfolding Met
-      operator-met = equation-clear plan (marked (allRows z) new) (view.Operator o) i .1 (label-met plan fit (allRows z) i all o own-fits done)
-
-      pub operator-readable : Sized old n (allRows z) → i < n → Readable plan new n z i (view.Operator o)
-      operator-readable s l = record {
-        fits = fit;
-        sized = stored-sized n (allRows z) done s;
-        present = l;
-        part-fits = view-more (z .channels) (z .channels) (omega arith) i n (omega arith) (view.Operator o) own-fits;
-      }
+      -- Whether it closes is looked for in the table as it is now,
+      pub operator-ready : Sized old n (allRows z) → i < n
+          → Sized new n (allRows z) × (allRows z ≤ allRows z) × (1 ≤ z .cycle) × (i < n) × (namesLower n o ≡ true) × TruthMarked (z .start) (z .cycle) (marked (allRows z) new) o i
+      operator-ready s l = (
+        stored-sized n (allRows z) done s,
+        all,
+        fit .a-cycle,
+        l,
+        operator-fits (z .channels) n o (view-more (z .channels) (z .channels) (omega arith) i n (omega arith) (view.Operator o) own-fits),
+        label-truth plan fit (allRows z) i all o own-fits done,
+      )
 
       -- and 10 says of the part made what it says of the part to be made.
-      pub operator-made : {r : Outcome} → r ≡ closingOutcome plan (marked (allRows z) new) (view.Operator o) i
+      pub operator-made : {b : Bool} {r : Outcome} → b ≡ closes (z .start) (z .cycle) (marked (allRows z) new) o → r ≡ unless b (Closing i (z .start))
           → (r ≡ closingOutcome plan (marked (allRows z) old) p i) × RowsLabelled old new (allRows z) i r (labelOf plan (marked (allRows z) old) p)
-      operator-made {r} d =
+      operator-made {b} {r} c d =
           subst⁻¹ (λ (q : View). (r ≡ closingOutcome plan (marked (allRows z) old) q i) × RowsLabelled old new (allRows z) i r (labelOf plan (marked (allRows z) old) q)) e (
-            d ∙ closing-kept plan fit (allRows z) i all o own-fits done,
+            operator-closing plan new fit i o refl c d ∙ closing-kept plan fit (allRows z) i all o own-fits done,
             record { rows-alone = (_, done); made = λ _. label-done plan fit (allRows z) i all o own-fits done },
           )

@@ -16,7 +16,8 @@ ghost use Rattle.labelling.specs.inner.Rows.{RowsLabelled};
 use crate::comparisons::label_atom;
 use crate::operators::label_operator;
 use cltlb::View;
-use marks::refusals::check_closing;
+use marks::closing::closes_made;
+use marks::refusals::closing_outcome;
 use plan::sizes::Sizes;
 use refusal::Outcome;
 
@@ -35,8 +36,9 @@ pub fn label_part(
     match view {
         View::Atom(atom) => label_atom(plan, table, n, sizes, i, atom),
         View::Operator(operator) => {
-            label_operator(table, n, sizes.start + sizes.cycle, sizes, i, operator);
-            check_closing(plan, table, n, sizes, i, view)
+            let w = sizes.start + sizes.cycle;
+            label_operator(table, n, w, sizes, i, operator);
+            closing_outcome(sizes, i, closes_made(table, n, w, sizes, i, operator))
         }
     }
 }

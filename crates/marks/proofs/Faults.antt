@@ -15,17 +15,17 @@ use Rattle.refusal.specs.Lowest.{lowestFrom, lowest}
 use Rattle.refusal.specs.First.{atLowest}
 use Rattle.refusal.specs.declared.Refusal.{Refusal}
 use Rattle.refusal.specs.declared.Refusal.the-variants.{Equation}
-use Rattle.refusal.specs.declared.Outcome.the-variants.{Refused}
+use Rattle.refusal.specs.declared.Outcome.the-variants.{Clear, Refused}
 use Rattle.refusal.proofs.Lowest.{from-some}
-use Rattle.refusal.proofs.First.{refusedAt-refused}
+use Rattle.refusal.proofs.First.{clear-refused, refusedAt-refused}
 use Rattle.plan.specs.Layout.{startRows, cycleRows, rows}
 use Rattle.plan.specs.Positions.{after}
-use Rattle.marks.specs.Parts.{breaks, equationOutcome}
+use Rattle.marks.specs.Parts.{breaks, equationOutcome, closingOutcome}
 use Rattle.marks.proofs.Tests.{T-path, T-ext, beq-false, beq-true}
 use Rattle.marks.proofs.Rows.{rowAt, first-position, once-more, after-row}
 use Rattle.marks.proofs.Endless.{markAt, due}
 use Rattle.marks.proofs.Temporal.{agrees-below}
-use Rattle.marks.proofs.Unrolled.{expectedOn, expected-due}
+use Rattle.marks.proofs.Unrolled.{equation-clear, expectedOn, expected-due}
 use Rattle.marks.proofs.Parts.{Right, This, Ahead, Due, byEarlier, byLater, is-due}
 
 module _ (plan : List ℕ) (mark : ℕ → ℕ → Bool) (f : ℕ → Formula) (hC : 1 ≤ cycleRows plan) (i : ℕ)
@@ -67,6 +67,16 @@ module _ (plan : List ℕ) (mark : ℕ → ℕ → Bool) (f : ℕ → Formula) (
           let start : rowAt plan (suc row) ≡ startRows plan =
           ap (rowAt plan) (sym end) ∙ once-more plan hC (startRows plan) (omega arith) ∙ first-position plan (startRows plan) (omega arith) in
           subst₂ (λ (x y : ℕ). F x ↔ F y) (sym (next ∙ start)) end (later (startRows plan) (omega arith))
+
+  -- A part that meets its equation on the rows and does not close, which is none of U and R, has true marks.
+  pub met-open : equationOutcome plan mark p i ≡ Clear → (r : Refusal) → closingOutcome plan mark p i ≡ Refused r → (row : ℕ) → row < rows plan → TrueOn row
+  met-open met r e row l = go (is-due plan mark f hC i named v p fits)
+    where
+      go : Due plan mark f p i → TrueOn row
+      go (byEarlier by) =
+          Iff·trans (T-path (ap (mark i) (sym (first-position plan row l))))
+          (true-below (by own) (rows plan) (omega arith) (equation-clear plan mark p i .0 met) row l)
+      go (byLater kind by later shut decides) = absurd (clear-refused (sym e ∙ shut))
 
   -- A mark that breaks its equation, the lower ones meeting it.
   module _ (row : ℕ) (l : row < rows plan) (lower : (k : ℕ) → k < row → mark i k ≡ expectedOn plan mark p i k) (broken : mark i row ≡ expectedOn plan mark p i row → ⊥) where

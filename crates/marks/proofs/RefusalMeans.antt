@@ -23,7 +23,7 @@ use Rattle.marks.specs.Meaning.{Truth, SameOn, DiffersOn, PartSettled, M
 use Rattle.marks.specs.RefusalMeaning.{FirstFault, EquationMeans, ClosingMeans, WitnessMeans}
 use Rattle.marks.proofs.Rows.{after-is-row}
 use Rattle.marks.proofs.Parts.{Ahead}
-use Rattle.marks.proofs.Faults.{equation-broken}
+use Rattle.marks.proofs.Faults.{met-open, equation-broken}
 use Rattle.marks.proofs.ByTruth.{Open, closing-open, closing-repeats}
 use Rattle.marks.proofs.Settled.{same-differs, settled-repeats}
 use Rattle.marks.proofs.Accepted.{TrueAt, true-settled, true-marks, below}
@@ -91,16 +91,29 @@ module _ (plan : List ℕ) (hC : 1 ≤ cycleRows plan) (parts : ℕ → View) (v
         go s Clear e = refl
         go s (Refused r) e = let d = opened r e in absurd (same-differs plan (Truth parts plan i) (d .0) (s (d .0) (d .2) (d .3)) (d .4))
 
+    -- 9 names part i and a row, and says that its marks are not all true,
+    pub equation-says : (r : Refusal) → equationOutcome plan mark (parts i) i ≡ Refused r → (row : ℕ) × (Equation i row ≡ r) × (¬ PartMarksTrue parts plan i mark)
+    unfolding PartMarksTrue
+    equation-says r e =
+        let s = broken r e in
+        (s .0, s .1, λ all. s .4 (all (s .0) (s .2), all (after (startRows plan) (cycleRows plan) (s .0)) (after-is-row plan hC (s .0) (s .2))))
+
+    -- and where it says nothing of a part that does not close, they are.
+    pub open-marks : equationOutcome plan mark (parts i) i ≡ Clear → (r : Refusal) → closingOutcome plan mark (parts i) i ≡ Refused r → PartMarksTrue parts plan i mark
+    unfolding PartMarksTrue MarkTrue Truth
+    open-marks met r e =
+        rw (formula-made parts v n fits i l)
+        (met-open plan mark (formulaOf parts) hC i (λ a q. lower a q .0) v (parts i) (fits i l) met r e)
+
     equation-means : closingOutcome plan mark (parts i) i ≡ Clear → (r : Refusal) → equationOutcome plan mark (parts i) i ≡ Refused r → Means plan parts n mark witness r
-    unfolding Means PartMarksTrue
+    unfolding Means
     equation-means closes r e =
         let s = broken r e in
-        let here = s .2 in
         subst (Means plan parts n mark witness) (s .1) (record {
           fault = first-fault;
           settled = closed closes;
-          row-there = here;
-          not-true = λ all. s .4 (all (s .0) here, all (after (startRows plan) (cycleRows plan) (s .0)) (after-is-row plan hC (s .0) here));
+          row-there = s .2;
+          not-true = equation-says r e .2;
           false-here = λ no-until no-release. s .3 (⊎-elim (λ u. no-until (u .0) (u .1) (u .2)) (λ u. no-release (u .0) (u .1) (u .2)));
           false-beside = s .4;
         })

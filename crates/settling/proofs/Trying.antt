@@ -38,12 +38,11 @@ use Rattle.table.specs.Bytes.{byteOf}
 use Rattle.table.specs.inner.Stored.{Stored}
 use Rattle.table.specs.inner.Tables.{mostBytes}
 use Rattle.table.proofs.Stores.{stored-same}
-use Rattle.marks.specs.inner.Tables.{wraps}
+use Rattle.marks.specs.inner.Tables.{TruthMarked}
 use Rattle.marks.specs.Parts.{isChanges, closes, steadyOutcome, closingOutcome}
 use Rattle.marks.proofs.PartsChecked.{at-sizes, own-cycle}
-use Rattle.marks.proofs.Unrolled.{closes-by-marks}
 use Rattle.labelling.specs.Labels.{operatorLabel, labelOf}
-use Rattle.labelling.proofs.OnePart.{label-done, label-met, closing-kept}
+use Rattle.labelling.proofs.OnePart.{label-done, label-truth, closing-kept}
 use Rattle.laid_out.specs.LaidOut.{laidOut, canBeLaid}
 use Rattle.laid_out.specs.inner.LaidSizes.{laidSizes}
 use Rattle.laid_out.proofs.LaidRuns.{laid-fitting, laid-run}
@@ -174,12 +173,23 @@ module _ (plan : List ℕ) {z : Sizes} (fit : Fitting plan z) (k : ℕ) (can : c
 
   -- ---- operators
 
-  module _ (i : ℕ) (o : Operator) (fits : viewFits (z .channels) i (view.Operator o) ≡ true) {y : Sizes} (is : y ≡ laidSizes z k) {old new : List ℕ} where
-    -- It is labelled, and closes by its marks or not.
-    pub operator-tried : Stored old new (4 + i * mostRows) 0 (allRows y) (λ row. byteOf (operatorLabel (y .start) (y .cycle) (markAt old) o row))
-        → {b : Bool} → b ≡ wraps (y .start) (y .cycle) (markAt new) o i → Tried (laidOut plan k) old new i (view.Operator o) b
+  module _ (i : ℕ) (o : Operator) (fits : viewFits (z .channels) i (view.Operator o) ≡ true) {y : Sizes} (is : y ≡ laidSizes z k) {old new : List ℕ}
+      (written : Stored old new (4 + i * mostRows) 0 (allRows y) (λ row. byteOf (operatorLabel (y .start) (y .cycle) (markAt old) o row))) where
+    few : allRows (laidSizes z k) ≤ mostRows
+    few = laid .few-rows
+
+    done : Stored old new (4 + i * mostRows) 0 (allRows (laidSizes z k)) (λ row. byteOf (operatorLabel (z .start + k * z .cycle) (z .cycle) (markAt old) o row))
+    done = subst (λ (q : Sizes). Stored old new (4 + i * mostRows) 0 (allRows q) (λ row. byteOf (operatorLabel (q .start) (q .cycle) (markAt old) o row))) is written
+
+    -- It is labelled with its truth, if it looks back,
+    pub operator-truth : TruthMarked (y .start) (y .cycle) (markAt new) o i
+    operator-truth =
+        subst⁻¹ (λ (q : Sizes). TruthMarked (q .start) (q .cycle) (markAt new) o i) is (label-truth (laidOut plan k) laid mostRows i few o fits done)
+
+    -- and closes or not.
+    pub operator-tried : {b : Bool} → b ≡ closes (y .start) (y .cycle) (markAt new) o → Tried (laidOut plan k) old new i (view.Operator o) b
     unfolding closingOutcome
-    operator-tried written {b} e = record {
+    operator-tried {b} e = record {
       outcome = closed
           ∙ met-clear (closes (startRows (laidOut plan k)) (cycleRows (laidOut plan k)) (markAt new) o) (Closing i (startRows (laidOut plan k)))
           ∙ ap isClear (closing-kept (laidOut plan k) laid mostRows i few o fits done);
@@ -187,12 +197,6 @@ module _ (plan : List ℕ) {z : Sizes} (fit : Fitting plan z) (k : ℕ) (can : c
       made = λ _. marks;
     }
       where
-        few : allRows (laidSizes z k) ≤ mostRows
-        few = laid .few-rows
-
-        done : Stored old new (4 + i * mostRows) 0 (allRows (laidSizes z k)) (λ row. byteOf (operatorLabel (z .start + k * z .cycle) (z .cycle) (markAt old) o row))
-        done = subst (λ (q : Sizes). Stored old new (4 + i * mostRows) 0 (allRows q) (λ row. byteOf (operatorLabel (q .start) (q .cycle) (markAt old) o row))) is written
-
         marks : Stored old new (4 + i * mostRows) 0 (rows (laidOut plan k)) (λ row. byteOf (labelOf (laidOut plan k) (markAt old) (view.Operator o) row))
         marks =
             subst⁻¹ (λ (m : ℕ). Stored old new (4 + i * mostRows) 0 m (λ row. byteOf (labelOf (laidOut plan k) (markAt old) (view.Operator o) row))) (rows-are laid)
@@ -200,6 +204,5 @@ module _ (plan : List ℕ) {z : Sizes} (fit : Fitting plan z) (k : ℕ) (can : c
 
         closed : b ≡ closes (startRows (laidOut plan k)) (cycleRows (laidOut plan k)) (markAt new) o
         closed =
-            subst (λ (q : Sizes). b ≡ wraps (q .start) (q .cycle) (markAt new) o i) is e
-            ∙ sym (at-sizes laid (λ p c. closes (startRows (laidOut plan k)) (cycleRows (laidOut plan k)) (markAt new) o ≡ wraps p c (markAt new) o i)
-            (closes-by-marks (laidOut plan k) (markAt new) (own-cycle laid) o i (label-met (laidOut plan k) laid mostRows i few o fits done)))
+            subst (λ (q : Sizes). b ≡ closes (q .start) (q .cycle) (markAt new) o) is e
+            ∙ sym (at-sizes laid (λ p c. closes (startRows (laidOut plan k)) (cycleRows (laidOut plan k)) (markAt new) o ≡ closes p c (markAt new) o) refl)

@@ -17,7 +17,7 @@ use cltlb::View;
 use labelling::operators::label_operator;
 use laid_out::fits::MOST_ROWS;
 use laid_out::numbers::laid_sizes;
-use marks::equations::wraps_round;
+use marks::closing::closes_made;
 use plan::sizes::Sizes;
 use rule::Taken;
 use table::bytes::place;
@@ -54,7 +54,7 @@ fn try_atom(
     true
 }
 
-// A part by its view. An operator is labelled first, by the marks of the lower parts, and closes by its marks or not.
+// A part by its view. An operator is labelled first, by the marks of the lower parts, and closes by the marks made or not.
 fn try_view(
     plan: &[u8],
     scratch: &mut [u8],
@@ -71,7 +71,7 @@ fn try_view(
         View::Operator(operator) => {
             let laid = laid_sizes(sizes, passes);
             label_operator(scratch, MOST_PARTS, MOST_ROWS, laid, i, operator);
-            wraps_round(scratch, MOST_PARTS, MOST_ROWS, laid, i, operator)
+            closes_made(scratch, MOST_PARTS, MOST_ROWS, laid, i, operator)
         }
     }
 }

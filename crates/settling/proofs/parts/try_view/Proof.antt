@@ -7,7 +7,7 @@ use Rattle.cltlb.specs.declared.View.{View}
 use Rattle.cltlb.proofs.Fits.{atom-fits, operator-fits, view-more}
 use Rattle.plan.specs.declared.sizes.Sizes.{Sizes}
 use Rattle.table.proofs.Stores.{stored-sized}
-use Rattle.settling.proofs.Trying.{laid-rows, tried-view, operator-tried}
+use Rattle.settling.proofs.Trying.{laid-rows, tried-view, operator-truth, operator-tried}
 use Rattle.laid_out.proofs.LastCycle.{few-passes}
 use borrow.Author.Needs.{needs}
 use Rattle.settling.proofs.parts.try_view.Statement.{statement}
@@ -16,7 +16,7 @@ use Rattle.settling.proofs.parts.try_view.Reads as reads
 use Rattle.settling.proofs.parts.try_view.Lts as lts
 use Rattle.labelling.proofs.operators.label_operator.Reads as label-operator-reads
 use Rattle.laid_out.proofs.numbers.laid_sizes.Reads as laid-sizes-reads
-use Rattle.marks.proofs.equations.wraps_round.Reads as wraps-round-reads
+use Rattle.marks.proofs.closing.closes_made.Reads as closes-made-reads
 use Rattle.settling.proofs.parts.try_atom.Reads as try-atom-reads
 
 -- src/parts.rt:60:20
@@ -49,13 +49,13 @@ label-operator-requires c κs =
     (start .pre .2, omega (arith, ap (λ (q : Sizes). q .start) (laid-sizes .ensures), ap (λ (q : Sizes). q .cycle) (laid-sizes .ensures), laid-rows (now (start .args .plan)) (start .pre .0) (start .args .passes) (start .pre .1) .0), omega (arith, ap (λ (q : Sizes). q .cycle) (laid-sizes .ensures), start .pre .0 .a-cycle), start .pre .3, operator-fits (start .args .sizes .channels) (start .args .i) _ (subst (λ (q : View). viewFits (start .args .sizes .channels) (start .args .i) q ≡ true) (view2 .given .1) (start .pre .4)))
 
 -- src/parts.rt:64:13
-wraps-round-requires : tie.Need-wraps-round-requires
-wraps-round-requires c κs =
+closes-made-requires : tie.Need-closes-made-requires
+closes-made-requires c κs =
     let start = c .before .before .before .before .before .before .before .before .before .before .before in
     let label-operator = c .before .before .before .label-operator in
     let laid-sizes = c .before .before .before .before .before .laid-sizes in
     let view2 = c .before .before .before .before .before .before .before .view2 in
-    (stored-sized _ _ (label-operator .ensures) (start .pre .2), omega (arith, ap (λ (q : Sizes). q .start) (laid-sizes .ensures), ap (λ (q : Sizes). q .cycle) (laid-sizes .ensures), laid-rows (now (start .args .plan)) (start .pre .0) (start .args .passes) (start .pre .1) .0), omega (arith, ap (λ (q : Sizes). q .cycle) (laid-sizes .ensures), start .pre .0 .a-cycle), start .pre .3, operator-fits (start .args .sizes .channels) 64 _ (view-more (start .args .sizes .channels) (start .args .sizes .channels) (omega arith) (start .args .i) 64 (omega (arith, start .pre .3)) _ (subst (λ (q : View). viewFits (start .args .sizes .channels) (start .args .i) q ≡ true) (view2 .given .1) (start .pre .4))))
+    (stored-sized _ _ (label-operator .ensures) (start .pre .2), omega (arith, ap (λ (q : Sizes). q .start) (laid-sizes .ensures), ap (λ (q : Sizes). q .cycle) (laid-sizes .ensures), laid-rows (now (start .args .plan)) (start .pre .0) (start .args .passes) (start .pre .1) .0), omega (arith, ap (λ (q : Sizes). q .cycle) (laid-sizes .ensures), start .pre .0 .a-cycle), start .pre .3, operator-fits (start .args .sizes .channels) 64 _ (view-more (start .args .sizes .channels) (start .args .sizes .channels) (omega arith) (start .args .i) 64 (omega (arith, start .pre .3)) _ (subst (λ (q : View). viewFits (start .args .sizes .channels) (start .args .i) q ≡ true) (view2 .given .1) (start .pre .4))), operator-truth (now (start .args .plan)) (start .pre .0) (start .args .passes) (start .pre .1) (start .args .i) _ (subst (λ (q : View). viewFits (start .args .sizes .channels) (start .args .i) q ≡ true) (view2 .given .1) (start .pre .4)) (laid-sizes .ensures) (label-operator .ensures))
 
 -- src/parts.rt:48:1
 same-length : tie.Need-same-length
@@ -76,8 +76,8 @@ returns-2 c =
     let view2 = c .before .before .before .before .before .before .before .before .view2 in
     let laid-sizes = c .before .before .before .before .before .before .laid-sizes in
     let label-operator = c .before .before .before .before .label-operator in
-    let wraps-round = c .wraps-round in
-    tried-view (view2 .given .1) (operator-tried (now (start .args .plan)) (start .pre .0) (start .args .passes) (start .pre .1) (start .args .i) _ (subst (λ (q : View). viewFits (start .args .sizes .channels) (start .args .i) q ≡ true) (view2 .given .1) (start .pre .4)) (laid-sizes .ensures) (label-operator .ensures) (wraps-round .ensures))
+    let closes-made = c .closes-made in
+    tried-view (view2 .given .1) (operator-tried (now (start .args .plan)) (start .pre .0) (start .args .passes) (start .pre .1) (start .args .i) _ (subst (λ (q : View). viewFits (start .args .sizes .channels) (start .args .i) q ≡ true) (view2 .given .1) (start .pre .4)) (laid-sizes .ensures) (label-operator .ensures) (closes-made .ensures))
 
 pub try-view-spec : {M : Type 1} → statement M
 try-view-spec =
@@ -88,7 +88,7 @@ try-view-spec =
     enum-known-view-2
     laid-sizes-requires
     label-operator-requires
-    wraps-round-requires
+    closes-made-requires
     same-length
     returns
     same-length-2
