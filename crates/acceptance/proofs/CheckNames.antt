@@ -46,16 +46,16 @@ module _ (rule plan table : List ℕ) where
       (λ _. inTurn-only Small (λ i. partOutcome plan (markOf rule plan table) (viewsOf rule i) i (witnessAt rule plan table i)) (partCount rule)
       (λ i h. part-small plan (few-rows e) (partCount rule) (few-parts e) (markOf rule plan table) i h (viewsOf rule i) (witnessAt rule plan table i))))
 
-  -- A refusal numbered 9 or more is one of the parts, and 1 to 6 are cleared.
+  -- A refusal numbered 9 or more is one of the parts, and 1 to 8 are cleared.
   pub parts-refused : (r : Refusal) → 9 ≤ reportOf r .number → checkOutcome rule plan table ≡ Refused r
-      → (inputsOutcome rule plan ≡ Clear) × (partsOutcome rule plan table ≡ Refused r)
+      → (inputsOutcome rule plan ≡ Clear) × (tableOutcome (partCount rule) (rows plan) table ≡ Clear) × (partsOutcome rule plan table ≡ Refused r)
   unfolding checkOutcome
   parts-refused r high e =
       let a = orElse-second (Within 1 6) (inputsOutcome rule plan) (tableOutcome (partCount rule) (rows plan) table orElse partsOutcome rule plan table) r
       (inputs-within rule plan) (λ w. let l = w .1 in omega arith) e in
       let b = orElse-second (Within 7 8) (tableOutcome (partCount rule) (rows plan) table) (partsOutcome rule plan table) r
       (own-table (a .0)) (λ w. let l = w .1 in omega arith) (a .1) in
-      (a .0, b .1)
+      (a .0, b .0, b .1)
 
   pub refused-outcome : (o : Outcome) (r : Refusal) → answered rule plan table o ≡ C.Refused r → o ≡ Refused r
   unfolding answered

@@ -1,38 +1,52 @@
 -- What moved when 10 came before 9 within one part. Acceptance did not: the same tables are accepted with the same verdicts. An answer
 -- moved from 9 to 10, for the same part, exactly where the lowest part at fault does not close and has a wrong mark. The earlier order
 -- is defined here, for these laws alone. Assumes nothing.
-use Prim.Native.Nat.{ℕ, zero, suc, _+_, _-_, _≤_, _<_}
+use Prim.Native.Nat.{ℕ, zero, suc, _+_, _≤_, _<_}
 use native.Mathlib.Decide.{decLt}
 use native.Mathlib.Omega.{arith}
 use mathlib.Core.Path.{_≡_, refl, sym, ap, _∙_, subst}
-use mathlib.Core.Bool.{Bool}
+use mathlib.Core.Bool.{Bool, true}
 use mathlib.Core.List.{List}
 use mathlib.Core.Logic.{_↔_, _⊎_, inl, inr, ⊎-elim, by-cases}
+use lib.Dec.{T}
 use Rattle.refusal.specs.declared.Outcome.{Outcome}
 use Rattle.refusal.specs.declared.Outcome.the-variants.{Clear, Refused}
 use Rattle.refusal.specs.declared.Refusal.{Refusal}
-use Rattle.refusal.specs.declared.Refusal.the-variants.{Equation, Closing}
+use Rattle.refusal.specs.declared.Refusal.the-variants.{Equation, Closing, Witness}
 use Rattle.refusal.specs.First.{_orElse_, inTurnFrom, inTurn}
-use Rattle.refusal.proofs.First.{inTurn-refused}
+use Rattle.refusal.proofs.First.{clear-refused, orElse-clear, orElse-refused, unless-refused, inTurn-clear, inTurn-refused}
 use Rattle.rule.specs.Layout.{partCount, channelCount}
 use Rattle.rule.specs.Take.{viewsOf}
+use Rattle.cltlb.specs.Fits.{viewFits}
 use Rattle.rule.proofs.Cleared.{cleared-fits}
-use Rattle.plan.specs.Layout.{rows}
+use Rattle.plan.specs.Layout.{startRows, cycleRows, rows}
 use Rattle.plan.proofs.Outcomes.{cleared}
 use Rattle.inputs.specs.Outcome.{inputsOutcome}
 use Rattle.inputs.proofs.Ways.{clear-both}
 use Rattle.table.specs.Layout.{tableOutcome}
-use Rattle.marks.specs.Parts.{equationOutcome, closingOutcome, witnessOutcome, partOutcome}
-use Rattle.marks.specs.Meaning.{Truth, PartSettled, PartMarksTrue}
+use Rattle.marks.specs.Parts.{witnessInOrder, equationOutcome, closingOutcome, witnessOutcome, partOutcome}
+use Rattle.marks.specs.Meaning.{PartSettled, PartMarksTrue}
 use Rattle.marks.specs.RefusalMeaning.{FirstFault}
-use Rattle.marks.proofs.Accepted.{below}
+use Rattle.marks.proofs.Accepted.{TrueAt, below}
 use Rattle.marks.proofs.RefusalMeans.{equation-says, open-marks, closing-says, closing-settled}
 use Rattle.acceptance.specs.declared.Checked.{Checked}
 use Rattle.acceptance.specs.declared.Checked.the-variants as C
 use Rattle.acceptance.specs.Check.{markOf, witnessAt, partsOutcome, checkOutcome, answered, checkOf}
-use Rattle.acceptance.proofs.Promised.{accepted-clear}
+use Rattle.acceptance.proofs.CheckNames.{parts-refused, refused-outcome}
 
 -- ---- items gone through in order, of each of which three tests are made, the first two in either order
+
+-- The lowest item that is refused is the answer.
+first-refused : (f : ℕ → Outcome) (n i : ℕ) → i < n → ((j : ℕ) → j < i → f j ≡ Clear) → (r : Refusal) → f i ≡ Refused r → inTurn f n ≡ Refused r
+unfolding inTurn inTurnFrom _orElse_
+first-refused f n i l lower r e = go n 0 (omega arith) (omega arith)
+  where
+    go : (n k : ℕ) → k ≤ i → i < k + n → inTurnFrom f k n ≡ Refused r
+    go zero k low high = absurd (omega arith)
+    go (suc n) k low high =
+        by-cases (decLt k i)
+        (λ h. ap (λ x. x orElse inTurnFrom f (suc k) n) (lower k h) ∙ go n (suc k) (omega arith) (omega arith))
+        (λ h. let here : k ≡ i = omega arith in ap (λ x. x orElse inTurnFrom f (suc k) n) (ap f here ∙ e))
 
 module _ (ten nine eleven : ℕ → Outcome) where
   abbrev tenFirst : ℕ → Outcome
@@ -41,46 +55,38 @@ module _ (ten nine eleven : ℕ → Outcome) where
   abbrev nineFirst : ℕ → Outcome
   nineFirst i = nine i orElse ten i orElse eleven i
 
-  -- Item i is the lowest that is refused, by both of them.
-  abbrev Both : ℕ → ℕ → Outcome → Outcome → Type 0
-  Both k n before now =
-      (i : ℕ) × (k ≤ i) × (i < k + n) × ((j : ℕ) → k ≤ j → j < i → tenFirst j ≡ Clear)
-      × (r : Refusal) × (q : Refusal) × (nine i ≡ Refused r) × (ten i ≡ Refused q) × (before ≡ Refused r) × (now ≡ Refused q)
+  -- What one order clears the other does.
+  clear-too : (i : ℕ) → tenFirst i ≡ Clear → nineFirst i ≡ Clear
+  clear-too i e =
+      let a = orElse-clear (ten i) (nine i orElse eleven i) .0 e in
+      let b = orElse-clear (nine i) (eleven i) .0 (a .1) in
+      orElse-clear (nine i) (ten i orElse eleven i) .1 (b .0, orElse-clear (ten i) (eleven i) .1 (a .0, b .1))
 
-  swapped-from : (n k : ℕ) → (inTurnFrom tenFirst k n ≡ inTurnFrom nineFirst k n) ⊎ Both k n (inTurnFrom nineFirst k n) (inTurnFrom tenFirst k n)
-  unfolding inTurnFrom _orElse_
-  swapped-from zero k = inl refl
-  swapped-from (suc n) k = go (ten k) (nine k) (eleven k) refl refl refl (swapped-from n (suc k))
+  -- What one refuses the other refuses with the same answer, but where both tests refuse.
+  same-or-both : (i : ℕ) (q : Refusal) → tenFirst i ≡ Refused q → (nineFirst i ≡ Refused q) ⊎ ((r : Refusal) × (nine i ≡ Refused r) × (ten i ≡ Refused q))
+  unfolding _orElse_
+  same-or-both i q = go (ten i) (nine i)
     where
-      rest : Outcome
-      rest = inTurnFrom tenFirst (suc k) n
+      go : (a b : Outcome) → (a orElse b orElse eleven i) ≡ Refused q
+          → ((b orElse a orElse eleven i) ≡ Refused q) ⊎ ((r : Refusal) × (b ≡ Refused r) × (a ≡ Refused q))
+      go Clear b e = inl e
+      go (Refused t) Clear e = inl e
+      go (Refused t) (Refused r) e = inr (r, refl, e)
 
-      old : Outcome
-      old = inTurnFrom nineFirst (suc k) n
-
-      go : (a b c : Outcome) → ten k ≡ a → nine k ≡ b → eleven k ≡ c → (rest ≡ old) ⊎ Both (suc k) n old rest
-          → (((a orElse b orElse c) orElse rest) ≡ ((b orElse a orElse c) orElse old)) ⊎ Both k (suc n) ((b orElse a orElse c) orElse old) ((a orElse b orElse c) orElse rest)
-      go Clear Clear Clear f g h (inl same) = inl same
-      go Clear Clear Clear f g h (inr m) = inr (
-        m .0,
-        let l = m .1 in omega arith,
-        let l = m .2 in omega arith,
-        λ j low high. by-cases (decLt k j) (λ l. m .3 j l high) (λ l. let e : k ≡ j = omega arith in subst (λ (x : ℕ). tenFirst x ≡ Clear) e (simp (f, g, h))),
-        m .4,
-        m .5,
-        m .6,
-        m .7,
-        m .8,
-        m .9,
-      )
-      go Clear Clear (Refused w) f g h rec = inl refl
-      go Clear (Refused r) c f g h rec = inl refl
-      go (Refused q) Clear c f g h rec = inl refl
-      go (Refused q) (Refused r) c f g h rec = inr (k, omega arith, omega arith, λ j low high. absurd (omega arith), r, q, g, f, refl, refl)
-
-  swapped : (n : ℕ) → (inTurn tenFirst n ≡ inTurn nineFirst n) ⊎ Both 0 n (inTurn nineFirst n) (inTurn tenFirst n)
-  unfolding inTurn
-  swapped n = swapped-from n 0
+  -- All items: the same answer, or one is the lowest that is refused, by both tests.
+  swapped : (n : ℕ) → (inTurn tenFirst n ≡ inTurn nineFirst n)
+      ⊎ ((i : ℕ) × (i < n) × ((j : ℕ) → j < i → tenFirst j ≡ Clear) × (r : Refusal) × (q : Refusal) × (nine i ≡ Refused r) × (ten i ≡ Refused q))
+  swapped n = go (inTurn tenFirst n) refl
+    where
+      go : (o : Outcome) → inTurn tenFirst n ≡ o → (inTurn tenFirst n ≡ inTurn nineFirst n)
+          ⊎ ((i : ℕ) × (i < n) × ((j : ℕ) → j < i → tenFirst j ≡ Clear) × (r : Refusal) × (q : Refusal) × (nine i ≡ Refused r) × (ten i ≡ Refused q))
+      go Clear e = inl (e ∙ sym (inTurn-clear nineFirst n .1 (λ i l. clear-too i (inTurn-clear tenFirst n .0 e i l))))
+      go (Refused q) e =
+          let p = inTurn-refused tenFirst n q e in
+          ⊎-elim
+          (λ same. inl (e ∙ sym (first-refused nineFirst n (p .0) (p .1) (λ j h. clear-too j (p .2 j h)) q same)))
+          (λ both. inr (p .0, p .1, p .2, both .0, q, both .1, both .2))
+          (same-or-both (p .0) q (p .3))
 
 -- ---- the check
 
@@ -98,7 +104,7 @@ module _ (rule plan table : List ℕ) where
   eleven i = witnessOutcome plan mark (viewsOf rule i) i (witnessAt rule plan table i)
 
   -- The check with the order 9, 10, 11 within one part.
-  earlierOutcome : Outcome
+  unfoldable pub earlierOutcome : Outcome
   earlierOutcome =
       inputsOutcome rule plan
       orElse tableOutcome (partCount rule) (rows plan) table
@@ -114,11 +120,106 @@ module _ (rule plan table : List ℕ) where
     -- it is the lowest part at fault: every lower one is right;
     pub fault : FirstFault (viewsOf rule) (partCount rule) plan (markOf rule plan table) (witnessAt rule plan table) i
     -- it does not close: on some cycle row its published truth is not the same on all passes;
-    pub open : ¬ PartSettled (viewsOf rule) plan i
+    pub unsettled : ¬ PartSettled (viewsOf rule) plan i
     -- it has a wrong mark
     pub wrong : ¬ PartMarksTrue (viewsOf rule) plan i (markOf rule plan table)
 
-  module _ (clear : inputsOutcome rule plan ≡ Clear) (i : ℕ) (l : i < partCount rule)
+  -- 1 to 8 refuse nothing, and neither do 9 to 11 of the parts below i, which is one of them.
+  module _ (clear : inputsOutcome rule plan ≡ Clear) (fitting : tableOutcome (partCount rule) (rows plan) table ≡ Clear) (i : ℕ) (l : i < partCount rule)
       (lower : (j : ℕ) → j < i → partOutcome plan (markOf rule plan table) (viewsOf rule j) j (witnessAt rule plan table j) ≡ Clear) where
-    abbrev Of : Type 0
-    Of = Unit {0}
+    abbrev some-cycle : 1 ≤ cycleRows plan
+    some-cycle = cleared (channelCount rule) plan (clear-both rule plan clear .1) .0 .a-cycle
+
+    abbrev fits : (i : ℕ) → i < partCount rule → viewFits (channelCount rule) i (viewsOf rule i) ≡ true
+    fits = cleared-fits rule (clear-both rule plan clear .0)
+
+    abbrev lower-right : (a : ℕ) → a < i → TrueAt plan (viewsOf rule) (partCount rule) mark a
+        × T (witnessInOrder (startRows plan) (cycleRows plan) mark (viewsOf rule a) a (witnessAt rule plan table a))
+    lower-right = below plan some-cycle (viewsOf rule) (channelCount rule) (partCount rule) fits mark (witnessAt rule plan table) i (omega arith) lower
+
+    -- The answer is what the parts say.
+    past : (x : Outcome) {r : Refusal} → x ≡ Refused r
+        → answered rule plan table (inputsOutcome rule plan orElse tableOutcome (partCount rule) (rows plan) table orElse x) ≡ C.Refused r
+    unfolding answered _orElse_
+    past x e = simp (clear, fitting, e)
+
+    -- Refused by 9 and by 10, it has moved.
+    moved : (r q : Refusal) → nine i ≡ Refused r → ten i ≡ Refused q → (row : ℕ) × Moved i row
+    unfolding checkOf checkOutcome partsOutcome partOutcome earlierCheck earlierOutcome _orElse_
+    moved r q d e =
+        let says = equation-says plan some-cycle (viewsOf rule) (channelCount rule) (partCount rule) fits mark (witnessAt rule plan table) i l lower-right r d in
+        let tells = closing-says plan some-cycle (viewsOf rule) (channelCount rule) (partCount rule) fits mark (witnessAt rule plan table) i l lower-right q e in
+        let before = first-refused (nineFirst ten nine eleven) (partCount rule) i l (λ j h. clear-too ten nine eleven j (lower j h)) r
+        (ap (λ x. x orElse ten i orElse eleven i) d) in
+        let now = first-refused (tenFirst ten nine eleven) (partCount rule) i l lower q (ap (λ x. x orElse nine i orElse eleven i) e) in (
+          says .0,
+          record {
+            earlier = past _ before ∙ ap C.Refused (sym (says .1));
+            later = (tells .0, past _ now ∙ ap C.Refused (sym (tells .1)));
+            fault = tells .2 .fault;
+            unsettled = λ settled. clear-refused (sym e ∙ closing-settled plan some-cycle (viewsOf rule) (channelCount rule) (partCount rule) fits mark (witnessAt rule plan table) i l lower-right .1 settled);
+            wrong = says .2;
+          },
+        )
+
+    -- Refused by 10, with a wrong mark, it is refused by 9 too.
+    moved-wrong : (q : Refusal) → ten i ≡ Refused q → ¬ PartMarksTrue (viewsOf rule) plan i mark → (row : ℕ) × Moved i row
+    moved-wrong q e wrong = go (nine i) refl
+      where
+        go : (o : Outcome) → nine i ≡ o → (row : ℕ) × Moved i row
+        go Clear d =
+            absurd (wrong (open-marks plan some-cycle (viewsOf rule) (channelCount rule) (partCount rule) fits mark (witnessAt rule plan table) i l lower-right d q e))
+        go (Refused r) d = moved r q d e
+
+    -- 10 of a part is said by its own turn.
+    own-closing : (k q : ℕ) → partOutcome plan mark (viewsOf rule i) i (witnessAt rule plan table i) ≡ Refused (Closing k q)
+        → (i ≡ k) × (ten i ≡ Refused (Closing k q))
+    unfolding partOutcome witnessOutcome
+    own-closing k q e =
+        ⊎-elim
+        (λ h. let tells = closing-says plan some-cycle (viewsOf rule) (channelCount rule) (partCount rule) fits mark (witnessAt rule plan table) i l lower-right (Closing k q) h in
+        let same = tells .1 in (cc, h))
+        (λ h. absurd (⊎-elim
+        (λ g. let says = equation-says plan some-cycle (viewsOf rule) (channelCount rule) (partCount rule) fits mark (witnessAt rule plan table) i l lower-right (Closing k q) g in
+        let other = says .1 in let z : _≡_ {A = ℕ} 0 1 = cc in omega arith)
+        (λ g. let other = unless-refused _ (Witness i) (Closing k q) (g .1) .1 in let z : _≡_ {A = ℕ} 0 1 = cc in omega arith)
+        (orElse-refused (nine i) (eleven i) (Closing k q) (h .1))))
+        (orElse-refused (ten i) (nine i orElse eleven i) (Closing k q) e)
+
+  -- WHAT MOVES: both orders give the same answer, or the earlier gives 9 and this one 10 for the same part, the lowest at fault, which
+  -- does not close and has a wrong mark.
+  pub moves : (checkOf rule plan table ≡ earlierCheck) ⊎ ((i : ℕ) × (row : ℕ) × Moved i row)
+  unfolding checkOf checkOutcome partsOutcome partOutcome earlierCheck earlierOutcome _orElse_
+  moves = go (inputsOutcome rule plan) refl (tableOutcome (partCount rule) (rows plan) table) refl
+    where
+      go : (o : Outcome) → inputsOutcome rule plan ≡ o → (t : Outcome) → tableOutcome (partCount rule) (rows plan) table ≡ t
+          → (checkOf rule plan table ≡ earlierCheck) ⊎ ((i : ℕ) × (row : ℕ) × Moved i row)
+      go (Refused r) e t d = inl (simp e)
+      go Clear e (Refused r) d = inl (simp (e, d))
+      go Clear e Clear d =
+          ⊎-elim
+          (λ same. inl (ap (λ x. answered rule plan table (inputsOutcome rule plan orElse tableOutcome (partCount rule) (rows plan) table orElse x)) same))
+          (λ m. let own = moved e d (m .0) (m .1) (m .2) (m .3) (m .4) (m .5) (m .6) in inr (m .0, own .0, own .1))
+          (swapped ten nine eleven (partCount rule))
+
+  -- AND WHERE: 10 of a part that has a wrong mark was 9 in the earlier order.
+  pub moved-where : (i q : ℕ) → checkOf rule plan table ≡ C.Refused (Closing i q) → ¬ PartMarksTrue (viewsOf rule) plan i (markOf rule plan table)
+      → (row : ℕ) × Moved i row
+  unfolding checkOf partsOutcome
+  moved-where i q e wrong =
+      let p = parts-refused rule plan table (Closing i q) (omega arith) (refused-outcome rule plan table (checkOutcome rule plan table) (Closing i q) e) in
+      let f = inTurn-refused (λ i. partOutcome plan mark (viewsOf rule i) i (witnessAt rule plan table i)) (partCount rule) (Closing i q) (p .2) in
+      let own = own-closing (p .0) (p .1) (f .0) (f .1) (f .2) i q (f .3) in
+      subst (λ (k : ℕ). (¬ PartMarksTrue (viewsOf rule) plan k (markOf rule plan table)) → (row : ℕ) × Moved k row) (own .0)
+      (moved-wrong (p .0) (p .1) (f .0) (f .1) (f .2) (Closing i q) (own .1)) wrong
+
+  -- ACCEPTANCE DOES NOT MOVE: the same tables are accepted, with the same verdicts.
+  pub acceptance-stays : (v : Bool) → (checkOf rule plan table ≡ C.Accepted v) ↔ (earlierCheck ≡ C.Accepted v)
+  acceptance-stays v = go moves
+    where
+      not-both : {r : Refusal} → C.Refused r ≡ C.Accepted v → ⊥
+      not-both e = let z : _≡_ {A = ℕ} 0 1 = cc in omega arith
+
+      go : (checkOf rule plan table ≡ earlierCheck) ⊎ ((i : ℕ) × (row : ℕ) × Moved i row) → (checkOf rule plan table ≡ C.Accepted v) ↔ (earlierCheck ≡ C.Accepted v)
+      go (inl same) = (λ e. sym same ∙ e, λ e. same ∙ e)
+      go (inr m) = (λ e. absurd (not-both (sym (m .2 .later .1) ∙ e)), λ e. absurd (not-both (sym (m .2 .earlier) ∙ e)))

@@ -2,3 +2,4 @@ pub mod CheckNames
 pub mod Promised
 pub mod Entry
 pub mod PartsInTurn
+pub mod EarlierOrder

@@ -88,7 +88,7 @@ module _ (rule plan table : List ℕ) where
       let p = parts-refused rule plan table r high e in
       let q = clear-both rule plan (p .0) in
       refused-means plan (cleared (channelCount rule) plan (q .1) .0 .a-cycle) (viewsOf rule) (channelCount rule) (partCount rule) (cleared-fits rule (q .0))
-      (markOf rule plan table) (witnessAt rule plan table) r (p .1)
+      (markOf rule plan table) (witnessAt rule plan table) r (p .2)
 
   -- THE CHECK KEEPS ITS PROMISE, whatever the bytes.
   pub check-promise : {answer : Checked} → answer ≡ checkOf rule plan table → CheckPromise rule plan table answer

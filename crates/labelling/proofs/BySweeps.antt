@@ -105,7 +105,7 @@ module _ (P C : ℕ) (hC : 1 ≤ C) (mark : ℕ → ℕ → Bool) where
     abbrev right : ℕ → Bool
     right k = flipped f (mark b k)
 
-    runs : (row : ℕ) → running P C mark (Two s a b) f row ≡ flipped f (carried left right row)
+    runs : (row : ℕ) → running mark (Two s a b) f row ≡ flipped f (carried left right row)
     unfolding running carried
     runs zero =
         steps (mark a 0) (mark b 0) f ∙ ap (λ (x : Bool). flipped f (right 0 || (left 0 && x))) (none f)

@@ -63,7 +63,7 @@ module _ (plan : List ℕ) (hC : 1 ≤ cycleRows plan) (mark other : ℕ → ℕ
     following-same (suc k) row l =
         let next = after-is-row plan hC row l in step-same row (after P C row) l next (following-same k (after P C row) next)
 
-    running-same : (first : Bool) (row : ℕ) → row < rows plan → running P C mark o first row ≡ running P C other o first row
+    running-same : (first : Bool) (row : ℕ) → row < rows plan → running mark o first row ≡ running other o first row
     unfolding running
     running-same first zero l = first-same 0 first l
     running-same first (suc row) l = let q : row < rows plan = omega arith in step-same (suc row) row l q (running-same first row q)

@@ -45,7 +45,7 @@ module _ (P C : ℕ) (mark : ℕ → ℕ → Bool) where
   -- one and once more round the cycle.
   unfoldable pub labelBy : Beside → Operator → ℕ → Bool
   labelBy After o row = following o (P + C - row + C) row
-  labelBy (Before first) o row = running P C mark o first row
+  labelBy (Before first) o row = running mark o first row
 
   unfoldable pub operatorLabel : Operator → ℕ → Bool
   operatorLabel o row = labelBy (besideOf o) o row

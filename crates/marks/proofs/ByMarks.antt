@@ -36,7 +36,7 @@ module _ (P C : ℕ) (mark : ℕ → ℕ → Bool) (o : Operator) (i : ℕ) wher
       met-by : (row : ℕ) → row < P + C → mark i row ≡ stepOn mark o row (markBeside P C (Before first) (mark (watched o i)) row)
       met-by row l = met row l ∙ ap (λ (s : Beside). stepOn mark o row (markBeside P C s (mark (watched o i)) row)) e
 
-      go : (row : ℕ) → row < P + C → mark i row ≡ running P C mark o first row
+      go : (row : ℕ) → row < P + C → mark i row ≡ running mark o first row
       go zero l = met-by 0 l
       go (suc row) l = met-by (suc row) l ∙ ap (stepOn mark o (suc row)) (sym (truth-watched mark o i row (sym (go row (omega arith)))))
 
@@ -45,7 +45,7 @@ module _ (P C : ℕ) (mark : ℕ → ℕ → Bool) (o : Operator) (i : ℕ) wher
   unfolding closes closesBy wraps wrapsBy
   closes-by-marks some-cycle truth = go (besideOf o) truth
     where
-      go : (s : Beside) → ((first : Bool) → s ≡ Before first → (row : ℕ) → row < P + C → mark i row ≡ running P C mark o first row)
+      go : (s : Beside) → ((first : Bool) → s ≡ Before first → (row : ℕ) → row < P + C → mark i row ≡ running mark o first row)
           → closesBy P C mark s o ≡ wrapsBy s P C mark o i
       go After truth = refl
       go (Before first) truth =

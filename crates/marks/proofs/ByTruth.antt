@@ -145,7 +145,7 @@ module _ (plan : List ℕ) (mark : ℕ → ℕ → Bool) (f : ℕ → Formula) (
 
     -- the truth on a row, from row 0 on, and at a position that of its row
     abbrev truth : ℕ → Bool
-    truth row = running P C mark o first row
+    truth row = running mark o first row
 
     abbrev seen : ℕ → Bool
     seen row = watchedTruth mark o (truth row) row

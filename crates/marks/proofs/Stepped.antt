@@ -85,20 +85,20 @@ module _ (mark : ℕ → ℕ → Bool) (own : Bool) (row : ℕ) {o : Operator} w
   pub sees-named : {sort : Unary} {a : ℕ} {r : Bool} → o ≡ One sort a → r ≡ mark a row → r ≡ watchedTruth mark o own row
   sees-named e h = h ∙ sym (ap (λ (x : Operator). watchedTruth mark x own row) e)
 
-module _ (P C : ℕ) (mark : ℕ → ℕ → Bool) (o : Operator) (first : Bool) where
-  pub first-truth : {r : Bool} → r ≡ stepOn mark o 0 first → r ≡ running P C mark o first 0
+module _ (mark : ℕ → ℕ → Bool) (o : Operator) (first : Bool) where
+  pub first-truth : {r : Bool} → r ≡ stepOn mark o 0 first → r ≡ running mark o first 0
   unfolding running
   first-truth h = h
 
-  pub next-truth : (row : ℕ) {own seen r : Bool} → own ≡ running P C mark o first row → seen ≡ watchedTruth mark o own row → r ≡ stepOn mark o (row + 1) seen
-      → r ≡ running P C mark o first (row + 1)
+  pub next-truth : (row : ℕ) {own seen r : Bool} → own ≡ running mark o first row → seen ≡ watchedTruth mark o own row → r ≡ stepOn mark o (row + 1) seen
+      → r ≡ running mark o first (row + 1)
   unfolding running
   next-truth row {own} {seen} {r} d e h =
       let one-on : row + 1 ≡ suc row = omega arith in
-      h ∙ ap₂ (stepOn mark o) one-on (e ∙ ap (λ (x : Bool). watchedTruth mark o x row) d) ∙ ap (running P C mark o first) (sym one-on)
+      h ∙ ap₂ (stepOn mark o) one-on (e ∙ ap (λ (x : Bool). watchedTruth mark o x row) d) ∙ ap (running mark o first) (sym one-on)
 
-  pub last-truth : {row at : ℕ} {r : Bool} → at ≤ row → row ≤ at → r ≡ running P C mark o first at → r ≡ running P C mark o first row
-  last-truth {row} {at} h g e = let there : at ≡ row = omega arith in e ∙ ap (running P C mark o first) there
+  pub last-truth : {row at : ℕ} {r : Bool} → at ≤ row → row ≤ at → r ≡ running mark o first at → r ≡ running mark o first row
+  last-truth {row} {at} h g e = let there : at ≡ row = omega arith in e ∙ ap (running mark o first) there
 
 -- ---- closing
 
@@ -112,7 +112,7 @@ module _ (P C : ℕ) (mark : ℕ → ℕ → Bool) (o : Operator) where
   unfolding closes closesBy
   ahead-closes s = ap (λ (s : Beside). closesBy P C mark s o) (sym s)
 
-  pub back-closes : {first start end r : Bool} → besideOf o ≡ Before first → start ≡ running P C mark o first P → end ≡ running P C mark o first (P + C - 1)
+  pub back-closes : {first start end r : Bool} → besideOf o ≡ Before first → start ≡ running mark o first P → end ≡ running mark o first (P + C - 1)
       → r ≡ Bool·beq start (stepOn mark o P (watchedTruth mark o end (last P C))) → r ≡ closes P C mark o
   unfolding closes closesBy last
   back-closes s d e h =

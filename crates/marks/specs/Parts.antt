@@ -33,6 +33,11 @@ isChanges Changes = true
 abbrev pub noWitness : ℕ
 noWitness = 65535
 
+-- The truth of an operator that looks back, on a row, by the marks of the parts that it names, row after row from row 0 on.
+unfoldable pub running : (ℕ → ℕ → Bool) → Operator → Bool → ℕ → Bool
+running mark o first zero = stepOn mark o zero first
+running mark o first (suc row) = stepOn mark o (suc row) (watchedTruth mark o (running mark o first row) row)
+
 -- with P start rows and C cycle rows
 module _ (P C : ℕ) where
   -- a row from P to W - 1
@@ -54,16 +59,11 @@ module _ (P C : ℕ) where
   witnessTwo Trigger marked b w = eqb w noWitness
 
   module _ (mark : ℕ → ℕ → Bool) where
-    -- the truth of an operator that looks back, on a row, by the marks of the parts that it names, row after row from row 0 on
-    unfoldable pub running : Operator → Bool → ℕ → Bool
-    running o first zero = stepOn mark o zero first
-    running o first (suc row) = stepOn mark o (suc row) (watchedTruth mark o (running o first row) row)
-
     -- Closing, the consistency of the loop, for Y, Z, S and T: the equation for a row above 0 also holds on row P with row W - 1
     -- as the row before. It is said of their truth, whatever their own marks are.
     unfoldable pub closesBy : Beside → Operator → Bool
     closesBy After o = true
-    closesBy (Before first) o = Bool·beq (running o first P) (stepOn mark o P (watchedTruth mark o (running o first (last P C)) (last P C)))
+    closesBy (Before first) o = Bool·beq (running mark o first P) (stepOn mark o P (watchedTruth mark o (running mark o first (last P C)) (last P C)))
 
     unfoldable pub closes : Operator → Bool
     closes o = closesBy (besideOf o) o

@@ -39,17 +39,9 @@ fn watched_truth(
 }
 
 // The truth on a row of an operator that looks back, row after row from row 0 on; `first` counts before row 0.
-fn truth_on(
-    table: &[u8],
-    n: usize,
-    w: usize,
-    sizes: Sizes,
-    operator: Operator,
-    first: bool,
-    row: usize,
-) -> bool
+fn truth_on(table: &[u8], n: usize, w: usize, operator: Operator, first: bool, row: usize) -> bool
     requires { ⌜ (Sized (now table) n w) × (namesLower n operator ≡ true) × (row < w) ⌝ }
-    ensures { λ r. ⌜ r ≡ running (sizes .start) (sizes .cycle) (marked w (now (table .entry))) operator first row ⌝ }
+    ensures { λ r. ⌜ r ≡ running (marked w (now (table .entry))) operator first row ⌝ }
 {
     let mut truth = step_on(table, n, w, operator, 0, first);
     let mut at = 0;
@@ -88,8 +80,8 @@ pub fn closes(table: &[u8], n: usize, w: usize, sizes: Sizes, operator: Operator
         Beside::After => true,
         Beside::Before(first) => {
             let p = sizes.start;
-            let start = truth_on(table, n, w, sizes, operator, first, p);
-            let end = truth_on(table, n, w, sizes, operator, first, p + sizes.cycle - 1);
+            let start = truth_on(table, n, w, operator, first, p);
+            let end = truth_on(table, n, w, operator, first, p + sizes.cycle - 1);
             turns_round(table, n, w, sizes, operator, start, end)
         }
     }

@@ -22,7 +22,7 @@ clearOf P C mark o i = allBelow (meetsOn P C mark o i) (P + C) && closes P C mar
 
 -- The marks of part i on the rows are its truth, if it looks back.
 abbrev pub TruthMarked : ℕ → ℕ → (ℕ → ℕ → Bool) → Operator → ℕ → Type 0
-TruthMarked P C mark o i = (first : Bool) → besideOf o ≡ Before first → (row : ℕ) → row < P + C → mark i row ≡ running P C mark o first row
+TruthMarked P C mark o i = (first : Bool) → besideOf o ≡ Before first → (row : ℕ) → row < P + C → mark i row ≡ running mark o first row
 
 -- A test of a row and a row beside it is true of every row and the row after it.
 unfoldable pub aheadOf : ℕ → ℕ → (ℕ → ℕ → Bool) → Bool

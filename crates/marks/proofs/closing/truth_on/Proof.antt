@@ -13,7 +13,7 @@ use Rattle.marks.proofs.closing.watched_truth.Reads as watched-truth-re
 use Rattle.marks.proofs.equations.step_on.Reads as step-on-reads
 
 abbrev Inv-loop : tie.InvT-loop
-Inv-loop table n w operator first row truth₀ at₀ truth at = (at ≤ row) × ((P C : ℕ) → truth ≡ running P C (marked w table) operator first at)
+Inv-loop table n w operator first row truth₀ at₀ truth at = (at ≤ row) × (truth ≡ running (marked w table) operator first at)
 
 abbrev μ-loop : tie.MeasureT-loop
 μ-loop table n w operator first row truth₀ at₀ truth at = row - at
@@ -27,7 +27,7 @@ loop-holds : tie.Need-loop-holds Inv-loop μ-loop
 loop-holds c =
     let start = c .before .before in
     let step-on = c .step-on in
-    (omega arith, λ P C. law.first-truth P C (marked (start .args .w) (now (start .args .table))) (start .args .operator) (start .args .first) (step-on .ensures))
+    (omega arith, law.first-truth (marked (start .args .w) (now (start .args .table))) (start .args .operator) (start .args .first) (step-on .ensures))
 
 -- src/closing.rt:57:13
 watched-truth-requires : tie.Need-watched-truth-requires Inv-loop μ-loop
@@ -62,7 +62,7 @@ loop-again c =
     let loop = c .before .before .before .loop in
     let watched-truth = c .before .watched-truth in
     let step-on2 = c .step-on2 in
-    (omega (arith, loop-test .taken), λ P C. law.next-truth P C (marked (start .args .w) (now (start .args .table))) (start .args .operator) (start .args .first) (loop .at) (loop .inv .1 P C) (watched-truth .ensures) (step-on2 .ensures))
+    (omega (arith, loop-test .taken), law.next-truth (marked (start .args .w) (now (start .args .table))) (start .args .operator) (start .args .first) (loop .at) (loop .inv .1) (watched-truth .ensures) (step-on2 .ensures))
 
 -- src/closing.rt:42:1
 returns : tie.Need-returns Inv-loop μ-loop
@@ -70,7 +70,7 @@ returns c =
     let start = c .before .before .before .before in
     let loop = c .before .loop in
     let loop-test = c .loop-test in
-    law.last-truth (start .args .sizes .start) (start .args .sizes .cycle) (marked (start .args .w) (now (start .args .table))) (start .args .operator) (start .args .first) (loop .inv .0) (loop-test .left) (loop .inv .1 (start .args .sizes .start) (start .args .sizes .cycle))
+    law.last-truth (marked (start .args .w) (now (start .args .table))) (start .args .operator) (start .args .first) (loop .inv .0) (loop-test .left) (loop .inv .1)
 
 pub truth-on-spec : {M : Type 1} → statement M
 truth-on-spec =
