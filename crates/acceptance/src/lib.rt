@@ -59,8 +59,8 @@ fn check_parts(
         let view = cltlb::view_of(part);
         let sure = surely_clear(plan, values, drifts, still, table, n, sizes, i, view);
         let closing = check_closing(plan, table, n, sizes, i, view, sure);
-        if let Outcome::Refused(refusal) = closing {
-            answer = Outcome::Refused(refusal);
+        if let Outcome::Refused(fault) = closing {
+            answer = Outcome::Refused(fault);
             break 'parts;
         }
         let rows = choose(sure, 0, w);

@@ -9,9 +9,9 @@ use Rattle.worked_examples.specs.SheetsRead.{sheets, ReadsAs}
 use Rattle.worked_examples.specs.PlansRead.{plans, sights, SizedAs, SeesAs}
 use Rattle.worked_examples.specs.Handed.{questionBytes, callBytes}
 use Rattle.worked_examples.specs.Table.{examples, ruleE1, ruleE2, ruleE4, ruleE8, planA, planB, planE10, marksE4-2}
-use Rattle.worked_examples.specs.MoreSheets.{ruleKinds, ruleRelease, rulePast, ruleLimit, ruleMet, ruleReach, ruleEightChannels, ruleNoParts, ruleLong, ruleNineChannels, ruleKind0, ruleKind13, ruleShiftedConstant, ruleShiftCode9, ruleForm2, ruleChannel1, ruleNamesItself, ruleSpareByte, ruleMostParts, ruleTooManyParts}
+use Rattle.worked_examples.specs.MoreSheets.{ruleKinds, ruleRelease, rulePast, ruleSince, ruleLimit, ruleMet, ruleReach, ruleEightChannels, ruleNoParts, ruleLong, ruleNineChannels, ruleKind0, ruleKind13, ruleShiftedConstant, ruleShiftCode9, ruleForm2, ruleChannel1, ruleNamesItself, ruleSpareByte, ruleMostParts, ruleTooManyParts}
 use Rattle.worked_examples.specs.MorePlans.{planThree, planStartDrift, planNoCycle, planLong, planLead, planLeadDrift, planBehindLeadDrift, planSevenBytes, planMostLead, planTooMuchLead, planMostRows, planTooManyRows, planMostChannels, planTooManyChannels, planHigh}
-use Rattle.worked_examples.specs.MoreMarks.{marksKinds, marksLead, marksLeadSeen, marksRelease-1, marksRelease-0, marksRelease-spare, marksLong, marksByte2, marksBytes2, marksBroken, marksSpare, marksSpareBroken, marksPast, marksLimit, marksLimitBroken, marksLimitSpare, lentFull, lentSevens, zeros}
+use Rattle.worked_examples.specs.MoreMarks.{marksKinds, marksLead, marksLeadSeen, marksRelease-1, marksRelease-0, marksRelease-spare, marksLong, marksByte2, marksBytes2, marksBroken, marksSpare, marksSpareBroken, marksLowerBroken, marksLowerSpare, marksPast, marksPastHeld, marksSinceHeld, marksLimit, marksLimitBroken, marksLimitSpare, lentFull, lentSevens, zeros}
 use Rattle.worked_examples.specs.Layouts.{lentPlan, lentScratch, clearedScratch, laidA-0, laidA-1, laidB-1}
 
 -- A refusal is number × 2^32 + part × 2^16 + row; beside it stand its number, part and row.
@@ -59,19 +59,24 @@ more =
     -- 8: the lowest part, then the lowest row. It comes before 9.
     ∷ checks ruleE2 planA marksByte2 34359803906  -- 8, 1, 2
     ∷ checks ruleE2 planA marksBytes2 34359738369  -- 8, 0, 1
-    -- 9: the lowest row. It comes before 10 of the same part. Y is false on row 0 though the lead-in has what it names.
+    -- 9: the lowest row. It comes before 10 of a higher part. Y is false on row 0 though the lead-in has what it names.
     ∷ checks ruleE2 planLead marksLeadSeen 38654771200  -- 9, 1, 0
     ∷ checks ruleE4 planA marksBroken 38654836737  -- 9, 2, 1
-    ∷ checks ruleLimit planThree marksLimitBroken 38654771204  -- 9, 1, 4
-    -- 10: of a past part row P, of a comparison the lowest changing row. It comes before 11 of the same part.
+    ∷ checks ruleE2 planA marksLowerBroken 38654705665  -- 9, 0, 1
+    -- 10: of a past part row P, of a comparison the lowest changing row. It comes before 11 and before 9 of the same part, also where
+    -- the part's own marks would close.
     ∷ checks rulePast planThree marksPast 42949738498  -- 10, 1, 2
     ∷ checks ruleLimit planThree marksLimit 42949738499  -- 10, 1, 3
     ∷ checks ruleLimit planThree marksLimitSpare 42949738499  -- 10, 1, 3
-    -- 11: a witness that is not needed, twice, and one that is no witness. It comes before 9 of a higher part.
+    ∷ checks ruleLimit planThree marksLimitBroken 42949738499  -- 10, 1, 3
+    ∷ checks rulePast planThree marksPastHeld 42949738498  -- 10, 1, 2
+    ∷ checks ruleSince planA marksSinceHeld 42949804033  -- 10, 2, 1
+    -- 11: a witness that is not needed, twice, and one that is no witness. It comes before 9 and before 10 of a higher part.
     ∷ checks ruleE4 planA marksSpare 47244705792  -- 11, 1, 0
     ∷ checks ruleRelease planE10 marksRelease-spare 47244771328  -- 11, 2, 0
     ∷ checks ruleRelease planE10 marksRelease-0 47244771328  -- 11, 2, 0
     ∷ checks ruleE4 planA marksSpareBroken 47244705792  -- 11, 1, 0
+    ∷ checks ruleE2 planA marksLowerSpare 47244640256  -- 11, 0, 0
     -- The largest sizes are allowed, so that the next string is what is refused, and larger ones are not (E12).
     ∷ checks ruleMostParts [] [] 17179869184  -- 4, 0, 0
     ∷ checks ruleTooManyParts [] [] 4294967296  -- 1, 0, 0
