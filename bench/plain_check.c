@@ -57,8 +57,8 @@ static unsigned equation(int kind, const uint8_t *m, const uint8_t *a, const uin
     }
 }
 
-/* Refusals 10 and 9 for Y, Z, S and T. Its marks meet the equations where they are the
-   truth, and the lowest that is not breaks one. */
+/* Refusals 10 and 9 for Y, Z, S and T. The lowest mark that is not the truth is the lowest
+   that breaks its equation. */
 static uint64_t search_past(const struct plan *plan, int kind, const uint8_t *m, const uint8_t *a,
                             const uint8_t *b, size_t part)
 {
