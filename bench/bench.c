@@ -24,7 +24,9 @@
  * their ratio as it is. Before that both checks must give the answer of the second
  * evaluator, and they must have accepted; both makers must give that answer and make
  * the second evaluator's table, byte for byte; and so with the three settlers' answers
- * and all bytes of both buffers.
+ * and all bytes of both buffers. Both checks must also give the second evaluator's answer
+ * on tables that are refused, which are not timed: of each kind that can fail to close, a
+ * part that does not and that has a wrong mark too.
  *
  * Two copies of the same code have been seen to differ by a quarter where a call is
  * short, by where the linker puts them: a ratio from 0.8 to 1.25 there is no
@@ -204,6 +206,31 @@ static bool all_agree(const char *name, const struct sheets *s)
            answer_is(due, name, "make, exported", answer_if_made(make, s));
 }
 
+/* Both checks refuse the table with 10, as the second evaluator does. */
+static bool both_refuse(enum kind kind)
+{
+    static struct sheets s;
+    char name[64];
+    build_open_case(&s, kind);
+    uint64_t due = second_check(slice_of(&s.rule), slice_of(&s.plan), slice_of(&s.marks));
+    snprintf(name, sizeof name, "open part of kind %d", (int)kind);
+    if (endless_run_number(due) != ENDLESS_RUN_CLOSING) {
+        printf("%s: not refused with 10\n", name);
+        return false;
+    }
+    return answer_is(due, name, "check, fast C", check_in_c(&s)) &&
+           answer_is(due, name, "check, exported", check(&s));
+}
+
+static bool refusals_agree(void)
+{
+    static const enum kind kinds[] = { LESS, EQUAL, YESTERDAY, WEAK_YESTERDAY, SINCE, TRIGGER };
+    bool right = true;
+    for (size_t i = 0; i < sizeof kinds / sizeof kinds[0]; i++)
+        right &= both_refuse(kinds[i]);
+    return right;
+}
+
 static void fill_buffers(void)
 {
     memset(laid_out, 0xA5, sizeof laid_out);
@@ -362,7 +389,8 @@ static bool run_growth(const char *name, builder *build)
 
 int main(void)
 {
-    bool right = run_cases();
+    bool right = refusals_agree();
+    right &= run_cases();
     right &= run_late_cases();
     right &= run_growth("Comparisons with all shifts", mixed_comparisons);
     right &= run_growth("Comparisons and operators in turn", mixed_parts);

@@ -229,6 +229,33 @@ void build_case(struct sheets *sheets, builder *build, int parts, int rows)
     write_true_marks(&sheets->marks, &truth);
 }
 
+/* ---- Open parts ---- */
+
+/* x is 1 up to row P and 0 from there on, y is 1 on the row before P alone, and z rises on
+   one cycle row. On row P a part of Y, Z or S over x = 1 and y = 1 holds on pass 0 alone,
+   and T over x = 0 and y = 0 fails on it alone. With the mark on row P the other way round
+   their marks close. */
+void build_open_case(struct sheets *sheets, enum kind kind)
+{
+    enum { PARTS = 3, START = 16, ROWS = 256, RISING = 200 };
+    struct formula open = { .kind = kind, .a = 0, .b = 1 };
+    open.left = reading(2, 0);
+    open.right = constant(5);
+    start_plan(&plan, CHANNELS, START, ROWS - START);
+    for (int row = 0; row <= START; row++)
+        write_reading(&plan, row, 0, 1);
+    write_reading(&plan, START - 1, 1, 1);
+    write_drift(&plan, RISING, 2, 1);
+    start_rule(&rule, PARTS, CHANNELS);
+    write_comparison(&rule, 0, EQUAL, reading(0, 0), constant(kind != TRIGGER));
+    write_comparison(&rule, 1, EQUAL, reading(1, 0), constant(kind != TRIGGER));
+    write_formula(&rule, 2, &open);
+    sheets->rule = rule;
+    sheets->plan = plan;
+    write_true_marks_of(&sheets->marks, &truth, &rule, &plan);
+    *mark_byte(&sheets->marks, 2, START) ^= 1;
+}
+
 /* ---- Late cases ---- */
 
 /* One cycle row. Its last channel rises; the others stay, and over them every part

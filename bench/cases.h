@@ -31,6 +31,10 @@ builder after_lead_in;   /* comparisons with all shifts, and 4 lead-in rows */
 builder mixed_comparisons; /* less and equal in turn, with all shifts */
 builder mixed_parts;       /* such a comparison and an operator in turn */
 
+/* Build a table to be refused: a part of the kind, less, equal, Y, Z, S or T, does not
+   close, and its mark on row P is wrong. */
+void build_open_case(struct sheets *sheets, enum kind kind);
+
 /* Rules and plans that settle after some passes; they have no table. */
 typedef void late_builder(void);
 

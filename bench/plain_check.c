@@ -2,12 +2,14 @@
  * plain_check.c: the whole check and the judge in C written for speed.
  *
  * A part is first held against its marks as a whole, by the sweeps of
- * plain_sweeps.c. Only where they say no are its rows gone through one by one, for
- * the lowest that is refused. Nothing of it is proved. It is the measure in bench.c.
+ * plain_sweeps.c. Only where they say no are its rows gone through one by one: first
+ * whether it closes by its truth, whatever its marks, then for the lowest mark that is
+ * wrong. Nothing of it is proved. It is the measure in bench.c.
  */
 #include "plain_check.h"
 
 #include "plain.h"
+#include "plain_operators.h"
 #include "plain_sweeps.h"
 
 /* ---- Comparisons, row by row ---- */
@@ -22,24 +24,24 @@ static int judge_row(const struct plan *plan, int kind, const struct term *left,
     return judge_lines(kind, line_at(plan, left, row), line_at(plan, right, row));
 }
 
-/* Refusals 9 and 10 for a comparison. */
+/* Refusals 10 and 9 for a comparison. */
 static uint64_t search_comparison(const struct plan *plan, int kind, const struct term *left,
                                   const struct term *right, const uint8_t *m, size_t part)
 {
-    for (int row = 0; row < plan->rows; row++)
-        if (m[row] != truth_at(plan, kind, left, right, row))
-            return refuse(9, part, (size_t)row);
     for (int row = plan->start; row < plan->rows; row++)
         if (judge_row(plan, kind, left, right, row) == CHANGES)
             return refuse(10, part, (size_t)row);
+    for (int row = 0; row < plan->rows; row++)
+        if (m[row] != truth_at(plan, kind, left, right, row))
+            return refuse(9, part, (size_t)row);
     return 0;
 }
 
 /* ---- Operators, row by row ---- */
 
-/* What the mark on a row is by the equation, with the row after or before it. */
+/* What the mark on a row is by the equation, with the row after it. */
 static unsigned equation(int kind, const uint8_t *m, const uint8_t *a, const uint8_t *b, int row,
-                         int beside)
+                         int after)
 {
     switch (kind) {
     case NOT:
@@ -48,37 +50,35 @@ static unsigned equation(int kind, const uint8_t *m, const uint8_t *a, const uin
         return a[row] & b[row];
     case OR:
         return a[row] | b[row];
-    case UNTIL:
-    case SINCE:
-        return b[row] | (a[row] & m[beside]);
-    case RELEASE:
-    case TRIGGER:
-        return b[row] & (a[row] | m[beside]);
+    case NEXT:
+        return a[after];
     default:
-        return a[beside];
+        return step(kind == UNTIL, a[row], b[row], m[after]);
     }
 }
 
-/* What the mark of Y, Z, S or T on row 0 is. */
-static unsigned first_mark(int kind, const uint8_t *b)
+/* Refusals 10 and 9 for Y, Z, S and T. The lowest mark that is not the truth is the lowest
+   that breaks its equation. */
+static uint64_t search_past(const struct plan *plan, int kind, const uint8_t *m, const uint8_t *a,
+                            const uint8_t *b, size_t part)
 {
-    return kind == YESTERDAY ? 0 : kind == WEAK_YESTERDAY ? 1 : b[0];
+    uint8_t truth[MOST_ROWS];
+    if (!make_operator(kind, truth, a, b, plan->start, plan->rows))
+        return refuse(10, part, (size_t)plan->start);
+    for (int row = 0; row < plan->rows; row++)
+        if (m[row] != truth[row])
+            return refuse(9, part, (size_t)row);
+    return 0;
 }
 
-/* Refusals 9 and 10 for a part that is no comparison. */
-static uint64_t search_operator(const struct plan *plan, int kind, const uint8_t *m,
-                                const uint8_t *a, const uint8_t *b, size_t part)
+/* Refusal 9 for not, and, or, X, U and R. */
+static uint64_t search_closed(const struct plan *plan, int kind, const uint8_t *m,
+                              const uint8_t *a, const uint8_t *b, size_t part)
 {
     int last = plan->rows - 1;
-    bool past = kind >= YESTERDAY;
-    for (int row = 0; row <= last; row++) {
-        int beside = past ? row - 1 : row == last ? plan->start : row + 1;
-        unsigned due = beside < 0 ? first_mark(kind, b) : equation(kind, m, a, b, row, beside);
-        if (m[row] != due)
+    for (int row = 0; row <= last; row++)
+        if (m[row] != equation(kind, m, a, b, row, row == last ? plan->start : row + 1))
             return refuse(9, part, (size_t)row);
-    }
-    if (past && m[plan->start] != equation(kind, m, a, b, plan->start, last))
-        return refuse(10, part, (size_t)plan->start);
     return 0;
 }
 
@@ -133,7 +133,7 @@ static struct part get_part(const uint8_t *rule, const uint8_t *marks, size_t ro
     return part;
 }
 
-/* No refusal 9 or 10, by the sweeps, and no refusal 11. */
+/* No refusal 10 or 9, by the sweeps, and no refusal 11. */
 static bool part_is_clear(struct lanes *lanes, const struct part *part)
 {
     if (is_comparison(part->kind))
@@ -143,13 +143,15 @@ static bool part_is_clear(struct lanes *lanes, const struct part *part)
            witness_is_right(lanes->plan, part->kind, part->witness, part->m, part->b);
 }
 
-/* Refusals 9 to 11 of a part, row by row. */
+/* Refusals 10, 9 and 11 of a part, row by row. */
 static uint64_t search_part(const struct plan *plan, const struct part *part, size_t number)
 {
     uint64_t refused =
         is_comparison(part->kind)
             ? search_comparison(plan, part->kind, &part->left, &part->right, part->m, number)
-            : search_operator(plan, part->kind, part->m, part->a, part->b, number);
+        : is_past(part->kind)
+            ? search_past(plan, part->kind, part->m, part->a, part->b, number)
+            : search_closed(plan, part->kind, part->m, part->a, part->b, number);
     if (refused || witness_is_right(plan, part->kind, part->witness, part->m, part->b))
         return refused;
     return refuse(11, number, 0);

@@ -1,6 +1,7 @@
 /*
  * plain_operators.h: the marks of an operator over the marks of the parts that it
- * names, for the maker and the settlers in C. Start and rows are P and W.
+ * names, for the maker and the settlers in C, and for the check in C where it refuses.
+ * Start and rows are P and W.
  *
  * Every function is static, as in plain.h.
  */

@@ -3,7 +3,7 @@
  *
  * Both questions below are answered by loops that go over all rows and leave none
  * early, so that the compiler takes many rows at a time. "Clear" means that the part
- * has no refusal 9 and no refusal 10. "Not clear" names no row, and where a number
+ * has no refusal 10 and no refusal 9. "Not clear" names no row, and where a number
  * is too large for the loops it says nothing: then the rows are to be looked at one
  * by one.
  *

@@ -23,7 +23,7 @@
  * is false there.
  *
  * The program writes rule.bin, plan.bin and marks.bin of its first plan into
- * the current folder, has the same bytes checked, and then shows four tables
+ * the current folder, has the same bytes checked, and then shows five tables
  * that are answered otherwise. These marks are the planner's own. A planner
  * that has none needs the rule and the plan only: the program then has the
  * tables of the same four plans made. At the end it has two plans settled that
@@ -372,6 +372,11 @@ static int check_own_marks(const struct bytes *rule)
     printf("  part %d judged on row 3: %s\n", LOWER, endless_run_judge_message(judged));
     if (endless_run_finding(judged) == ENDLESS_RUN_CHANGES)
         printf("  the count is %d on pass %d\n", LIMIT, LIMIT - next.row[3].count);
+
+    /* Both faults are in part 0, and the plan's is told first. */
+    printf("The same, but row 1 is also marked as a lower count:\n");
+    marks.at[4 + 5 * LOWER + 1] = 1;
+    check(rule, &plan, &marks);
     return 1;
 }
 

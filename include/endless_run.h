@@ -107,9 +107,11 @@ extern "C" {
 /*
  * The version of this interface: of the layouts, of the answers and of what is
  * declared here. It is raised by 1 with each change of a layout, of the meaning
- * of an answer or of the interface that a caller could notice.
+ * of an answer or of the interface that a caller could notice. In version 5
+ * refusal 10 of endless_run_check() comes before 9 of the same part; what is
+ * accepted is as in version 4.
  */
-#define ENDLESS_RUN_VERSION 4
+#define ENDLESS_RUN_VERSION 5
 
 /* The kind byte of a part. The comments give its operand: two terms, one part,
    or two parts a and b in this order. */
@@ -170,15 +172,17 @@ enum endless_run_form {
 
 /*
  * The refusals. Each function looks for its own in the order of their numbers,
- * and an answer carries the first that applies:
+ * but for 10 before 9, and an answer carries the first that applies:
  *
  *   endless_run_check()    1 to 11
  *   endless_run_judge()    1 to 6, 12
  *   endless_run_make()     1 to 6, 13, 14
  *   endless_run_settle()   1 to 6, 13, 15
  *
- * Refusals 9, 10 and 11 are looked for on one part before the next part, the
- * lowest part first. "Part" and "row" say what the refusal names.
+ * Refusals 10, 9 and 11, in this order, are looked for on one part before the
+ * next part, the lowest part first. So a part that does not close and has a
+ * wrong mark too is refused with 10: the plan comes first, the marks after it.
+ * "Part" and "row" say what the refusal names.
  */
 enum endless_run_refusal {
     /* The rule has fewer than 4 bytes, N or V is outside its range, or the
@@ -213,18 +217,20 @@ enum endless_run_refusal {
        lowest such row of that part. */
     ENDLESS_RUN_MARK_BYTE = 8,
 
-    /* A mark breaks its equation. The equation of a comparison is its truth at
-       pass 0; that of any other part ties the mark to the marks of the parts
-       that it names, on this row or on the row beside it, and for U, R, S and
-       T also to the part's own mark on the row beside it. Part; row: the
-       lowest row on which mark and equation differ. That mark is false, but
-       for U and R the false one may instead be the part's own mark on the row
-       after. */
+    /* A mark of a part that closes breaks its equation. The equation of a
+       comparison is its truth at pass 0; that of any other part ties the mark
+       to the marks of the parts that it names, on this row or on the row
+       beside it, and for U, R, S and T also to the part's own mark on the row
+       beside it. Part; row: the lowest row on which mark and equation differ.
+       That mark is false, but for U and R the false one may instead be the
+       part's own mark on the row after. */
     ENDLESS_RUN_EQUATION = 9,
 
     /* A part does not close: its truth on the rows does not carry over to the
-       following passes. Part; row: for a comparison the lowest cycle row on
-       which it changes, for every other part row P. */
+       following passes, whatever its own marks say. The plan or the rule is at
+       fault, and no marks can help: endless_run_make() answers 14 for the same
+       part and row. Part; row: for a comparison the lowest cycle row on which
+       it changes, for every other part row P. */
     ENDLESS_RUN_CLOSING = 10,
 
     /* A witness is not as it should be: an "until" marked 1 on row W - 1 names

@@ -6,12 +6,13 @@
  * One input for each worked example. For each kind of part and some sizes of plan,
  * with and without lead-in rows, the true table of a rule with all kinds up to that
  * one. For Y, Z, S and T the true table on each plan of three rows of 0 and 1, whether
- * it closes or not, and the same with a part above that does not name it. For each L
- * and each shift back the true table of comparisons that look back, on a lead-in that
- * goes on as the cycle does, on one that does not, and on one that has a drift; and
- * plans with a wrong L. Rules and plans that settle after some passes, by Y, Z, S and T
- * over one another or by a drift, or for which there is no room; and lengths of the
- * buffers of settle.
+ * it closes or not, and the same with a part above that does not name it; and each with
+ * a wrong mark, in that part or in one below. Less and equal that change, with a wrong
+ * mark. For each L and each shift back the true table of comparisons that look back, on
+ * a lead-in that goes on as the cycle does, on one that does not, and on one that has a
+ * drift; and plans with a wrong L. Rules and plans that settle after some passes, by Y,
+ * Z, S and T over one another or by a drift, or for which there is no room; and lengths
+ * of the buffers of settle.
  */
 #include "../support/examples.h"
 
@@ -143,6 +144,32 @@ static void write_wrong_leads(void)
     }
 }
 
+/* The table with a wrong mark of the part on each of three rows in turn. */
+static void write_wrong_marks(const char *name, int part)
+{
+    char wrong[96];
+    for (int row = 0; row < 3; row++) {
+        *mark_byte(&marks, part, row) ^= 1;
+        snprintf(wrong, sizeof wrong, "%s-wrong-%d-%d", name, part, row);
+        write_input(wrong, (unsigned)part, (unsigned)row);
+        *mark_byte(&marks, part, row) ^= 1;
+    }
+}
+
+/* x < 1 or x = 1 on three rows, one of which rises from 0. */
+static void write_changing(enum kind kind, int start, int rising)
+{
+    char name[64];
+    start_rule(&rule, 2, 1);
+    write_comparison(&rule, 0, kind, reading(0, 0), constant(1));
+    write_unary(&rule, 1, NOT, 0);
+    start_plan(&plan, 1, start, 3 - start);
+    write_drift(&plan, rising, 0, 1);
+    write_true_marks_of(&marks, &space, &rule, &plan);
+    snprintf(name, sizeof name, "changing-%d-start-%d-row-%d", (int)kind, start, rising);
+    write_wrong_marks(name, 0);
+}
+
 /* A part of this kind over x = 1 and y = 1, on rows that the bits give, as the last
    part of 3 or as one of 4 that nobody names. */
 static void write_past(enum kind kind, int parts, int start, int bits)
@@ -160,6 +187,7 @@ static void write_past(enum kind kind, int parts, int start, int bits)
     write_true_marks_of(&marks, &space, &rule, &plan);
     snprintf(name, sizeof name, "past-%d-parts-%d-start-%d-rows-%d", (int)kind, parts, start, bits);
     write_input(name, 0, (unsigned)start);
+    write_wrong_marks(name, parts == 4 ? 1 : 2);
 }
 
 /* Y, Z, S or T over one another, so deep, over x = 1 read some positions back, on a
@@ -235,6 +263,11 @@ int main(int argc, char **argv)
                 write_looking_back(lead, start, shift);
     write_wrong_leads();
     write_all_late();
+    for (int start = 0; start < 3; start++)
+        for (int rising = start; rising < 3; rising++) {
+            write_changing(LESS, start, rising);
+            write_changing(EQUAL, start, rising);
+        }
     for (int kind = YESTERDAY; kind <= TRIGGER; kind++)
         for (int start = 0; start < 3; start++)
             for (int bits = 0; bits < 64; bits++) {

@@ -81,7 +81,8 @@ static void hold(bool right, const char *what, uint64_t answer, uint64_t due)
     abort();
 }
 
-/* The truth agrees: a table is accepted just as the published truth has it. */
+/* The truth agrees: a table is accepted, or refused for a part that does not close,
+   just as the published truth has it. */
 static bool as_truth_has_it(const struct question *q, uint64_t answer)
 {
     static struct truth space;
@@ -90,8 +91,10 @@ static bool as_truth_has_it(const struct question *q, uint64_t answer)
         return answer == 0;
     case ACCEPTED_TRUE:
         return answer == 1;
+    case OPEN:
+        return answer >> 32 == 10;
     default:
-        return answer > 1;
+        return answer > 1 && answer >> 32 != 10;
     }
 }
 

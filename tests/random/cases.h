@@ -3,7 +3,8 @@
  *
  * A case is a plan, a rule that suits it, and a table. Most rules are grown part
  * by part so that every part closes, since random parts seldom do. Most tables
- * begin as the published truth; one fault is then put in, or none.
+ * begin as the published truth; one fault is then put in, or none. Where a part does
+ * not close, another table has wrong marks in that very part.
  */
 #ifndef CASES_H
 #define CASES_H
@@ -36,5 +37,9 @@ void make_still_plan(int channels);
 
 /* A table for the rule and the plan of the case (tables.c). */
 void make_table(void);
+
+/* One with wrong marks in the lowest part that does not close, and now and then with
+   one in another part too. False, and no table, where all parts close. */
+bool make_spoiled_table(void);
 
 #endif

@@ -91,8 +91,11 @@ static bool as_truth_has_it(uint64_t answer, enum acceptance acceptance)
     switch (acceptance) {
     case NOT_A_TABLE:
         return answer >= refusal(1, 0, 0) && answer < refusal(9, 0, 0);
-    case REFUSED:
-        return answer >= refusal(9, 0, 0) && answer < refusal(12, 0, 0);
+    case OPEN:
+        return endless_run_number(answer) == ENDLESS_RUN_CLOSING;
+    case FAULTY:
+        return endless_run_number(answer) == ENDLESS_RUN_EQUATION ||
+               endless_run_number(answer) == ENDLESS_RUN_WITNESS;
     case ACCEPTED_FALSE:
         return answer == 0;
     case ACCEPTED_TRUE:

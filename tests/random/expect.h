@@ -76,6 +76,7 @@ void print_sheet(const char *name, const struct sheet *sheet);
 /* The groups of tests. */
 void test_examples(void);
 void test_neighbours(void);
+void test_closing(void);
 void test_lead_in(void);
 void test_making(void);
 void test_settling(void);

@@ -4,10 +4,10 @@
  *
  *   random [SEED [CASES]]
  *
- * The worked examples, the neighbours of each refusal, lead-in rows, the tables that
- * are made, the passes that are laid out, worked vectors from the papers, the header's
- * constants and functions, then random cases against the second evaluator. The same
- * seed gives the same cases.
+ * The worked examples, the neighbours of each refusal, parts that do not close and have
+ * wrong marks, lead-in rows, the tables that are made, the passes that are laid out,
+ * worked vectors from the papers, the header's constants and functions, then random
+ * cases against the second evaluator. The same seed gives the same cases.
  * The last line is 'N passed, M failed'; the exit status is 0 only if M is 0.
  */
 #include "expect.h"
@@ -29,6 +29,7 @@ int main(int argc, char **argv)
     unsigned long cases = argc > 2 ? strtoul(argv[2], NULL, 10) : 60000;
     run_group("worked examples", test_examples);
     run_group("neighbours of the refusals", test_neighbours);
+    run_group("closing and wrong marks", test_closing);
     run_group("lead-in rows", test_lead_in);
     run_group("tables made", test_making);
     run_group("passes laid out", test_settling);

@@ -1,9 +1,15 @@
 /*
- * random.h: what random cases ask of make (random_make.c) and of settle
- * (random_settle.c).
+ * random.h: what random cases ask of closing (random_closing.c), of make
+ * (random_make.c) and of settle (random_settle.c).
  */
 #ifndef RANDOM_H
 #define RANDOM_H
+
+#include <stdint.h>
+
+/* Hold the answer on the table of the case to what it was in the earlier order of 9 and
+   10, and to make. */
+void ask_in_earlier_order(const char *name, uint64_t answer);
 
 /* Have a table made for the rule and the plan of the case as they stand, mostly
    in a buffer of the right length. */
@@ -14,6 +20,7 @@ void ask_for_table(const char *name);
 void ask_to_settle(const char *name);
 
 /* Print what the answers were, and hold the counts to their floors. */
+void print_closing_counts(unsigned long cases);
 void print_make_counts(unsigned long cases);
 void print_settle_counts(unsigned long cases);
 

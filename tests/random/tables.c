@@ -130,15 +130,10 @@ static void flip_mark(void)
     flip_mark_of(some_part());
 }
 
-/* A wrong mark in a part that does not close either. */
-static void flip_mark_where_not_closing(void)
+static void scramble_marks_of(int part)
 {
-    for (int part = 0; part < case_truth.rule.parts; part++)
-        if (!is_row_periodic(&case_truth, part)) {
-            flip_mark_of(part);
-            return;
-        }
-    flip_mark();
+    for (int row = 0; row < case_truth.plan.rows; row++)
+        *mark_byte(&case_marks, part, row) = chance(50);
 }
 
 static void damage_witness(void)
@@ -156,9 +151,7 @@ static void damage_witness(void)
 
 static void scramble_part(void)
 {
-    int part = some_part();
-    for (int row = 0; row < case_truth.plan.rows; row++)
-        *mark_byte(&case_marks, part, row) = chance(50);
+    scramble_marks_of(some_part());
 }
 
 static void damage_mark_bytes(void)
@@ -281,8 +274,7 @@ static const struct {
     void (*put_in)(void);
 } faults[] = {
     { 32, no_fault },
-    { 10, flip_mark },
-    { 4, flip_mark_where_not_closing },
+    { 14, flip_mark },
     { 12, damage_witness },
     { 15, mark_by_equations },
     { 3, scramble_part },
@@ -303,4 +295,24 @@ void make_table(void)
     while (left >= faults[fault].percent)
         left -= faults[fault++].percent;
     faults[fault].put_in();
+}
+
+/* Flipped on row P, the marks of Y and Z close, and mostly those of S and T. */
+bool make_spoiled_table(void)
+{
+    int part = 0;
+    while (part < case_truth.rule.parts && is_row_periodic(&case_truth, part))
+        part++;
+    if (part == case_truth.rule.parts)
+        return false;
+    write_true_marks(&case_marks, &case_truth);
+    if (chance(40))
+        *mark_byte(&case_marks, part, case_truth.plan.start) ^= 1;
+    else if (chance(50))
+        flip_mark_of(part);
+    else
+        scramble_marks_of(part);
+    if (chance(30))
+        flip_mark();
+    return true;
 }

@@ -4,8 +4,10 @@
  * Two ways lead to acceptance here, and they share the layouts, comparisons and
  * the witness paragraph only:
  *
- *   second_check       goes through the list of refusals, with the equations
- *                      and closing conditions on marks as docs/FORMATS.md has them
+ *   second_check       goes through the list of refusals, within one part 10, 9
+ *                      and 11. A part closes or not by its truth, which the
+ *                      equations give from the marks of the parts that it names;
+ *                      its own marks are held to the equations after that
  *   second_acceptance  compares the marks with the published truth, and looks
  *                      at no equation
  */
@@ -36,14 +38,15 @@ static int row_after(const struct plan *plan, int row)
     return row == plan->rows - 1 ? plan->start : row + 1;
 }
 
-/* The equation of Y, Z, S and T for a row above 0, with the row before it. */
-static bool equation_of_past(const struct marks *m, const struct formula *f, int part, int row,
-                             int row_before)
+/* The equation of Y, Z, S and T for a row above 0, with the row before it and what
+   the part itself is there. */
+static bool equation_of_past(const struct marks *m, const struct formula *f, int row,
+                             int row_before, bool before)
 {
     if (f->kind == SINCE)
-        return m->mark[f->b][row] || (m->mark[f->a][row] && m->mark[part][row_before]);
+        return m->mark[f->b][row] || (m->mark[f->a][row] && before);
     if (f->kind == TRIGGER)
-        return m->mark[f->b][row] && (m->mark[f->a][row] || m->mark[part][row_before]);
+        return m->mark[f->b][row] && (m->mark[f->a][row] || before);
     return m->mark[f->a][row_before];
 }
 
@@ -84,7 +87,7 @@ static bool equation(const struct table *table, int part, int row)
     case SINCE:
     case TRIGGER:
         return row == 0 ? equation_of_past_at_0(m, f)
-                        : equation_of_past(m, f, part, row, row - 1);
+                        : equation_of_past(m, f, row, row - 1, m->mark[part][row - 1]);
     }
     return false;
 }
@@ -104,6 +107,24 @@ static bool is_past(enum kind kind)
     return kind == YESTERDAY || kind == WEAK_YESTERDAY || kind == SINCE || kind == TRIGGER;
 }
 
+/* The truth of Y, Z, S or T on a row of the first pass, from row 0 on. */
+static bool running_truth(const struct marks *m, const struct formula *f, int row)
+{
+    bool now = equation_of_past_at_0(m, f);
+    for (int i = 1; i <= row; i++)
+        now = equation_of_past(m, f, i, i - 1, now);
+    return now;
+}
+
+/* Is the truth on row P the same when row W - 1 comes before it? */
+static bool past_closes(const struct table *table, const struct formula *f)
+{
+    const struct marks *m = &table->marks;
+    int start = table->plan.start, last = table->plan.rows - 1;
+    return running_truth(m, f, start) ==
+           equation_of_past(m, f, start, last, running_truth(m, f, last));
+}
+
 static uint64_t refuse_closing(const struct table *table, int part)
 {
     const struct formula *f = &table->rule.part[part];
@@ -112,11 +133,8 @@ static uint64_t refuse_closing(const struct table *table, int part)
         for (int row = plan->start; row < plan->rows; row++)
             if (judge_by_passes(plan, f, row) == CHANGES)
                 return refusal(10, part, row);
-    if (is_past(f->kind)) {
-        bool due = equation_of_past(&table->marks, f, part, plan->start, plan->rows - 1);
-        if (table->marks.mark[part][plan->start] != due)
-            return refusal(10, part, plan->start);
-    }
+    if (is_past(f->kind) && !past_closes(table, f))
+        return refusal(10, part, plan->start);
     return 0;
 }
 
@@ -136,21 +154,28 @@ static bool witness_in_order(const struct table *table, int part)
 
 /* ---- Answers ---- */
 
-uint64_t second_check(struct slice rule, struct slice plan, struct slice marks)
+uint64_t second_check_in(enum order order, struct slice rule, struct slice plan,
+                         struct slice marks)
 {
     struct table table;
     uint64_t refused = decode_table(rule, plan, marks, &table);
     if (refused)
         return refused;
     for (int part = 0; part < table.rule.parts; part++) {
-        if ((refused = refuse_equation(&table, part)) != 0)
-            return refused;
-        if ((refused = refuse_closing(&table, part)) != 0)
-            return refused;
+        uint64_t open = refuse_closing(&table, part), broken = refuse_equation(&table, part);
+        if (open && (order == CLOSING_FIRST || !broken))
+            return open;
+        if (broken)
+            return broken;
         if (!witness_in_order(&table, part))
             return refusal(11, part, 0);
     }
     return table.marks.mark[table.rule.parts - 1][0];
+}
+
+uint64_t second_check(struct slice rule, struct slice plan, struct slice marks)
+{
+    return second_check_in(CLOSING_FIRST, rule, plan, marks);
 }
 
 uint64_t second_judge(struct slice rule, struct slice plan, uint64_t part, uint64_t row)
@@ -187,9 +212,10 @@ enum acceptance second_acceptance(struct truth *space, struct slice rule, struct
     space->plan = table.plan;
     for (int part = 0; part < table.rule.parts; part++) {
         find_truth(space, part);
-        if (!is_row_periodic(space, part) || !marks_are_true(space, &table.marks, part) ||
-            !witness_in_order(&table, part))
-            return REFUSED;
+        if (!is_row_periodic(space, part))
+            return OPEN;
+        if (!marks_are_true(space, &table.marks, part) || !witness_in_order(&table, part))
+            return FAULTY;
     }
     return holds(space, table.rule.parts - 1, 0) ? ACCEPTED_TRUE : ACCEPTED_FALSE;
 }

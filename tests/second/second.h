@@ -162,6 +162,12 @@ bool is_row_periodic(const struct truth *truth, int part);
 /* The answer of check, refusal by refusal in the order of the list. */
 uint64_t second_check(struct slice rule, struct slice plan, struct slice marks);
 
+/* The same with 10 before 9 within one part, as it is, or with 9 before 10, as it was
+   before the header's version 5. */
+enum order { CLOSING_FIRST, EQUATIONS_FIRST };
+uint64_t second_check_in(enum order order, struct slice rule, struct slice plan,
+                         struct slice marks);
+
 /* The answer of judge: refusals 1 to 6, then 12, then what the passes show. */
 uint64_t second_judge(struct slice rule, struct slice plan, uint64_t part, uint64_t row);
 
@@ -169,8 +175,10 @@ uint64_t second_judge(struct slice rule, struct slice plan, uint64_t part, uint6
    no equation: every part is row-periodic, every mark is the truth at the
    first position of its row, every witness is in order. The verdict is the
    truth of the last part at position 0. NOT_A_TABLE: refusals 1 to 8 apply.
-   The space is written over. */
-enum acceptance { NOT_A_TABLE, REFUSED, ACCEPTED_FALSE, ACCEPTED_TRUE };
+   OPEN: the lowest part at fault is not row-periodic, whatever its marks. FAULTY:
+   it is, and a mark or its witness is wrong. The space is written over; it holds
+   the truth of the parts up to that one. */
+enum acceptance { NOT_A_TABLE, OPEN, FAULTY, ACCEPTED_FALSE, ACCEPTED_TRUE };
 enum acceptance second_acceptance(struct truth *space, struct slice rule, struct slice plan,
                                   struct slice marks);
 

@@ -1,0 +1,127 @@
+/*
+ * random_closing.c: random tables with faults in closing, in marks and in both.
+ *
+ * In the earlier order 9 came before 10 within one part. The answer must be the same, but
+ * for tables whose lowest part at fault both does not close and has a wrong mark. These
+ * are counted, kind by kind, and so is what else a check could get wrong; a count below
+ * its floor is a failure.
+ */
+#include "random.h"
+
+#include "cases.h"
+#include "expect.h"
+
+#include "../../include/endless_run.h"
+
+#include <stdio.h>
+
+/* ---- Counts ---- */
+
+static struct {
+    unsigned long open[13];        /* refused 10 for a part of the kind */
+    unsigned long moved[13];       /* the same, and 9 in the earlier order */
+    unsigned long marks_close[13]; /* the same, and its own marks close */
+    unsigned long marks_open[13];  /* refused 9, its truth closes, and its own marks do not */
+    unsigned long below_open[12];  /* refused 9 or 11, and a higher part does not close */
+} counts;
+
+static bool mark(int part, int row)
+{
+    return *mark_byte(&case_marks, part, row);
+}
+
+/* Is the mark of Y, Z, S or T on row P as the equation has it after row W - 1? */
+static bool own_marks_close(const struct plan *p, const struct formula *f, int part)
+{
+    int first = p->start, last = p->rows - 1;
+    if (f->kind == SINCE)
+        return mark(part, first) == (mark(f->b, first) || (mark(f->a, first) && mark(part, last)));
+    if (f->kind == TRIGGER)
+        return mark(part, first) == (mark(f->b, first) && (mark(f->a, first) || mark(part, last)));
+    return mark(part, first) == mark(f->a, last);
+}
+
+/* Some part of the case does not close. */
+static bool some_part_is_open(const struct rule *r, const struct plan *p)
+{
+    static struct sheet buffer;
+    resize(&buffer, table_length(r->parts, p->rows));
+    uint64_t made = second_make(&truth_space, slice_of(&case_rule), slice_of(&case_plan),
+                                buffer.at, buffer.len);
+    return endless_run_number(made) == ENDLESS_RUN_NO_TABLE;
+}
+
+/* The answer is 9, 10 or 11. */
+static void count_refused(uint64_t answer, uint64_t earlier)
+{
+    struct rule r;
+    struct plan p;
+    decode_rule(slice_of(&case_rule), &r);
+    decode_plan(slice_of(&case_plan), r.channels, &p);
+    unsigned number = endless_run_number(answer);
+    int part = (int)endless_run_part(answer);
+    const struct formula *f = &r.part[part];
+    bool past = f->kind >= YESTERDAY, closes = past && own_marks_close(&p, f, part);
+    counts.open[f->kind] += number == ENDLESS_RUN_CLOSING;
+    counts.moved[f->kind] += earlier != answer;
+    counts.marks_close[f->kind] += earlier != answer && closes;
+    counts.marks_open[f->kind] += number == ENDLESS_RUN_EQUATION && past && !closes;
+    counts.below_open[number] += number != ENDLESS_RUN_CLOSING && some_part_is_open(&r, &p);
+}
+
+static void hold_kind(const char *name, enum kind kind, const unsigned long *of_kinds,
+                      unsigned long cases, unsigned long in_10000)
+{
+    char of_kind[64];
+    snprintf(of_kind, sizeof of_kind, "%s %s", name, kind_names[kind]);
+    hold_to_floor(of_kind, of_kinds[kind], cases, in_10000);
+}
+
+void print_closing_counts(unsigned long cases)
+{
+    for (enum kind kind = LESS; kind <= TRIGGER; kind++)
+        if (kind <= EQUAL || kind >= YESTERDAY) {
+            hold_kind("refused 10 for kind", kind, counts.open, cases, 20);
+            hold_kind("refused 10, earlier 9, for kind", kind, counts.moved, cases, 20);
+        }
+    for (enum kind kind = YESTERDAY; kind <= TRIGGER; kind++) {
+        hold_kind("refused 10, earlier 9, marks close, of", kind, counts.marks_close, cases, 10);
+        hold_kind("refused 9, only marks do not close, of", kind, counts.marks_open, cases, 5);
+    }
+    hold_to_floor("refused 9, a higher part does not close",
+                  counts.below_open[ENDLESS_RUN_EQUATION], cases, 50);
+    hold_to_floor("refused 11, a higher part does not close",
+                  counts.below_open[ENDLESS_RUN_WITNESS], cases, 50);
+}
+
+/* ---- Questions ---- */
+
+/* The lowest row on which a mark of the part is not its truth; W if there is none. */
+static int lowest_false_mark(int part)
+{
+    int row = 0;
+    while (row < truth_space.plan.rows && mark(part, row) == holds(&truth_space, part, row))
+        row++;
+    return row;
+}
+
+/* What a table refused with 10 was refused with in the earlier order, by the truth. */
+static uint64_t earlier_by_truth(uint64_t answer)
+{
+    second_acceptance(&truth_space, slice_of(&case_rule), slice_of(&case_plan),
+                      slice_of(&case_marks));
+    int part = (int)endless_run_part(answer), row = lowest_false_mark(part);
+    return row < truth_space.plan.rows ? refusal(9, part, row) : answer;
+}
+
+void ask_in_earlier_order(const char *name, uint64_t answer)
+{
+    bool open = endless_run_number(answer) == ENDLESS_RUN_CLOSING;
+    uint64_t earlier = second_check_in(EQUATIONS_FIRST, slice_of(&case_rule),
+                                       slice_of(&case_plan), slice_of(&case_marks));
+    expect(name, earlier == (open ? earlier_by_truth(answer) : answer));
+    if (open)
+        expect_make_as_checked(name, &case_rule, &case_plan, &case_marks, answer);
+    if (endless_run_number(answer) >= ENDLESS_RUN_EQUATION)
+        count_refused(answer, earlier);
+}
