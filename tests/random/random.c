@@ -193,7 +193,7 @@ static void ask_about_table(const char *name)
         second_check(slice_of(&case_rule), slice_of(&case_plan), slice_of(&case_marks));
     count_check(answer);
     bool right = expect_check(name, &case_rule, &case_plan, &case_marks, answer);
-    ask_in_earlier_order(name, answer);
+    ask_about_closing(name, answer);
     if (!right && failed <= 3) {
         print_sheet("rule", &case_rule);
         print_sheet("plan", &case_plan);

@@ -7,9 +7,8 @@
 
 #include <stdint.h>
 
-/* Hold the answer on the table of the case to what it was in the earlier order of 9 and
-   10, and to make. */
-void ask_in_earlier_order(const char *name, uint64_t answer);
+/* Hold an answer 10 on the table of the case to make's, and count it. */
+void ask_about_closing(const char *name, uint64_t answer);
 
 /* Have a table made for the rule and the plan of the case as they stand, mostly
    in a buffer of the right length. */

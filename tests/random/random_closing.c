@@ -1,10 +1,9 @@
 /*
  * random_closing.c: random tables with faults in closing, in marks and in both.
  *
- * In the earlier order 9 came before 10 within one part. The answer must be the same, but
- * for tables whose lowest part at fault both does not close and has a wrong mark. These
- * are counted, kind by kind, and so is what else a check could get wrong; a count below
- * its floor is a failure.
+ * The tables whose answer hangs on 10 before 9 within one part are those whose lowest
+ * part at fault both does not close and has a wrong mark. They are counted, kind by kind,
+ * and so is what else a check could get wrong; a count below its floor is a failure.
  */
 #include "random.h"
 
@@ -19,7 +18,7 @@
 
 static struct {
     unsigned long open[13];        /* refused 10 for a part of the kind */
-    unsigned long moved[13];       /* the same, and 9 in the earlier order */
+    unsigned long both[13];        /* the same, and a mark of it is wrong */
     unsigned long marks_close[13]; /* the same, and its own marks close */
     unsigned long marks_open[13];  /* refused 9, its truth closes, and its own marks do not */
     unsigned long below_open[12];  /* refused 9 or 11, and a higher part does not close */
@@ -51,8 +50,27 @@ static bool some_part_is_open(const struct rule *r, const struct plan *p)
     return endless_run_number(made) == ENDLESS_RUN_NO_TABLE;
 }
 
+/* A mark of the part is not its truth. The truth of the parts up to it has been found. */
+static bool has_wrong_mark(int part)
+{
+    for (int row = 0; row < truth_space.plan.rows; row++)
+        if (mark(part, row) != holds(&truth_space, part, row))
+            return true;
+    return false;
+}
+
+static void count_open(const struct plan *p, const struct formula *f, int part)
+{
+    second_acceptance(&truth_space, slice_of(&case_rule), slice_of(&case_plan),
+                      slice_of(&case_marks));
+    bool wrong = has_wrong_mark(part);
+    counts.open[f->kind]++;
+    counts.both[f->kind] += wrong;
+    counts.marks_close[f->kind] += wrong && f->kind >= YESTERDAY && own_marks_close(p, f, part);
+}
+
 /* The answer is 9, 10 or 11. */
-static void count_refused(uint64_t answer, uint64_t earlier)
+static void count_refused(uint64_t answer)
 {
     struct rule r;
     struct plan p;
@@ -61,12 +79,13 @@ static void count_refused(uint64_t answer, uint64_t earlier)
     unsigned number = endless_run_number(answer);
     int part = (int)endless_run_part(answer);
     const struct formula *f = &r.part[part];
-    bool past = f->kind >= YESTERDAY, closes = past && own_marks_close(&p, f, part);
-    counts.open[f->kind] += number == ENDLESS_RUN_CLOSING;
-    counts.moved[f->kind] += earlier != answer;
-    counts.marks_close[f->kind] += earlier != answer && closes;
-    counts.marks_open[f->kind] += number == ENDLESS_RUN_EQUATION && past && !closes;
-    counts.below_open[number] += number != ENDLESS_RUN_CLOSING && some_part_is_open(&r, &p);
+    if (number == ENDLESS_RUN_CLOSING) {
+        count_open(&p, f, part);
+        return;
+    }
+    counts.marks_open[f->kind] += number == ENDLESS_RUN_EQUATION && f->kind >= YESTERDAY &&
+                                  !own_marks_close(&p, f, part);
+    counts.below_open[number] += some_part_is_open(&r, &p);
 }
 
 static void hold_kind(const char *name, enum kind kind, const unsigned long *of_kinds,
@@ -82,10 +101,10 @@ void print_closing_counts(unsigned long cases)
     for (enum kind kind = LESS; kind <= TRIGGER; kind++)
         if (kind <= EQUAL || kind >= YESTERDAY) {
             hold_kind("refused 10 for kind", kind, counts.open, cases, 20);
-            hold_kind("refused 10, earlier 9, for kind", kind, counts.moved, cases, 20);
+            hold_kind("refused 10, a wrong mark too, kind", kind, counts.both, cases, 20);
         }
     for (enum kind kind = YESTERDAY; kind <= TRIGGER; kind++) {
-        hold_kind("refused 10, earlier 9, marks close, of", kind, counts.marks_close, cases, 10);
+        hold_kind("refused 10, only wrong marks close, of", kind, counts.marks_close, cases, 10);
         hold_kind("refused 9, only marks do not close, of", kind, counts.marks_open, cases, 5);
     }
     hold_to_floor("refused 9, a higher part does not close",
@@ -96,32 +115,10 @@ void print_closing_counts(unsigned long cases)
 
 /* ---- Questions ---- */
 
-/* The lowest row on which a mark of the part is not its truth; W if there is none. */
-static int lowest_false_mark(int part)
+void ask_about_closing(const char *name, uint64_t answer)
 {
-    int row = 0;
-    while (row < truth_space.plan.rows && mark(part, row) == holds(&truth_space, part, row))
-        row++;
-    return row;
-}
-
-/* What a table refused with 10 was refused with in the earlier order, by the truth. */
-static uint64_t earlier_by_truth(uint64_t answer)
-{
-    second_acceptance(&truth_space, slice_of(&case_rule), slice_of(&case_plan),
-                      slice_of(&case_marks));
-    int part = (int)endless_run_part(answer), row = lowest_false_mark(part);
-    return row < truth_space.plan.rows ? refusal(9, part, row) : answer;
-}
-
-void ask_in_earlier_order(const char *name, uint64_t answer)
-{
-    bool open = endless_run_number(answer) == ENDLESS_RUN_CLOSING;
-    uint64_t earlier = second_check_in(EQUATIONS_FIRST, slice_of(&case_rule),
-                                       slice_of(&case_plan), slice_of(&case_marks));
-    expect(name, earlier == (open ? earlier_by_truth(answer) : answer));
-    if (open)
+    if (endless_run_number(answer) == ENDLESS_RUN_CLOSING)
         expect_make_as_checked(name, &case_rule, &case_plan, &case_marks, answer);
     if (endless_run_number(answer) >= ENDLESS_RUN_EQUATION)
-        count_refused(answer, earlier);
+        count_refused(answer);
 }

@@ -154,28 +154,21 @@ static bool witness_in_order(const struct table *table, int part)
 
 /* ---- Answers ---- */
 
-uint64_t second_check_in(enum order order, struct slice rule, struct slice plan,
-                         struct slice marks)
+uint64_t second_check(struct slice rule, struct slice plan, struct slice marks)
 {
     struct table table;
     uint64_t refused = decode_table(rule, plan, marks, &table);
     if (refused)
         return refused;
     for (int part = 0; part < table.rule.parts; part++) {
-        uint64_t open = refuse_closing(&table, part), broken = refuse_equation(&table, part);
-        if (open && (order == CLOSING_FIRST || !broken))
-            return open;
-        if (broken)
-            return broken;
+        if ((refused = refuse_closing(&table, part)) != 0)
+            return refused;
+        if ((refused = refuse_equation(&table, part)) != 0)
+            return refused;
         if (!witness_in_order(&table, part))
             return refusal(11, part, 0);
     }
     return table.marks.mark[table.rule.parts - 1][0];
-}
-
-uint64_t second_check(struct slice rule, struct slice plan, struct slice marks)
-{
-    return second_check_in(CLOSING_FIRST, rule, plan, marks);
 }
 
 uint64_t second_judge(struct slice rule, struct slice plan, uint64_t part, uint64_t row)

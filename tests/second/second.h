@@ -162,12 +162,6 @@ bool is_row_periodic(const struct truth *truth, int part);
 /* The answer of check, refusal by refusal in the order of the list. */
 uint64_t second_check(struct slice rule, struct slice plan, struct slice marks);
 
-/* The same with 10 before 9 within one part, as it is, or with 9 before 10, as it was
-   before the header's version 5. */
-enum order { CLOSING_FIRST, EQUATIONS_FIRST };
-uint64_t second_check_in(enum order order, struct slice rule, struct slice plan,
-                         struct slice marks);
-
 /* The answer of judge: refusals 1 to 6, then 12, then what the passes show. */
 uint64_t second_judge(struct slice rule, struct slice plan, uint64_t part, uint64_t row);
 
