@@ -1,6 +1,6 @@
--- What moved when 10 came before 9 within one part. Acceptance did not: the same tables are accepted with the same verdicts. An answer
--- moved from 9 to 10, for the same part, exactly where the lowest part at fault does not close and has a wrong mark. The earlier order
--- is defined here, for these laws alone. Assumes nothing.
+-- Where 10 is the answer, and what moved when it came before 9 within one part. Acceptance did not: the same tables are accepted with
+-- the same verdicts. An answer moved from 9 to 10, for the same part, exactly where the lowest part at fault does not close and has a
+-- wrong mark. The earlier order is defined here, for these laws alone. Assumes nothing.
 use Prim.Native.Nat.{ℕ, zero, suc, _+_, _≤_, _<_}
 use native.Mathlib.Decide.{decLt}
 use native.Mathlib.Omega.{arith}
@@ -37,7 +37,7 @@ use Rattle.acceptance.proofs.CheckNames.{parts-refused, refused-outcome
 -- ---- items gone through in order, of each of which three tests are made, the first two in either order
 
 -- The lowest item that is refused is the answer.
-first-refused : (f : ℕ → Outcome) (n i : ℕ) → i < n → ((j : ℕ) → j < i → f j ≡ Clear) → (r : Refusal) → f i ≡ Refused r → inTurn f n ≡ Refused r
+pub first-refused : (f : ℕ → Outcome) (n i : ℕ) → i < n → ((j : ℕ) → j < i → f j ≡ Clear) → (r : Refusal) → f i ≡ Refused r → inTurn f n ≡ Refused r
 unfolding inTurn inTurnFrom _orElse_
 first-refused f n i l lower r e = go n 0 (omega arith) (omega arith)
   where
@@ -143,19 +143,23 @@ module _ (rule plan table : List ℕ) where
     unfolding answered _orElse_
     past x e = simp (clear, fitting, e)
 
+    -- What 10 says of part i is the answer.
+    closing-first : (q : Refusal) → ten i ≡ Refused q → checkOf rule plan table ≡ C.Refused q
+    unfolding checkOf checkOutcome partsOutcome partOutcome _orElse_
+    closing-first q e = past _ (first-refused (tenFirst ten nine eleven) (partCount rule) i l lower q (ap (λ x. x orElse nine i orElse eleven i) e))
+
     -- Refused by 9 and by 10, it has moved.
     moved : (r q : Refusal) → nine i ≡ Refused r → ten i ≡ Refused q → (row : ℕ) × Moved i row
-    unfolding checkOf checkOutcome partsOutcome partOutcome earlierCheck earlierOutcome _orElse_
+    unfolding partOutcome earlierCheck earlierOutcome _orElse_
     moved r q d e =
         let says = equation-says plan some-cycle (viewsOf rule) (channelCount rule) (partCount rule) fits mark (witnessAt rule plan table) i l lower-right r d in
         let tells = closing-says plan some-cycle (viewsOf rule) (channelCount rule) (partCount rule) fits mark (witnessAt rule plan table) i l lower-right q e in
         let before = first-refused (nineFirst ten nine eleven) (partCount rule) i l (λ j h. clear-too ten nine eleven j (lower j h)) r
-        (ap (λ x. x orElse ten i orElse eleven i) d) in
-        let now = first-refused (tenFirst ten nine eleven) (partCount rule) i l lower q (ap (λ x. x orElse nine i orElse eleven i) e) in (
+        (ap (λ x. x orElse ten i orElse eleven i) d) in (
           says .0,
           record {
             earlier = past _ before ∙ ap C.Refused (sym (says .1));
-            later = (tells .0, past _ now ∙ ap C.Refused (sym (tells .1)));
+            later = (tells .0, closing-first q e ∙ ap C.Refused (sym (tells .1)));
             fault = tells .2 .fault;
             unsettled = λ settled. clear-refused (sym e ∙ closing-settled plan some-cycle (viewsOf rule) (channelCount rule) (partCount rule) fits mark (witnessAt rule plan table) i l lower-right .1 settled);
             wrong = says .2;
@@ -186,6 +190,26 @@ module _ (rule plan table : List ℕ) where
         (orElse-refused (nine i) (eleven i) (Closing k q) (h .1))))
         (orElse-refused (ten i) (nine i orElse eleven i) (Closing k q) e)
 
+  -- An answer 10 is what 10 says of its part, every lower part being cleared.
+  closing-turn : (i q : ℕ) → checkOf rule plan table ≡ C.Refused (Closing i q)
+      → (inputsOutcome rule plan ≡ Clear) × (tableOutcome (partCount rule) (rows plan) table ≡ Clear) × (i < partCount rule)
+      × ((j : ℕ) → j < i → partOutcome plan mark (viewsOf rule j) j (witnessAt rule plan table j) ≡ Clear) × (ten i ≡ Refused (Closing i q))
+  unfolding checkOf partsOutcome
+  closing-turn i q e =
+      let p = parts-refused rule plan table (Closing i q) (omega arith) (refused-outcome rule plan table (checkOutcome rule plan table) (Closing i q) e) in
+      let f = inTurn-refused (λ i. partOutcome plan mark (viewsOf rule i) i (witnessAt rule plan table i)) (partCount rule) (Closing i q) (p .2) in
+      let own = own-closing (p .0) (p .1) (f .0) (f .1) (f .2) i q (f .3) in
+      let turn = subst (λ (k : ℕ). (k < partCount rule)
+      × ((j : ℕ) → j < k → partOutcome plan mark (viewsOf rule j) j (witnessAt rule plan table j) ≡ Clear) × (ten k ≡ Refused (Closing i q))) (own .0)
+      (f .1, f .2, own .1) in
+      (p .0, p .1, turn .0, turn .1, turn .2)
+
+  -- 10 OF A PART, where every lower one is cleared, is the answer exactly where the part does not close, whatever its marks are.
+  pub closing-answer : inputsOutcome rule plan ≡ Clear → tableOutcome (partCount rule) (rows plan) table ≡ Clear → (i q : ℕ) → i < partCount rule
+      → ((j : ℕ) → j < i → partOutcome plan (markOf rule plan table) (viewsOf rule j) j (witnessAt rule plan table j) ≡ Clear)
+      → (checkOf rule plan table ≡ C.Refused (Closing i q)) ↔ (closingOutcome plan (markOf rule plan table) (viewsOf rule i) i ≡ Refused (Closing i q))
+  closing-answer clear fitting i q l lower = (λ e. closing-turn i q e .4, closing-first clear fitting i l lower (Closing i q))
+
   -- WHAT MOVES: both orders give the same answer, or the earlier gives 9 and this one 10 for the same part, the lowest at fault, which
   -- does not close and has a wrong mark.
   pub moves : (checkOf rule plan table ≡ earlierCheck) ⊎ ((i : ℕ) × (row : ℕ) × Moved i row)
@@ -205,13 +229,8 @@ module _ (rule plan table : List ℕ) where
   -- AND WHERE: 10 of a part that has a wrong mark was 9 in the earlier order.
   pub moved-where : (i q : ℕ) → checkOf rule plan table ≡ C.Refused (Closing i q) → ¬ PartMarksTrue (viewsOf rule) plan i (markOf rule plan table)
       → (row : ℕ) × Moved i row
-  unfolding checkOf partsOutcome
   moved-where i q e wrong =
-      let p = parts-refused rule plan table (Closing i q) (omega arith) (refused-outcome rule plan table (checkOutcome rule plan table) (Closing i q) e) in
-      let f = inTurn-refused (λ i. partOutcome plan mark (viewsOf rule i) i (witnessAt rule plan table i)) (partCount rule) (Closing i q) (p .2) in
-      let own = own-closing (p .0) (p .1) (f .0) (f .1) (f .2) i q (f .3) in
-      subst (λ (k : ℕ). (¬ PartMarksTrue (viewsOf rule) plan k (markOf rule plan table)) → (row : ℕ) × Moved k row) (own .0)
-      (moved-wrong (p .0) (p .1) (f .0) (f .1) (f .2) (Closing i q) (own .1)) wrong
+      let t = closing-turn i q e in moved-wrong (t .0) (t .1) i (t .2) (t .3) (Closing i q) (t .4) wrong
 
   -- ACCEPTANCE DOES NOT MOVE: the same tables are accepted, with the same verdicts.
   pub acceptance-stays : (v : Bool) → (checkOf rule plan table ≡ C.Accepted v) ↔ (earlierCheck ≡ C.Accepted v)

@@ -2,6 +2,7 @@ pub mod Following
 pub mod Labelled
 pub mod SameMarks
 pub mod Made
+pub mod Settled
 pub mod MadeTable
 pub mod BySweeps
 pub mod Sweeping

@@ -127,7 +127,7 @@ module _ (plan : List ℕ) (hC : 1 ≤ cycleRows plan) (parts : ℕ → View) (v
       closing-settled plan hC parts v n fits (madeMark parts plan) (madeWitness parts plan) i l (lower-true i (omega arith) closed)
 
   -- And so are those of any table that is accepted: the two agree.
-  agree : (mark other : ℕ → ℕ → Bool) (i : ℕ) → ((a : ℕ) → a < i → TrueAt plan parts n mark a) → ((a : ℕ) → a < i → TrueAt plan parts n other a)
+  pub agree : (mark other : ℕ → ℕ → Bool) (i : ℕ) → ((a : ℕ) → a < i → TrueAt plan parts n mark a) → ((a : ℕ) → a < i → TrueAt plan parts n other a)
       → SameBelow plan mark other i
   agree mark other i f g a l row q =
       T-ext (mark a row) (other a row)

@@ -1,3 +1,4 @@
 pub mod Promised
+pub mod SamePlace
 pub mod InMaking
 pub mod Turns

@@ -11,7 +11,7 @@ use Rattle.cltlb.specs.Fits.{viewFits}
 use Rattle.refusal.specs.declared.Outcome.{Outcome}
 use Rattle.refusal.specs.declared.Outcome.the-variants.{Clear, Refused}
 use Rattle.refusal.specs.declared.Refusal.{Refusal}
-use Rattle.refusal.specs.declared.Refusal.the-variants.{BufferLength, NoTable}
+use Rattle.refusal.specs.declared.Refusal.the-variants.{Closing, BufferLength, NoTable}
 use Rattle.refusal.specs.Report.{reportOf}
 use Rattle.refusal.specs.First.{_orElse_}
 use Rattle.refusal.proofs.First.{clear-refused, orElse-clear, unless-clear, inTurn-clear, inTurn-refused}
@@ -33,6 +33,7 @@ use Rattle.labelling.proofs.MadeTable.{table-same, table-clear, table-accepted,
 use Rattle.acceptance.specs.declared.Checked.the-variants as C
 use Rattle.acceptance.specs.Check.{markOf, witnessAt, partsOutcome, checkOutcome, checkOf}
 use Rattle.acceptance.specs.Promise.{Cleared}
+use Rattle.acceptance.proofs.EarlierOrder.{first-refused}
 use Rattle.acceptance.proofs.Promised.{accepted-clear, clear-accepted, all-clear, clear-all, check-promise}
 use Rattle.maker.specs.declared.Made.{Made}
 use Rattle.maker.specs.declared.Made.the-variants as M
@@ -131,14 +132,20 @@ module _ (rule plan : List ℕ) (e : inputsOutcome rule plan ≡ Clear) where
       open-refuted plan some-cycle (viewsOf rule) (channelCount rule) (partCount rule) fits (p .0) (p .1) (p .2)
       (λ closed. clear-refused (sym (p .4) ∙ closed)) (markOf rule plan other) (witnessAt rule plan other) clear
 
-  open-means : (i row : ℕ) → closingsOutcome rule plan ≡ Refused (NoTable i row) → OpenMeans rule plan i row
+  -- Part i, of which 14 is said, does not close, as 10 says.
+  open-means : (i row : ℕ) → closingsOutcome rule plan ≡ Refused (NoTable i row)
+      → (closingOutcome plan (madeMark (viewsOf rule) plan) (viewsOf rule i) i ≡ Refused (Closing i row)) × OpenMeans rule plan i row
   unfolding OpenMeans
   open-means i row c =
       let p = first-open (NoTable i row) c in
       let s = open-says plan some-cycle (viewsOf rule) (channelCount rule) (partCount rule) fits (p .0) (p .1) (p .2) (p .3) (p .4) in
       let same = same-names (ap (λ (r : Refusal). NoTable (reportOf r .part) (reportOf r .row)) (s .1) ∙ p .5) in
-      subst (λ (k : ℕ). refusal.ClosingMeans (viewsOf rule) (partCount rule) plan (madeMark (viewsOf rule) plan) (madeWitness (viewsOf rule) plan) k row) (same .0)
-      (subst (refusal.ClosingMeans (viewsOf rule) (partCount rule) plan (madeMark (viewsOf rule) plan) (madeWitness (viewsOf rule) plan) (p .0)) (same .1) (s .2))
+      subst (λ (k : ℕ). Said k row) (same .0) (subst (Said (p .0)) (same .1) (p .4 ∙ ap (λ (r : Refusal). Refused r) (sym (s .1)), s .2))
+    where
+      Said : ℕ → ℕ → Type 0
+      Said k q =
+          (closingOutcome plan (madeMark (viewsOf rule) plan) (viewsOf rule k) k ≡ Refused (Closing k q))
+          × refusal.ClosingMeans (viewsOf rule) (partCount rule) plan (madeMark (viewsOf rule) plan) (madeWitness (viewsOf rule) plan) k q
 
 -- ---- the numbers of the refusals, and what two bytes hold
 
@@ -217,6 +224,16 @@ module _ (rule plan before : List ℕ) where
   unfolding makeOf makeOutcome answered _orElse_
   not-made d c = simp (d, c)
 
+  -- 14 OF A PART, where every lower one closes, is the answer exactly where the part does not close.
+  pub open-answer : Lent rule plan before → (i row : ℕ) → i < partCount rule
+      → ((a : ℕ) → a < i → closingOutcome plan (madeMark (viewsOf rule) plan) (viewsOf rule a) a ≡ Clear)
+      → (makeOf rule plan before ≡ M.Refused (NoTable i row)) ↔ (closingOutcome plan (madeMark (viewsOf rule) plan) (viewsOf rule i) i ≡ Refused (Closing i row))
+  unfolding makeOf closingsOutcome openOutcome asNoTable
+  open-answer h i row l lower = (
+    λ e. open-means rule plan (inputs-clear (lent-clear h)) i row (no-table-last i row (refused-as (makeOutcome rule plan before) (NoTable i row) e) .1) .0,
+    λ e. not-made (lent-clear h) (first-refused (openOutcome rule plan) (partCount rule) i l (λ a q. ap asNoTable (lower a q)) (NoTable i row) (ap asNoTable e)),
+  )
+
   -- THE MAKER KEEPS ITS PROMISE, whatever the bytes.
   pub make-promise : {after : List ℕ} {answer : Made} → answer ≡ makeOf rule plan before → after ≡ bytesAfter rule plan before
       → MakePromise rule plan before after answer
@@ -235,7 +252,7 @@ module _ (rule plan before : List ℕ) where
     );
     opened = λ i row q.
         let c = no-table-last i row (refused-as (makeOutcome rule plan before) (NoTable i row) (sym e ∙ q)) in
-        open-means rule plan (inputs-clear (c .0)) i row (c .1);
+        open-means rule plan (inputs-clear (c .0)) i row (c .1) .1;
   }
     where
       accepts : (v : Bool) → answer ≡ M.Table v → checkOf rule plan after ≡ C.Accepted v

@@ -19,10 +19,10 @@ use Rattle.marks.specs.Parts.{closingOutcome}
 use Rattle.marks.specs.Meaning.{Settled}
 use Rattle.labelling.specs.Labels.{madeMark}
 use Rattle.labelling.proofs.Made.{Closed}
+use Rattle.labelling.proofs.Settled.{closed-settled, settled-closed}
 use Rattle.maker.specs.declared.Made.the-variants as M
 use Rattle.maker.specs.Make.{openOutcome, closingsOutcome, lentOutcome, makeOutcome, answered, makeOf}
 use Rattle.maker.proofs.Promised.{no-table-clear, some-cycle, fits}
-use Rattle.settling.proofs.Settled.{closed-settled, settled-closed}
 
 module _ (rule plan : List ℕ) (clear : inputsOutcome rule plan ≡ Clear) where
   -- part i closes, by the marks made

@@ -16,10 +16,10 @@ use Rattle.plan.specs.Run.{runOf}
 use Rattle.marks.specs.Meaning.{Truth, PartSettled}
 use Rattle.marks.proofs.Rows.{rowAt, first-position, once-more}
 use Rattle.marks.proofs.Tests.{T-path, T-ext}
+use Rattle.marks.proofs.Settled.{settled-repeats}
 use Rattle.labelling.specs.Labels.{madeMark}
 use Rattle.labelling.proofs.Made.{Closed, lower-true}
-use Rattle.marks.proofs.Settled.{settled-repeats}
-use Rattle.settling.proofs.Settled.{closed-settled, settled-closed}
+use Rattle.labelling.proofs.Settled.{closed-settled, settled-closed}
 use Rattle.settling.proofs.OneRun.{other-cycle, run-truth, run-settled}
 
 module _ (A B : List ℕ) (some-cycle : 1 ≤ cycleRows A) (same-cycle : cycleRows B ≡ cycleRows A)

@@ -1,4 +1,3 @@
-pub mod Settled
 pub mod OneRun
 pub mod Bound
 pub mod Later
