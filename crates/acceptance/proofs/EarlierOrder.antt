@@ -1,30 +1,26 @@
--- Where 10 is the answer, and what moved when it came before 9 within one part. Acceptance did not: the same tables are accepted with
--- the same verdicts. An answer moved from 9 to 10, for the same part, exactly where the lowest part at fault does not close and has a
--- wrong mark. The earlier order is defined here, for these laws alone. Assumes nothing.
-use Prim.Native.Nat.{ℕ, zero, suc, _+_, _≤_, _<_}
-use native.Mathlib.Decide.{decLt}
+-- What moved when 10 came before 9 within one part. Acceptance did not: the same tables are accepted with the same verdicts. An answer
+-- moved from 9 to 10, for the same part, exactly where the lowest part at fault does not close and has a wrong mark. The earlier order
+-- is defined here, for these laws alone. Assumes nothing.
+use Prim.Native.Nat.{ℕ, _≤_, _<_}
 use native.Mathlib.Omega.{arith}
-use mathlib.Core.Path.{_≡_, refl, sym, ap, _∙_, subst}
+use mathlib.Core.Path.{_≡_, refl, sym, ap, _∙_}
 use mathlib.Core.Bool.{Bool, true}
 use mathlib.Core.List.{List}
-use mathlib.Core.Logic.{_↔_, _⊎_, inl, inr, ⊎-elim, by-cases}
+use mathlib.Core.Logic.{_↔_, _⊎_, inl, inr, ⊎-elim}
 use lib.Dec.{T}
 use Rattle.refusal.specs.declared.Outcome.{Outcome}
 use Rattle.refusal.specs.declared.Outcome.the-variants.{Clear, Refused}
 use Rattle.refusal.specs.declared.Refusal.{Refusal}
-use Rattle.refusal.specs.declared.Refusal.the-variants.{Equation, Closing, Witness}
-use Rattle.refusal.specs.First.{_orElse_, inTurnFrom, inTurn}
-use Rattle.refusal.proofs.First.{clear-refused, orElse-clear, orElse-refused, unless-refused, inTurn-clear, inTurn-refused}
+use Rattle.refusal.specs.declared.Refusal.the-variants.{Equation, Closing}
+use Rattle.refusal.specs.First.{_orElse_, inTurn}
+use Rattle.refusal.proofs.First.{clear-refused, orElse-clear, inTurn-clear, inTurn-refused, inTurn-first}
 use Rattle.rule.specs.Layout.{partCount, channelCount}
 use Rattle.rule.specs.Take.{viewsOf}
 use Rattle.cltlb.specs.Fits.{viewFits}
-use Rattle.rule.proofs.Cleared.{cleared-fits}
 use Rattle.plan.specs.Layout.{startRows, cycleRows, rows}
-use Rattle.plan.proofs.Outcomes.{cleared}
 use Rattle.inputs.specs.Outcome.{inputsOutcome}
-use Rattle.inputs.proofs.Ways.{clear-both}
 use Rattle.table.specs.Layout.{tableOutcome}
-use Rattle.marks.specs.Parts.{witnessInOrder, equationOutcome, closingOutcome, witnessOutcome, partOutcome}
+use Rattle.marks.specs.Parts.{witnessInOrder, partOutcome}
 use Rattle.marks.specs.Meaning.{PartSettled, PartMarksTrue}
 use Rattle.marks.specs.RefusalMeaning.{FirstFault}
 use Rattle.marks.proofs.Accepted.{TrueAt, below}
@@ -32,21 +28,9 @@ use Rattle.marks.proofs.RefusalMeans.{equation-says, open-marks, closing-says, 
 use Rattle.acceptance.specs.declared.Checked.{Checked}
 use Rattle.acceptance.specs.declared.Checked.the-variants as C
 use Rattle.acceptance.specs.Check.{markOf, witnessAt, partsOutcome, checkOutcome, answered, checkOf}
-use Rattle.acceptance.proofs.CheckNames.{parts-refused, refused-outcome}
+use Rattle.acceptance.proofs.ClosingAnswer as answer
 
 -- ---- items gone through in order, of each of which three tests are made, the first two in either order
-
--- The lowest item that is refused is the answer.
-pub first-refused : (f : ℕ → Outcome) (n i : ℕ) → i < n → ((j : ℕ) → j < i → f j ≡ Clear) → (r : Refusal) → f i ≡ Refused r → inTurn f n ≡ Refused r
-unfolding inTurn inTurnFrom _orElse_
-first-refused f n i l lower r e = go n 0 (omega arith) (omega arith)
-  where
-    go : (n k : ℕ) → k ≤ i → i < k + n → inTurnFrom f k n ≡ Refused r
-    go zero k low high = absurd (omega arith)
-    go (suc n) k low high =
-        by-cases (decLt k i)
-        (λ h. ap (λ x. x orElse inTurnFrom f (suc k) n) (lower k h) ∙ go n (suc k) (omega arith) (omega arith))
-        (λ h. let here : k ≡ i = omega arith in ap (λ x. x orElse inTurnFrom f (suc k) n) (ap f here ∙ e))
 
 module _ (ten nine eleven : ℕ → Outcome) where
   abbrev tenFirst : ℕ → Outcome
@@ -84,24 +68,25 @@ module _ (ten nine eleven : ℕ → Outcome) where
       go (Refused q) e =
           let p = inTurn-refused tenFirst n q e in
           ⊎-elim
-          (λ same. inl (e ∙ sym (first-refused nineFirst n (p .0) (p .1) (λ j h. clear-too j (p .2 j h)) q same)))
+          (λ same. inl (e ∙ sym (inTurn-first nineFirst n (p .0) (p .1) (λ j h. clear-too j (p .2 j h)) q same)))
           (λ both. inr (p .0, p .1, p .2, both .0, q, both .1, both .2))
           (same-or-both (p .0) q (p .3))
 
 -- ---- the check
 
 module _ (rule plan table : List ℕ) where
+  -- 10, 9 and 11 of a part
   abbrev mark : ℕ → ℕ → Bool
   mark = markOf rule plan table
 
   abbrev ten : ℕ → Outcome
-  ten i = closingOutcome plan mark (viewsOf rule i) i
+  ten = answer.ten rule plan table
 
   abbrev nine : ℕ → Outcome
-  nine i = equationOutcome plan mark (viewsOf rule i) i
+  nine = answer.nine rule plan table
 
   abbrev eleven : ℕ → Outcome
-  eleven i = witnessOutcome plan mark (viewsOf rule i) i (witnessAt rule plan table i)
+  eleven = answer.eleven rule plan table
 
   -- The check with the order 9, 10, 11 within one part.
   unfoldable pub earlierOutcome : Outcome
@@ -128,25 +113,14 @@ module _ (rule plan table : List ℕ) where
   module _ (clear : inputsOutcome rule plan ≡ Clear) (fitting : tableOutcome (partCount rule) (rows plan) table ≡ Clear) (i : ℕ) (l : i < partCount rule)
       (lower : (j : ℕ) → j < i → partOutcome plan (markOf rule plan table) (viewsOf rule j) j (witnessAt rule plan table j) ≡ Clear) where
     abbrev some-cycle : 1 ≤ cycleRows plan
-    some-cycle = cleared (channelCount rule) plan (clear-both rule plan clear .1) .0 .a-cycle
+    some-cycle = answer.some-cycle rule plan table clear fitting i l lower
 
     abbrev fits : (i : ℕ) → i < partCount rule → viewFits (channelCount rule) i (viewsOf rule i) ≡ true
-    fits = cleared-fits rule (clear-both rule plan clear .0)
+    fits = answer.fits rule plan table clear fitting i l lower
 
     abbrev lower-right : (a : ℕ) → a < i → TrueAt plan (viewsOf rule) (partCount rule) mark a
         × T (witnessInOrder (startRows plan) (cycleRows plan) mark (viewsOf rule a) a (witnessAt rule plan table a))
-    lower-right = below plan some-cycle (viewsOf rule) (channelCount rule) (partCount rule) fits mark (witnessAt rule plan table) i (omega arith) lower
-
-    -- The answer is what the parts say.
-    past : (x : Outcome) {r : Refusal} → x ≡ Refused r
-        → answered rule plan table (inputsOutcome rule plan orElse tableOutcome (partCount rule) (rows plan) table orElse x) ≡ C.Refused r
-    unfolding answered _orElse_
-    past x e = simp (clear, fitting, e)
-
-    -- What 10 says of part i is the answer.
-    closing-first : (q : Refusal) → ten i ≡ Refused q → checkOf rule plan table ≡ C.Refused q
-    unfolding checkOf checkOutcome partsOutcome partOutcome _orElse_
-    closing-first q e = past _ (first-refused (tenFirst ten nine eleven) (partCount rule) i l lower q (ap (λ x. x orElse nine i orElse eleven i) e))
+    lower-right = answer.lower-right rule plan table clear fitting i l lower
 
     -- Refused by 9 and by 10, it has moved.
     moved : (r q : Refusal) → nine i ≡ Refused r → ten i ≡ Refused q → (row : ℕ) × Moved i row
@@ -154,12 +128,12 @@ module _ (rule plan table : List ℕ) where
     moved r q d e =
         let says = equation-says plan some-cycle (viewsOf rule) (channelCount rule) (partCount rule) fits mark (witnessAt rule plan table) i l lower-right r d in
         let tells = closing-says plan some-cycle (viewsOf rule) (channelCount rule) (partCount rule) fits mark (witnessAt rule plan table) i l lower-right q e in
-        let before = first-refused (nineFirst ten nine eleven) (partCount rule) i l (λ j h. clear-too ten nine eleven j (lower j h)) r
+        let before = inTurn-first (nineFirst ten nine eleven) (partCount rule) i l (λ j h. clear-too ten nine eleven j (lower j h)) r
         (ap (λ x. x orElse ten i orElse eleven i) d) in (
           says .0,
           record {
-            earlier = past _ before ∙ ap C.Refused (sym (says .1));
-            later = (tells .0, closing-first q e ∙ ap C.Refused (sym (tells .1)));
+            earlier = answer.past rule plan table clear fitting i l lower _ before ∙ ap C.Refused (sym (says .1));
+            later = (tells .0, answer.closing-first rule plan table clear fitting i l lower q e ∙ ap C.Refused (sym (tells .1)));
             fault = tells .2 .fault;
             unsettled = λ settled. clear-refused (sym e ∙ closing-settled plan some-cycle (viewsOf rule) (channelCount rule) (partCount rule) fits mark (witnessAt rule plan table) i l lower-right .1 settled);
             wrong = says .2;
@@ -174,41 +148,6 @@ module _ (rule plan table : List ℕ) where
         go Clear d =
             absurd (wrong (open-marks plan some-cycle (viewsOf rule) (channelCount rule) (partCount rule) fits mark (witnessAt rule plan table) i l lower-right d q e))
         go (Refused r) d = moved r q d e
-
-    -- 10 of a part is said by its own turn.
-    own-closing : (k q : ℕ) → partOutcome plan mark (viewsOf rule i) i (witnessAt rule plan table i) ≡ Refused (Closing k q)
-        → (i ≡ k) × (ten i ≡ Refused (Closing k q))
-    unfolding partOutcome witnessOutcome
-    own-closing k q e =
-        ⊎-elim
-        (λ h. let tells = closing-says plan some-cycle (viewsOf rule) (channelCount rule) (partCount rule) fits mark (witnessAt rule plan table) i l lower-right (Closing k q) h in
-        let same = tells .1 in (cc, h))
-        (λ h. absurd (⊎-elim
-        (λ g. let says = equation-says plan some-cycle (viewsOf rule) (channelCount rule) (partCount rule) fits mark (witnessAt rule plan table) i l lower-right (Closing k q) g in
-        let other = says .1 in let z : _≡_ {A = ℕ} 0 1 = cc in omega arith)
-        (λ g. let other = unless-refused _ (Witness i) (Closing k q) (g .1) .1 in let z : _≡_ {A = ℕ} 0 1 = cc in omega arith)
-        (orElse-refused (nine i) (eleven i) (Closing k q) (h .1))))
-        (orElse-refused (ten i) (nine i orElse eleven i) (Closing k q) e)
-
-  -- An answer 10 is what 10 says of its part, every lower part being cleared.
-  closing-turn : (i q : ℕ) → checkOf rule plan table ≡ C.Refused (Closing i q)
-      → (inputsOutcome rule plan ≡ Clear) × (tableOutcome (partCount rule) (rows plan) table ≡ Clear) × (i < partCount rule)
-      × ((j : ℕ) → j < i → partOutcome plan mark (viewsOf rule j) j (witnessAt rule plan table j) ≡ Clear) × (ten i ≡ Refused (Closing i q))
-  unfolding checkOf partsOutcome
-  closing-turn i q e =
-      let p = parts-refused rule plan table (Closing i q) (omega arith) (refused-outcome rule plan table (checkOutcome rule plan table) (Closing i q) e) in
-      let f = inTurn-refused (λ i. partOutcome plan mark (viewsOf rule i) i (witnessAt rule plan table i)) (partCount rule) (Closing i q) (p .2) in
-      let own = own-closing (p .0) (p .1) (f .0) (f .1) (f .2) i q (f .3) in
-      let turn = subst (λ (k : ℕ). (k < partCount rule)
-      × ((j : ℕ) → j < k → partOutcome plan mark (viewsOf rule j) j (witnessAt rule plan table j) ≡ Clear) × (ten k ≡ Refused (Closing i q))) (own .0)
-      (f .1, f .2, own .1) in
-      (p .0, p .1, turn .0, turn .1, turn .2)
-
-  -- 10 OF A PART, where every lower one is cleared, is the answer exactly where the part does not close, whatever its marks are.
-  pub closing-answer : inputsOutcome rule plan ≡ Clear → tableOutcome (partCount rule) (rows plan) table ≡ Clear → (i q : ℕ) → i < partCount rule
-      → ((j : ℕ) → j < i → partOutcome plan (markOf rule plan table) (viewsOf rule j) j (witnessAt rule plan table j) ≡ Clear)
-      → (checkOf rule plan table ≡ C.Refused (Closing i q)) ↔ (closingOutcome plan (markOf rule plan table) (viewsOf rule i) i ≡ Refused (Closing i q))
-  closing-answer clear fitting i q l lower = (λ e. closing-turn i q e .4, closing-first clear fitting i l lower (Closing i q))
 
   -- WHAT MOVES: both orders give the same answer, or the earlier gives 9 and this one 10 for the same part, the lowest at fault, which
   -- does not close and has a wrong mark.
@@ -230,7 +169,7 @@ module _ (rule plan table : List ℕ) where
   pub moved-where : (i q : ℕ) → checkOf rule plan table ≡ C.Refused (Closing i q) → ¬ PartMarksTrue (viewsOf rule) plan i (markOf rule plan table)
       → (row : ℕ) × Moved i row
   moved-where i q e wrong =
-      let t = closing-turn i q e in moved-wrong (t .0) (t .1) i (t .2) (t .3) (Closing i q) (t .4) wrong
+      let t = answer.closing-turn rule plan table i q e in moved-wrong (t .0) (t .1) i (t .2) (t .3) (Closing i q) (t .4) wrong
 
   -- ACCEPTANCE DOES NOT MOVE: the same tables are accepted, with the same verdicts.
   pub acceptance-stays : (v : Bool) → (checkOf rule plan table ≡ C.Accepted v) ↔ (earlierCheck ≡ C.Accepted v)

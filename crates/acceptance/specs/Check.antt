@@ -22,7 +22,7 @@ module _ (rule plan table : List ℕ) where
   unfoldable pub witnessAt : ℕ → ℕ
   witnessAt part = witnessOf (partCount rule) (rows plan) table part
 
-  -- 9, 10 and 11: parts are gone through in order, the lowest first, each with all its rows
+  -- 10, 9 and 11: parts are gone through in order, the lowest first, each with all its rows
   unfoldable pub partsOutcome : Outcome
   partsOutcome = inTurn (λ i. partOutcome plan markOf (viewsOf rule i) i (witnessAt i)) (partCount rule)
 

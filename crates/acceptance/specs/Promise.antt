@@ -37,8 +37,8 @@ module _ (rule plan table : List ℕ) where
     pub marks : MarksTrue (viewsOf rule) (partCount rule) plan (markOf rule plan table)
     pub witnesses : WitnessesInOrder (viewsOf rule) (partCount rule) plan (markOf rule plan table) (witnessAt rule plan table)
 
-  -- What refusals 9, 10 and 11 say of the published truth: every lower part is right; on 9 the marks of part i are not all
-  -- true; on 10 its truth is not the same on all passes of the row; on 11 its witness is not in order.
+  -- What refusals 9, 10 and 11 say of the published truth: every lower part is right; on 10 the truth of part i is not the same on
+  -- all passes of the row; on 9 and on 11 it is settled, and on 9 its marks are not all true, on 11 its witness is not in order.
   unfoldable pub EquationMeans : ℕ → ℕ → Type 0
   EquationMeans i row = refusal.EquationMeans (viewsOf rule) (partCount rule) plan (markOf rule plan table) (witnessAt rule plan table) i row
 

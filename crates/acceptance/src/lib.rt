@@ -32,8 +32,8 @@ pub enum Checked {
     Refused(Refusal),
 }
 
-// Refusals 9 to 11 of a table of `n` parts, the lowest part first, each with all its rows; within a part 10 comes before 9. `values` and `drifts` are the plan's
-// lanes; where it is `still`, nothing drifts in the cycle.
+// Refusals 9 to 11 of a table of `n` parts, the lowest part first, each with all its rows; within a part 10 comes before 9. `values`
+// and `drifts` are the plan's lanes; where it is `still`, nothing drifts in the cycle.
 fn check_parts(
     rule: &[u8],
     plan: &[u8],

@@ -14,7 +14,7 @@ use Rattle.refusal.specs.declared.Refusal.{Refusal}
 use Rattle.refusal.specs.declared.Refusal.the-variants.{Closing, BufferLength, NoTable}
 use Rattle.refusal.specs.Report.{reportOf}
 use Rattle.refusal.specs.First.{_orElse_}
-use Rattle.refusal.proofs.First.{clear-refused, orElse-clear, unless-clear, inTurn-clear, inTurn-refused}
+use Rattle.refusal.proofs.First.{clear-refused, orElse-clear, unless-clear, inTurn-clear, inTurn-refused, inTurn-first}
 use Rattle.refusal.proofs.RefusesOnly.{Small, Within, RefusesOnly, refused-only, orElse-only, unless-only, inTurn-only, orElse-second, within-small, within-wider}
 use Rattle.rule.specs.Layout.{partCount, channelCount}
 use Rattle.rule.specs.Take.{viewsOf}
@@ -33,7 +33,6 @@ use Rattle.labelling.proofs.MadeTable.{table-same, table-clear, table-accepted,
 use Rattle.acceptance.specs.declared.Checked.the-variants as C
 use Rattle.acceptance.specs.Check.{markOf, witnessAt, partsOutcome, checkOutcome, checkOf}
 use Rattle.acceptance.specs.Promise.{Cleared}
-use Rattle.acceptance.proofs.EarlierOrder.{first-refused}
 use Rattle.acceptance.proofs.Promised.{accepted-clear, clear-accepted, all-clear, clear-all, check-promise}
 use Rattle.maker.specs.declared.Made.{Made}
 use Rattle.maker.specs.declared.Made.the-variants as M
@@ -231,7 +230,7 @@ module _ (rule plan before : List ℕ) where
   unfolding makeOf closingsOutcome openOutcome asNoTable
   open-answer h i row l lower = (
     λ e. open-means rule plan (inputs-clear (lent-clear h)) i row (no-table-last i row (refused-as (makeOutcome rule plan before) (NoTable i row) e) .1) .0,
-    λ e. not-made (lent-clear h) (first-refused (openOutcome rule plan) (partCount rule) i l (λ a q. ap asNoTable (lower a q)) (NoTable i row) (ap asNoTable e)),
+    λ e. not-made (lent-clear h) (inTurn-first (openOutcome rule plan) (partCount rule) i l (λ a q. ap asNoTable (lower a q)) (NoTable i row) (ap asNoTable e)),
   )
 
   -- THE MAKER KEEPS ITS PROMISE, whatever the bytes.

@@ -27,7 +27,7 @@ use Rattle.labelling.proofs.Settled.{settled-closed}
 use Rattle.acceptance.specs.declared.Checked.the-variants as C
 use Rattle.acceptance.specs.Check.{markOf, witnessAt, checkOf}
 use Rattle.acceptance.specs.Promise.{Cleared}
-use Rattle.acceptance.proofs.EarlierOrder.{closing-answer}
+use Rattle.acceptance.proofs.ClosingAnswer.{closing-answer}
 use Rattle.maker.specs.declared.Made.the-variants as M
 use Rattle.maker.specs.Make.{makeOf}
 use Rattle.maker.proofs.Promised.{some-cycle, fits, open-answer}

@@ -10,7 +10,7 @@ pub mod Witnessed
 pub mod Parts
 pub mod Faults
 pub mod ByTruth
-pub mod Settled
+pub mod Repeating
 pub mod Accepted
 pub mod RefusalMeans
 pub mod Swept

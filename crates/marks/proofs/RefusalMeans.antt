@@ -25,7 +25,7 @@ use Rattle.marks.proofs.Rows.{after-is-row}
 use Rattle.marks.proofs.Parts.{Ahead}
 use Rattle.marks.proofs.Faults.{met-open, equation-broken}
 use Rattle.marks.proofs.ByTruth.{Open, closing-open, closing-repeats}
-use Rattle.marks.proofs.Settled.{same-differs, settled-repeats}
+use Rattle.marks.proofs.Repeating.{same-differs, settled-repeats}
 use Rattle.marks.proofs.Accepted.{TrueAt, true-settled, true-marks, below}
 
 module _ (plan : List ℕ) (parts : ℕ → View) (n : ℕ) (mark : ℕ → ℕ → Bool) (witness : ℕ → ℕ) where

@@ -1,5 +1,5 @@
 -- When tests made in order refuse nothing, and how loops make them. Assumes nothing.
-use mathlib.Core.Path.{_≡_, refl, subst, sym}
+use mathlib.Core.Path.{_≡_, refl, sym, ap, _∙_, subst}
 use mathlib.Core.Bool.{Bool, true, false}
 use mathlib.Core.Option.{Option, none, some}
 use mathlib.Core.Logic.{_↔_, Iff·trans, by-cases, _⊎_, inl, inr, ⊎-elim}
@@ -102,6 +102,18 @@ module _ (f : ℕ → Outcome) where
       let p = turns-refused 0 n r e in
       let high = p .2 in
       (p .0, (omega arith), (λ j l. p .3 j (omega arith) l), p .4)
+
+  -- The other way round: the first that refuses, those before it refusing nothing, is the answer.
+  pub inTurn-first : (n i : ℕ) → i < n → ((j : ℕ) → j < i → f j ≡ Clear) → (r : Refusal) → f i ≡ Refused r → inTurn f n ≡ Refused r
+  unfolding inTurn inTurnFrom _orElse_
+  inTurn-first n i l lower r e = go n 0 (omega arith) (omega arith)
+    where
+      go : (n k : ℕ) → k ≤ i → i < k + n → inTurnFrom f k n ≡ Refused r
+      go zero k low high = absurd (omega arith)
+      go (suc n) k low high =
+          by-cases (decLt k i)
+          (λ h. ap (λ x. x orElse inTurnFrom f (suc k) n) (lower k h) ∙ go n (suc k) (omega arith) (omega arith))
+          (λ h. let here : k ≡ i = omega arith in ap (λ x. x orElse inTurnFrom f (suc k) n) (ap f here ∙ e))
 
   -- A loop over the items below n begins with item 0.
   pub turn-first : (n : ℕ) → inTurn f n ≡ inTurnFrom f 0 (n - 0)

@@ -16,7 +16,7 @@ use Rattle.plan.specs.Run.{runOf}
 use Rattle.marks.specs.Meaning.{Truth, PartSettled}
 use Rattle.marks.proofs.Rows.{rowAt, first-position, once-more}
 use Rattle.marks.proofs.Tests.{T-path, T-ext}
-use Rattle.marks.proofs.Settled.{settled-repeats}
+use Rattle.marks.proofs.Repeating.{settled-repeats}
 use Rattle.labelling.specs.Labels.{madeMark}
 use Rattle.labelling.proofs.Made.{Closed, lower-true}
 use Rattle.labelling.proofs.Settled.{closed-settled, settled-closed}

@@ -14,7 +14,7 @@ use Rattle.cltlb.proofs.Repeats.{RepeatsFrom}
 use Rattle.plan.specs.Layout.{startRows, cycleRows}
 use Rattle.plan.specs.Run.{runOf}
 use Rattle.marks.specs.Meaning.{Truth, PartSettled}
-use Rattle.marks.proofs.Settled.{settled-repeats}
+use Rattle.marks.proofs.Repeating.{settled-repeats}
 
 module _ (A B : List ℕ) (some-cycle : 1 ≤ cycleRows A) (same-cycle : cycleRows B ≡ cycleRows A) (parts : ℕ → View) (v n : ℕ)
     (fits : (i : ℕ) → i < n → viewFits v i (parts i) ≡ true)
