@@ -231,7 +231,7 @@ void build_case(struct sheets *sheets, builder *build, int parts, int rows)
 
 /* ---- Open parts ---- */
 
-/* x is 1 up to row P and 0 from there on, y is 1 on the row before P alone, and z rises on
+/* x is 1 up to row P and 0 after it, y is 1 on the row before P alone, and z rises on
    one cycle row. On row P a part of Y, Z or S over x = 1 and y = 1 holds on pass 0 alone,
    and T over x = 0 and y = 0 fails on it alone. With the mark on row P the other way round
    their marks close. */

@@ -228,9 +228,10 @@ enum endless_run_refusal {
 
     /* A part does not close: its truth on the rows does not carry over to the
        following passes, whatever its own marks say. The plan or the rule is at
-       fault, and no marks can help: endless_run_make() answers 14 for the same
-       part and row. Part; row: for a comparison the lowest cycle row on which
-       it changes, for every other part row P. */
+       fault, and no marks can help: with a buffer of the right length
+       endless_run_make() answers 14 for the same part and row. Part; row: for
+       a comparison the lowest cycle row on which it changes, for every other
+       part row P. */
     ENDLESS_RUN_CLOSING = 10,
 
     /* A witness is not as it should be: an "until" marked 1 on row W - 1 names

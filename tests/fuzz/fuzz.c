@@ -93,8 +93,10 @@ static bool as_truth_has_it(const struct question *q, uint64_t answer)
         return answer == 1;
     case OPEN:
         return answer >> 32 == 10;
+    case FAULTY:
+        return answer >> 32 == 9 || answer >> 32 == 11;
     default:
-        return answer > 1 && answer >> 32 != 10;
+        return answer >> 32 >= 1 && answer >> 32 <= 8;
     }
 }
 

@@ -39,7 +39,8 @@ void make_still_plan(int channels);
 void make_table(void);
 
 /* One with wrong marks in the lowest part that does not close, and now and then with
-   one in another part too. False, and no table, where all parts close. */
+   another mark turned round. False, and no table, where all parts close. Both go by the
+   rule and the plan as they were before make_table, which may have damaged them. */
 bool make_spoiled_table(void);
 
 #endif

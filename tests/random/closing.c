@@ -34,8 +34,8 @@ static unsigned rows_of(const char *of_rows)
     return rows;
 }
 
-/* z < 1 or z = 1 is true on these rows on pass 0, and is the other thing on pass 1 on
-   the rows on which it changes. */
+/* z < 1 or z = 1 holds on the row on pass 0 or does not, and is the other thing on pass 1
+   if it changes there. */
 static void write_changing(enum kind kind, int row, bool holds, bool changes)
 {
     int on_pass_0 = kind == EQUAL ? holds : !holds;

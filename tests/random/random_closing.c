@@ -100,8 +100,9 @@ void print_closing_counts(unsigned long cases)
 {
     for (enum kind kind = LESS; kind <= TRIGGER; kind++)
         if (kind <= EQUAL || kind >= YESTERDAY) {
-            hold_kind("refused 10 for kind", kind, counts.open, cases, 20);
-            hold_kind("refused 10, a wrong mark too, kind", kind, counts.both, cases, 20);
+            unsigned long in_10000 = kind <= EQUAL ? 150 : 20;
+            hold_kind("refused 10 for kind", kind, counts.open, cases, 2 * in_10000);
+            hold_kind("refused 10, a wrong mark too, kind", kind, counts.both, cases, in_10000);
         }
     for (enum kind kind = YESTERDAY; kind <= TRIGGER; kind++) {
         hold_kind("refused 10, only wrong marks close, of", kind, counts.marks_close, cases, 10);

@@ -1,34 +1,33 @@
 -- What moved when 10 came before 9 within one part. Acceptance did not: the same tables are accepted with the same verdicts. An answer
 -- moved from 9 to 10, for the same part, exactly where the lowest part at fault does not close and has a wrong mark. The earlier order
--- is defined here, for these laws alone. Assumes nothing.
-use Prim.Native.Nat.{ℕ, _≤_, _<_}
+-- is defined here, for these laws alone; its closing is by the truth too, which is closing by the marks where 9 refuses nothing
+-- (ByMarks of crate marks). Assumes nothing.
+use Prim.Native.Nat.{ℕ, _<_}
 use native.Mathlib.Omega.{arith}
 use mathlib.Core.Path.{_≡_, refl, sym, ap, _∙_}
-use mathlib.Core.Bool.{Bool, true}
+use mathlib.Core.Bool.{Bool}
 use mathlib.Core.List.{List}
 use mathlib.Core.Logic.{_↔_, _⊎_, inl, inr, ⊎-elim}
-use lib.Dec.{T}
 use Rattle.refusal.specs.declared.Outcome.{Outcome}
 use Rattle.refusal.specs.declared.Outcome.the-variants.{Clear, Refused}
 use Rattle.refusal.specs.declared.Refusal.{Refusal}
 use Rattle.refusal.specs.declared.Refusal.the-variants.{Equation, Closing}
 use Rattle.refusal.specs.First.{_orElse_, inTurn}
-use Rattle.refusal.proofs.First.{clear-refused, orElse-clear, inTurn-clear, inTurn-refused, inTurn-first}
-use Rattle.rule.specs.Layout.{partCount, channelCount}
+use Rattle.refusal.proofs.First.{orElse-clear, inTurn-clear, inTurn-refused, inTurn-first}
+use Rattle.rule.specs.Layout.{partCount}
 use Rattle.rule.specs.Take.{viewsOf}
-use Rattle.cltlb.specs.Fits.{viewFits}
-use Rattle.plan.specs.Layout.{startRows, cycleRows, rows}
+use Rattle.plan.specs.Layout.{rows}
 use Rattle.inputs.specs.Outcome.{inputsOutcome}
+use Rattle.inputs.proofs.Ways.{both-clear}
 use Rattle.table.specs.Layout.{tableOutcome}
-use Rattle.marks.specs.Parts.{witnessInOrder, partOutcome}
-use Rattle.marks.specs.Meaning.{PartSettled, PartMarksTrue}
+use Rattle.marks.specs.Parts.{partOutcome}
+use Rattle.marks.specs.Meaning.{PartSettled, MarkTrue, PartMarksTrue}
 use Rattle.marks.specs.RefusalMeaning.{FirstFault}
-use Rattle.marks.proofs.Accepted.{TrueAt, below}
-use Rattle.marks.proofs.RefusalMeans.{equation-says, open-marks, closing-says, closing-settled}
 use Rattle.acceptance.specs.declared.Checked.{Checked}
 use Rattle.acceptance.specs.declared.Checked.the-variants as C
 use Rattle.acceptance.specs.Check.{markOf, witnessAt, partsOutcome, checkOutcome, answered, checkOf}
-use Rattle.acceptance.proofs.ClosingAnswer as answer
+use Rattle.acceptance.specs.Promise.{Cleared, ClosingMeans}
+use Rattle.acceptance.proofs.ClosingAnswer.{ten, nine, eleven, ten-says, ten-clear, nine-says, nine-clear, past, closing-first, right-passed}
 
 -- ---- items gone through in order, of each of which three tests are made, the first two in either order
 
@@ -75,79 +74,66 @@ module _ (ten nine eleven : ℕ → Outcome) where
 -- ---- the check
 
 module _ (rule plan table : List ℕ) where
-  -- 10, 9 and 11 of a part
-  abbrev mark : ℕ → ℕ → Bool
-  mark = markOf rule plan table
+  -- 9, 10 and 11 of a part, in that order
+  abbrev earlierPart : ℕ → Outcome
+  earlierPart i = nine rule plan table i orElse ten rule plan table i orElse eleven rule plan table i
 
-  abbrev ten : ℕ → Outcome
-  ten = answer.ten rule plan table
-
-  abbrev nine : ℕ → Outcome
-  nine = answer.nine rule plan table
-
-  abbrev eleven : ℕ → Outcome
-  eleven = answer.eleven rule plan table
-
-  -- The check with the order 9, 10, 11 within one part.
+  -- The check with this order within one part.
   unfoldable pub earlierOutcome : Outcome
   earlierOutcome =
       inputsOutcome rule plan
       orElse tableOutcome (partCount rule) (rows plan) table
-      orElse inTurn (λ i. nine i orElse ten i orElse eleven i) (partCount rule)
+      orElse inTurn earlierPart (partCount rule)
 
   unfoldable pub earlierCheck : Checked
   earlierCheck = answered rule plan table earlierOutcome
 
-  -- Part i, of which the earlier order gave 9 and a row, and this one gives 10.
+  -- Part i, of which the earlier order gave 9 with a row, and this one gives 10.
   pub record Moved (i row : ℕ) : Type 0 where
     pub earlier : earlierCheck ≡ C.Refused (Equation i row)
-    pub later : (q : ℕ) × (checkOf rule plan table ≡ C.Refused (Closing i q))
-    -- it is the lowest part at fault: every lower one is right;
-    pub fault : FirstFault (viewsOf rule) (partCount rule) plan (markOf rule plan table) (witnessAt rule plan table) i
-    -- it does not close: on some cycle row its published truth is not the same on all passes;
-    pub unsettled : ¬ PartSettled (viewsOf rule) plan i
-    -- it has a wrong mark
-    pub wrong : ¬ PartMarksTrue (viewsOf rule) plan i (markOf rule plan table)
+    -- its mark on that row is wrong;
+    pub row-there : row < rows plan
+    pub false-mark : ¬ MarkTrue (viewsOf rule) plan i (markOf rule plan table) row
+    -- it is the lowest part at fault, every lower one being right, and does not close: its published truth is not the same on all passes
+    -- of the cycle row that 10 names
+    pub later : (q : ℕ) × (checkOf rule plan table ≡ C.Refused (Closing i q)) × ClosingMeans rule plan table i q
 
   -- 1 to 8 refuse nothing, and neither do 9 to 11 of the parts below i, which is one of them.
   module _ (clear : inputsOutcome rule plan ≡ Clear) (fitting : tableOutcome (partCount rule) (rows plan) table ≡ Clear) (i : ℕ) (l : i < partCount rule)
       (lower : (j : ℕ) → j < i → partOutcome plan (markOf rule plan table) (viewsOf rule j) j (witnessAt rule plan table j) ≡ Clear) where
-    abbrev some-cycle : 1 ≤ cycleRows plan
-    some-cycle = answer.some-cycle rule plan table clear fitting i l lower
-
-    abbrev fits : (i : ℕ) → i < partCount rule → viewFits (channelCount rule) i (viewsOf rule i) ≡ true
-    fits = answer.fits rule plan table clear fitting i l lower
-
-    abbrev lower-right : (a : ℕ) → a < i → TrueAt plan (viewsOf rule) (partCount rule) mark a
-        × T (witnessInOrder (startRows plan) (cycleRows plan) mark (viewsOf rule a) a (witnessAt rule plan table a))
-    lower-right = answer.lower-right rule plan table clear fitting i l lower
-
     -- Refused by 9 and by 10, it has moved.
-    moved : (r q : Refusal) → nine i ≡ Refused r → ten i ≡ Refused q → (row : ℕ) × Moved i row
+    moved : (r q : Refusal) → nine rule plan table i ≡ Refused r → ten rule plan table i ≡ Refused q → (row : ℕ) × Moved i row
     unfolding partOutcome earlierCheck earlierOutcome _orElse_
     moved r q d e =
-        let says = equation-says plan some-cycle (viewsOf rule) (channelCount rule) (partCount rule) fits mark (witnessAt rule plan table) i l lower-right r d in
-        let tells = closing-says plan some-cycle (viewsOf rule) (channelCount rule) (partCount rule) fits mark (witnessAt rule plan table) i l lower-right q e in
-        let before = inTurn-first (nineFirst ten nine eleven) (partCount rule) i l (λ j h. clear-too ten nine eleven j (lower j h)) r
-        (ap (λ x. x orElse ten i orElse eleven i) d) in (
+        let says = nine-says rule plan table clear fitting i l lower r q d e in
+        let tells = ten-says rule plan table clear fitting i l lower q e in
+        let before = inTurn-first earlierPart (partCount rule) i l
+        (λ j h. clear-too (ten rule plan table) (nine rule plan table) (eleven rule plan table) j (lower j h)) r
+        (ap (λ x. x orElse ten rule plan table i orElse eleven rule plan table i) d) in (
           says .0,
           record {
-            earlier = answer.past rule plan table clear fitting i l lower _ before ∙ ap C.Refused (sym (says .1));
-            later = (tells .0, answer.closing-first rule plan table clear fitting i l lower q e ∙ ap C.Refused (sym (tells .1)));
-            fault = tells .2 .fault;
-            unsettled = λ settled. clear-refused (sym e ∙ closing-settled plan some-cycle (viewsOf rule) (channelCount rule) (partCount rule) fits mark (witnessAt rule plan table) i l lower-right .1 settled);
-            wrong = says .2;
+            earlier = past rule plan table clear fitting i l lower _ before ∙ ap C.Refused (sym (says .1));
+            row-there = says .2;
+            false-mark = says .3;
+            later = (tells .0, closing-first rule plan table clear fitting i l lower q e ∙ ap C.Refused (sym (tells .1)), tells .2);
           },
         )
 
     -- Refused by 10, with a wrong mark, it is refused by 9 too.
-    moved-wrong : (q : Refusal) → ten i ≡ Refused q → ¬ PartMarksTrue (viewsOf rule) plan i mark → (row : ℕ) × Moved i row
-    moved-wrong q e wrong = go (nine i) refl
+    moved-wrong : (q : Refusal) → ten rule plan table i ≡ Refused q → ¬ PartMarksTrue (viewsOf rule) plan i (markOf rule plan table) → (row : ℕ) × Moved i row
+    moved-wrong q e wrong = go (nine rule plan table i) refl
       where
-        go : (o : Outcome) → nine i ≡ o → (row : ℕ) × Moved i row
-        go Clear d =
-            absurd (wrong (open-marks plan some-cycle (viewsOf rule) (channelCount rule) (partCount rule) fits mark (witnessAt rule plan table) i l lower-right d q e))
+        go : (o : Outcome) → nine rule plan table i ≡ o → (row : ℕ) × Moved i row
+        go Clear d = absurd (wrong (nine-clear rule plan table clear fitting i l lower d q e))
         go (Refused r) d = moved r q d e
+
+    -- Not settled, with a wrong mark, it is refused by 10.
+    moved-open : ¬ PartSettled (viewsOf rule) plan i → ¬ PartMarksTrue (viewsOf rule) plan i (markOf rule plan table) → (row : ℕ) × Moved i row
+    moved-open unsettled wrong = go (ten rule plan table i) refl
+      where
+        go : (o : Outcome) → ten rule plan table i ≡ o → (row : ℕ) × Moved i row
+        go Clear e = absurd (unsettled (ten-clear rule plan table clear fitting i l lower .0 e))
+        go (Refused q) e = moved-wrong q e wrong
 
   -- WHAT MOVES: both orders give the same answer, or the earlier gives 9 and this one 10 for the same part, the lowest at fault, which
   -- does not close and has a wrong mark.
@@ -163,13 +149,13 @@ module _ (rule plan table : List ℕ) where
           ⊎-elim
           (λ same. inl (ap (λ x. answered rule plan table (inputsOutcome rule plan orElse tableOutcome (partCount rule) (rows plan) table orElse x)) same))
           (λ m. let own = moved e d (m .0) (m .1) (m .2) (m .3) (m .4) (m .5) (m .6) in inr (m .0, own .0, own .1))
-          (swapped ten nine eleven (partCount rule))
+          (swapped (ten rule plan table) (nine rule plan table) (eleven rule plan table) (partCount rule))
 
-  -- AND WHERE: 10 of a part that has a wrong mark was 9 in the earlier order.
-  pub moved-where : (i q : ℕ) → checkOf rule plan table ≡ C.Refused (Closing i q) → ¬ PartMarksTrue (viewsOf rule) plan i (markOf rule plan table)
-      → (row : ℕ) × Moved i row
-  moved-where i q e wrong =
-      let t = answer.closing-turn rule plan table i q e in moved-wrong (t .0) (t .1) i (t .2) (t .3) (Closing i q) (t .4) wrong
+  -- AND WHERE: every table that clears 1 to 8 and whose lowest part at fault does not close and has a wrong mark has moved.
+  pub moved-where : Cleared rule plan table → (i : ℕ) → FirstFault (viewsOf rule) (partCount rule) plan (markOf rule plan table) (witnessAt rule plan table) i
+      → ¬ PartSettled (viewsOf rule) plan i → ¬ PartMarksTrue (viewsOf rule) plan i (markOf rule plan table) → (row : ℕ) × Moved i row
+  moved-where c i fault =
+      moved-open (both-clear rule plan (c .sheet) (c .plan-clear)) (c .table-clear) i (fault .present) (right-passed rule plan table c i fault)
 
   -- ACCEPTANCE DOES NOT MOVE: the same tables are accepted, with the same verdicts.
   pub acceptance-stays : (v : Bool) → (checkOf rule plan table ≡ C.Accepted v) ↔ (earlierCheck ≡ C.Accepted v)

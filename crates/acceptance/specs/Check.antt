@@ -1,4 +1,4 @@
--- The whole check of a rule sheet, a plan and a mark table: document 01's refusals in the order of checking. Assumes nothing.
+-- The whole check of a rule sheet, a plan and a mark table: the refusals in the order of checking. Assumes nothing.
 use Prim.Native.Nat.{ℕ, _-_}
 use mathlib.Core.List.{List}
 use mathlib.Core.Bool.{Bool}

@@ -49,7 +49,7 @@ module _ (rule plan table : List ℕ) where
   WitnessMeans i = refusal.WitnessMeans (viewsOf rule) (partCount rule) plan (markOf rule plan table) (witnessAt rule plan table) i
 
   pub record CheckPromise (answer : Checked) : Type 0 where
-    -- the answer is the first refusal that applies, or the acceptance, of document 01's list
+    -- the answer is the first refusal that applies, or the acceptance
     pub isCheck : answer ≡ checkOf rule plan table
     -- it accepts exactly the right tables
     pub accepts : Cleared → ((v : Bool) × (answer ≡ C.Accepted v)) ↔ TableRight

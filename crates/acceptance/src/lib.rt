@@ -59,8 +59,8 @@ fn check_parts(
         let view = cltlb::view_of(part);
         let sure = surely_clear(plan, values, drifts, still, table, n, sizes, i, view);
         let closing = check_closing(plan, table, n, sizes, i, view, sure);
-        if let Outcome::Refused(fault) = closing {
-            answer = Outcome::Refused(fault);
+        if let Outcome::Refused(plan_fault) = closing {
+            answer = Outcome::Refused(plan_fault);
             break 'parts;
         }
         let rows = choose(sure, 0, w);
@@ -73,8 +73,8 @@ fn check_parts(
             row += 1;
         }
         let witness = check_witness(plan, table, n, sizes, i, view);
-        if let Outcome::Refused(refusal) = witness {
-            answer = Outcome::Refused(refusal);
+        if let Outcome::Refused(mark_fault) = witness {
+            answer = Outcome::Refused(mark_fault);
             break 'parts;
         }
         i += 1;

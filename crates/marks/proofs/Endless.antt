@@ -27,7 +27,7 @@ module _ (plan : List ℕ) (mark : ℕ → ℕ → Bool) where
   abbrev pub markAt : ℕ → ℕ → Bool
   markAt i t = mark i (rowAt plan t)
 
-  -- What the mark of a part at a position has to be, by its own marks at the positions.
+  -- What the mark of a part at a position has to be, by its own marks at the positions or what stands for them.
   unfoldable pub due : View → (ℕ → Bool) → ℕ → Bool
   due (Atom x) own t = atomAt plan x t
   due (Operator o) own t = stepOn mark o (rowAt plan t) (besideAt (besideOf o) (λ s. watchedTruth mark o (own s) (rowAt plan s)) t)

@@ -1,7 +1,7 @@
 -- What refusal 9 of one part says of its truth, where the marks of the lower parts are their truth at every position. Assumes
 -- nothing.
 use mathlib.Core.Path.{_≡_, sym, ap, _∙_, subst, subst₂}
-use mathlib.Core.Bool.{Bool, true, not}
+use mathlib.Core.Bool.{Bool, true}
 use mathlib.Core.List.{List}
 use mathlib.Core.Logic.{_↔_, Iff·rfl, Iff·symm, Iff·trans, by-cases}
 use Prim.Native.Nat.{ℕ, suc, _+_, _≤_, _<_}

@@ -52,10 +52,10 @@ module _ (plan : List ℕ) (mark : ℕ → ℕ → Bool) (f : ℕ → Formula) w
 
   -- The two ways in which what is due of a part at a position is the truth there.
   pub data Due (p : View) (i : ℕ) : Type 0 where
-    -- every kind but U and R: where the part's own earlier marks are true, whichever they are
+    -- every kind but U and R: where what stands for its earlier marks, these or its truth, is true
     byEarlier : ((own : ℕ → Bool) (t : ℕ) → ((k : ℕ) → k < t → T (own k) ↔ This p k) → T (due plan mark p own t) ↔ This p t) → Due p i
-    -- U and R: where its next mark is true. Their truth in the cycle is the same on every pass, they close by their equation,
-    -- and a witness in order makes marks that meet it true.
+    -- U and R: where its next mark is true. Their truth in the cycle is the same on every pass, they always close, and a witness
+    -- in order makes marks that meet the equation true.
     byLater : Ahead p
         → ((t : ℕ) → T (markAt plan mark i (suc t)) ↔ This p (suc t) → T (due plan mark p (markAt plan mark i) t) ↔ This p t)
         → RepeatsFrom (cycleRows plan) (startRows plan) (This p)

@@ -1,5 +1,5 @@
 -- Refusals 10, 9 and 11 of a table say of the published truth what marks/specs/RefusalMeaning states. Assumes nothing.
-use mathlib.Core.Path.{_≡_, refl, sym, _∙_, subst}
+use mathlib.Core.Path.{_≡_, refl, sym, ap, _∙_, subst}
 use mathlib.Core.Bool.{Bool, true}
 use mathlib.Core.List.{List}
 use mathlib.Core.Logic.{_↔_, ⊎-elim}
@@ -10,7 +10,7 @@ use Rattle.cltlb.specs.Parts.{formulaOf}
 use Rattle.cltlb.specs.Fits.{viewFits}
 use Rattle.cltlb.specs.declared.View.{View}
 use Rattle.cltlb.proofs.Depth.{formula-made}
-use Rattle.refusal.specs.First.{_orElse_, inTurn}
+use Rattle.refusal.specs.First.{_orElse_, unless, inTurn}
 use Rattle.refusal.specs.declared.Refusal.{Refusal}
 use Rattle.refusal.specs.declared.Refusal.the-variants.{RuleSizes, Kind, Operand, PlanSizes, Channels, StartDrift, MarkSizes, MarkByte, Equation, Closing, Witness, Absent, BufferLength, NoTable, NoLayout}
 use Rattle.refusal.specs.declared.Outcome.{Outcome}
@@ -18,7 +18,7 @@ use Rattle.refusal.specs.declared.Outcome.the-variants.{Clear, Refused}
 use Rattle.refusal.proofs.First.{unless-refused, unless-clear-T, orElse-refused, inTurn-refused, clear-refused}
 use Rattle.plan.specs.Layout.{startRows, cycleRows, rows}
 use Rattle.plan.specs.Positions.{after}
-use Rattle.marks.specs.Parts.{witnessInOrder, equationOutcome, closingOutcome, witnessOutcome, partOutcome}
+use Rattle.marks.specs.Parts.{closesBy, closes, witnessInOrder, equationOutcome, closingOutcome, witnessOutcome, partOutcome}
 use Rattle.marks.specs.Meaning.{Truth, SameOn, DiffersOn, PartSettled, MarkTrue, PartMarksTrue, PartWitnessed}
 use Rattle.marks.specs.RefusalMeaning.{FirstFault, EquationMeans, ClosingMeans, WitnessMeans}
 use Rattle.marks.proofs.Rows.{after-is-row}
@@ -98,7 +98,17 @@ module _ (plan : List ℕ) (hC : 1 ≤ cycleRows plan) (parts : ℕ → View) (v
         let s = broken r e in
         (s .0, s .1, λ all. s .4 (all (s .0) (s .2), all (after (startRows plan) (cycleRows plan) (s .0)) (after-is-row plan hC (s .0) (s .2))))
 
-    -- and where it says nothing of a part that does not close, they are.
+    -- and of a part that does not close, which is none of U and R, that the one on that row is false;
+    pub broken-open : (r q : Refusal) → equationOutcome plan mark (parts i) i ≡ Refused r → closingOutcome plan mark (parts i) i ≡ Refused q
+        → (row : ℕ) × (Equation i row ≡ r) × (row < rows plan) × (¬ MarkTrue parts plan i mark row)
+    unfolding closingOutcome closes closesBy unless
+    broken-open r q d e =
+        let s = broken r d in
+        let ahead-closes : (p : View) → parts i ≡ p → closingOutcome plan mark p i ≡ Clear → ⊥ =
+        λ p f c. clear-refused (sym e ∙ ap (λ (p : View). closingOutcome plan mark p i) f ∙ c) in
+        (s .0, s .1, s .2, s .3 (⊎-elim (λ u. ahead-closes _ (u .2) refl) (λ u. ahead-closes _ (u .2) refl)))
+
+    -- where it says nothing of such a part, all of them are true.
     pub open-marks : equationOutcome plan mark (parts i) i ≡ Clear → (r : Refusal) → closingOutcome plan mark (parts i) i ≡ Refused r → PartMarksTrue parts plan i mark
     unfolding PartMarksTrue MarkTrue Truth
     open-marks met r e =

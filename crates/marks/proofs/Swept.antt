@@ -28,7 +28,7 @@ use Rattle.table.proofs.Flips.{dual-step}
 use Rattle.table.proofs.ByteTests.{some-bytes}
 use Rattle.table.proofs.AllBelow.{all-each, all-ext, all-first, all-last}
 use Rattle.marks.proofs.Tests.{beq-T}
-use Rattle.marks.proofs.ByMarks.{wrapsBy, wraps, met-truth, closes-by-marks}
+use Rattle.marks.proofs.ByMarks.{met-truth, closes-by-marks}
 
 -- ---- from the lone rows and the sweep of the others to all rows
 
@@ -101,12 +101,13 @@ module _ (P C : ℕ) (mark : ℕ → ℕ → Bool) (i : ℕ) (o : Operator) wher
   met-each all row l = beq-T (mark i row) (operatorMark P C mark o i row) .0 (subst T (sym (all-each (meetsOn P C mark o i) (P + C) all row l)) tt)
 
   -- Where they do, closing by the marks is closing by the truth.
-  by-truth : 1 ≤ C → (allBelow (meetsOn P C mark o i) (P + C) && wraps P C mark o i) ≡ clearOf P C mark o i
+  by-truth : 1 ≤ C → (before : Bool) → besideOf o ≡ Before before
+      → (allBelow (meetsOn P C mark o i) (P + C) && rowTest P (mark (watched o i) (last P C))) ≡ clearOf P C mark o i
   unfolding clearOf
-  by-truth hC = go (allBelow (meetsOn P C mark o i) (P + C)) refl
+  by-truth hC before s = go (allBelow (meetsOn P C mark o i) (P + C)) refl
     where
-      go : (all : Bool) → allBelow (meetsOn P C mark o i) (P + C) ≡ all → (all && wraps P C mark o i) ≡ (all && closes P C mark o)
-      go true e = sym (closes-by-marks P C mark o i hC (met-truth P C mark o i (met-each e)))
+      go : (all : Bool) → allBelow (meetsOn P C mark o i) (P + C) ≡ all → (all && rowTest P (mark (watched o i) (last P C))) ≡ (all && closes P C mark o)
+      go true e = sym (closes-by-marks P C mark o i hC (met-truth P C mark o i (met-each e)) before s)
       go false e = refl
 
   -- a test of each row and the row beside it that is the equation
@@ -122,12 +123,12 @@ module _ (P C : ℕ) (mark : ℕ → ℕ → Bool) (i : ℕ) (o : Operator) wher
     -- Y, Z, S and T
     behind-clear : 1 ≤ C → (before : Bool) → besideOf o ≡ Before before → {first : Bool} → first ≡ rowTest 0 before
         → behindOf P C first test ≡ clearOf P C mark o i
-    unfolding behindOf wraps wrapsBy markBeside last
+    unfolding behindOf markBeside last
     behind-clear hC before s e =
         ap₂ _&&_ (all-first (λ k. test (suc k) k) (meetsOn P C mark o i) (P + C - 1) (e ∙ beside-is (Before before) s 0)
         (λ k l. same (suc k) k ∙ beside-is (Before before) s (suc k)) ∙ ap (allBelow (meetsOn P C mark o i)) whole)
-        (same P (P + C - 1) ∙ ap (λ (s : Beside). wrapsBy s P C mark o i) (sym s))
-        ∙ by-truth hC
+        (same P (P + C - 1))
+        ∙ by-truth hC before s
       where
         whole : suc (P + C - 1) ≡ P + C
         whole = omega arith

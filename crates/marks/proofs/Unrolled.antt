@@ -21,12 +21,12 @@ use Rattle.verdict.specs.Rows.{atomAt}
 use Rattle.marks.specs.declared.operators.Beside.{Beside}
 use Rattle.marks.specs.declared.operators.Beside.the-variants.{After, Before}
 use Rattle.marks.specs.Equations.{besideOf, watched, stepOn, watchedTruth, markBeside, operatorMark, expected}
-use Rattle.marks.specs.Parts.{closes, breaks, equationOutcome, closingOutcome}
+use Rattle.marks.specs.Parts.{closesBy, closes, breaks, equationOutcome, closingOutcome}
 use Rattle.marks.proofs.Tests.{beq-false, beq-T}
 use Rattle.marks.proofs.Rows.{lastRow, rowAt, first-position, is-row, row-0, last-is-row, row-after, after-row, next-position, after-last-row}
 use Rattle.marks.proofs.Endless.{besideAt, markAt, due}
 use Rattle.marks.proofs.Comparisons.{Judged, steady-iff}
-use Rattle.marks.proofs.ByMarks.{wrapsBy, wraps, met-truth, closes-by-marks}
+use Rattle.marks.proofs.ByMarks.{met-truth, closes-by-marks}
 
 -- ---- an equation by the mark beside, on rows and at positions: the marks k are G of the marks m beside
 
@@ -115,28 +115,28 @@ module _ (plan : List ℕ) (mark : ℕ → ℕ → Bool) where
         ≡ stepOn mark o (rowAt plan row) (besideAt (besideOf o) (λ t. m (rowAt plan t)) row)) .0
         (ap₂ (stepOn mark o) (sym (first-position plan row l)) (beside-same plan hC (mark i) (mark (watched o i)) (stepOn mark o) (besideOf o) row l))
 
-    -- The test of closing by marks is what it is of rows.
-    wraps-iff : (o : Operator) (i : ℕ) → T (wraps (startRows plan) (cycleRows plan) mark o i) ↔ Wrapped plan hC (mark i) (mark (watched o i)) (stepOn mark o) (besideOf o)
-    unfolding wraps wrapsBy
-    wraps-iff o i = go (besideOf o)
+    -- Of an operator whose marks meet the equation on the rows, closing is that row P meets it after row W - 1.
+    closes-wrapped : (o : Operator) (i : ℕ) → OnRows (view.Operator o) i
+        → T (closes (startRows plan) (cycleRows plan) mark o) ↔ Wrapped plan hC (mark i) (mark (watched o i)) (stepOn mark o) (besideOf o)
+    unfolding expected rows closes closesBy
+    closes-wrapped o i met = go (besideOf o) refl
       where
-        go : (s : Beside) → T (wrapsBy s (startRows plan) (cycleRows plan) mark o i) ↔ Wrapped plan hC (mark i) (mark (watched o i)) (stepOn mark o) s
-        go After = Iff·rfl
-        go (Before first) = beq-T (mark i (startRows plan)) (stepOn mark o (startRows plan) (mark (watched o i) (lastRow plan)))
+        go : (s : Beside) → besideOf o ≡ s → T (closesBy (startRows plan) (cycleRows plan) mark (besideOf o) o) ↔ Wrapped plan hC (mark i) (mark (watched o i)) (stepOn mark o) s
+        go After e = subst⁻¹ (λ (s : Beside). T (closesBy (startRows plan) (cycleRows plan) mark s o) ↔ Unit {0}) e Iff·rfl
+        go (Before first) e =
+            subst⁻¹ (λ (x : Bool). T x ↔ (mark i (startRows plan) ≡ stepOn mark o (startRows plan) (mark (watched o i) (lastRow plan))))
+            (closes-by-marks (startRows plan) (cycleRows plan) mark o i hC (met-truth (startRows plan) (cycleRows plan) mark o i met) first e)
+            (beq-T (mark i (startRows plan)) (stepOn mark o (startRows plan) (mark (watched o i) (lastRow plan))))
 
     operator-meets : (o : Operator) (i : ℕ) → ((closingOutcome plan mark (view.Operator o) i ≡ Clear) × OnRows (view.Operator o) i) ↔ Meets (view.Operator o) i
     unfolding closingOutcome expected operatorMark due rows
     operator-meets o i =
         Iff·trans (
-          λ h. (h .1, wraps-iff o i .0 (subst T (by-marks (h .1)) (closing .0 (h .0)))),
-          λ h. (closing .1 (subst⁻¹ T (by-marks (h .0)) (wraps-iff o i .1 (h .1))), h .0),
+          λ h. (h .1, closes-wrapped o i (h .1) .0 (closing .0 (h .0))),
+          λ h. (closing .1 (closes-wrapped o i (h .0) .1 (h .1)), h .0),
         ) (Iff·trans (unrolled plan hC (mark i) (mark (watched o i)) (stepOn mark o) (besideOf o))
         (watched-as mark o i (λ m. (t : ℕ) → markAt plan mark i t ≡ stepOn mark o (rowAt plan t) (besideAt (besideOf o) (λ s. m (rowAt plan s)) t))))
       where
-        by-marks : OnRows (view.Operator o) i → closes (startRows plan) (cycleRows plan) mark o ≡ wraps (startRows plan) (cycleRows plan) mark o i
-        by-marks met =
-            closes-by-marks (startRows plan) (cycleRows plan) mark o i hC (met-truth (startRows plan) (cycleRows plan) mark o i met)
-
         closing : (closingOutcome plan mark (view.Operator o) i ≡ Clear) ↔ T (closes (startRows plan) (cycleRows plan) mark o)
         closing = unless-clear-T (closes (startRows plan) (cycleRows plan) mark o) (Closing i (startRows plan))
 

@@ -8,10 +8,10 @@ use Rattle.worked_examples.specs.Calls.{Call, checks, makes, settles, ju
 use Rattle.worked_examples.specs.SheetsRead.{sheets, ReadsAs}
 use Rattle.worked_examples.specs.PlansRead.{plans, sights, SizedAs, SeesAs}
 use Rattle.worked_examples.specs.Handed.{questionBytes, callBytes}
-use Rattle.worked_examples.specs.Table.{examples, ruleE1, ruleE2, ruleE4, ruleE8, planA, planB, planE10, marksE4-2}
-use Rattle.worked_examples.specs.MoreSheets.{ruleKinds, ruleRelease, rulePast, ruleSince, ruleLimit, ruleMet, ruleReach, ruleEightChannels, ruleNoParts, ruleLong, ruleNineChannels, ruleKind0, ruleKind13, ruleShiftedConstant, ruleShiftCode9, ruleForm2, ruleChannel1, ruleNamesItself, ruleSpareByte, ruleMostParts, ruleTooManyParts}
+use Rattle.worked_examples.specs.Table.{ruleE1, ruleE2, ruleE4, ruleE8, ruleE9-0, planA, planB, planE9, planE10, examples, marksE4-2}
+use Rattle.worked_examples.specs.MoreSheets.{ruleKinds, ruleRelease, rulePast, ruleWeak, ruleSince, ruleTrigger, ruleLimit, ruleMet, ruleReach, ruleEightChannels, ruleNoParts, ruleLong, ruleNineChannels, ruleKind0, ruleKind13, ruleShiftedConstant, ruleShiftCode9, ruleForm2, ruleChannel1, ruleNamesItself, ruleSpareByte, ruleMostParts, ruleTooManyParts}
 use Rattle.worked_examples.specs.MorePlans.{planThree, planStartDrift, planNoCycle, planLong, planLead, planLeadDrift, planBehindLeadDrift, planSevenBytes, planMostLead, planTooMuchLead, planMostRows, planTooManyRows, planMostChannels, planTooManyChannels, planHigh}
-use Rattle.worked_examples.specs.MoreMarks.{marksKinds, marksLead, marksLeadSeen, marksRelease-1, marksRelease-0, marksRelease-spare, marksLong, marksByte2, marksBytes2, marksBroken, marksSpare, marksSpareBroken, marksLowerBroken, marksLowerSpare, marksPast, marksPastHeld, marksSinceHeld, marksLimit, marksLimitBroken, marksLimitSpare, lentFull, lentSevens, zeros}
+use Rattle.worked_examples.specs.MoreMarks.{marksKinds, marksLead, marksLeadSeen, marksRelease-1, marksRelease-0, marksRelease-spare, marksLong, marksByte2, marksBytes2, marksBroken, marksSpare, marksSpareBroken, marksLowerBroken, marksLowerSpare, marksPast, marksPastHeld, marksMetWrong, marksWeakHeld, marksSinceHeld, marksTriggerHeld, marksLimit, marksLimitBroken, marksLimitSpare, lentFull, lentSevens, zeros}
 use Rattle.worked_examples.specs.Layouts.{lentPlan, lentScratch, clearedScratch, laidA-0, laidA-1, laidB-1}
 
 -- A refusal is number × 2^32 + part × 2^16 + row; beside it stand its number, part and row.
@@ -70,7 +70,10 @@ more =
     ∷ checks ruleLimit planThree marksLimitSpare 42949738499  -- 10, 1, 3
     ∷ checks ruleLimit planThree marksLimitBroken 42949738499  -- 10, 1, 3
     ∷ checks rulePast planThree marksPastHeld 42949738498  -- 10, 1, 2
+    ∷ checks ruleE9-0 planE9 marksMetWrong 42949672960  -- 10, 0, 0
+    ∷ checks ruleWeak planA marksWeakHeld 42949738497  -- 10, 1, 1
     ∷ checks ruleSince planA marksSinceHeld 42949804033  -- 10, 2, 1
+    ∷ checks ruleTrigger planA marksTriggerHeld 42949804033  -- 10, 2, 1
     -- 11: a witness that is not needed, twice, and one that is no witness. It comes before 9 and before 10 of a higher part.
     ∷ checks ruleE4 planA marksSpare 47244705792  -- 11, 1, 0
     ∷ checks ruleRelease planE10 marksRelease-spare 47244771328  -- 11, 2, 0

@@ -131,7 +131,7 @@ marksSpareBroken =
     ∷ 0x02 ∷ 0x00
     ∷ 0xFF ∷ 0xFF ∷ []
 
--- of ruleE2 on planA, whose part 1 does not close: part 0 is marked 0 on row 1, where it is true; and part 0 has witness 2
+-- of ruleE2 on planA, whose part 1 does not close: part 0 is marked 0 on row 1, where it is true
 abbrev pub marksLowerBroken : List ℕ
 marksLowerBroken =
     0x02 ∷ 0x00 ∷ 0x03 ∷ 0x00
@@ -140,6 +140,7 @@ marksLowerBroken =
     ∷ 0xFF ∷ 0xFF
     ∷ 0xFF ∷ 0xFF ∷ []
 
+-- of ruleE2 on planA, whose part 1 does not close: part 0 has witness 2
 abbrev pub marksLowerSpare : List ℕ
 marksLowerSpare =
     0x02 ∷ 0x00 ∷ 0x03 ∷ 0x00
@@ -166,6 +167,19 @@ marksPastHeld =
     ∷ 0xFF ∷ 0xFF
     ∷ 0xFF ∷ 0xFF ∷ []
 
+-- of ruleE9-0 on planE9: x = 0, which is true at pass 0, is marked 0
+abbrev pub marksMetWrong : List ℕ
+marksMetWrong = 0x01 ∷ 0x00 ∷ 0x01 ∷ 0x00 ∷ 0x00 ∷ 0xFF ∷ 0xFF ∷ []
+
+-- of ruleWeak on planA: Z, which is true on every row, is marked 0 on row 1, as part 0 is on row 2
+abbrev pub marksWeakHeld : List ℕ
+marksWeakHeld =
+    0x02 ∷ 0x00 ∷ 0x03 ∷ 0x00
+    ∷ 0x01 ∷ 0x01 ∷ 0x00
+    ∷ 0x01 ∷ 0x00 ∷ 0x01
+    ∷ 0xFF ∷ 0xFF
+    ∷ 0xFF ∷ 0xFF ∷ []
+
 -- of ruleSince on planA: S, which is true on rows 0 and 1, is marked 1 on row 2 too
 abbrev pub marksSinceHeld : List ℕ
 marksSinceHeld =
@@ -173,6 +187,17 @@ marksSinceHeld =
     ∷ 0x01 ∷ 0x01 ∷ 0x00
     ∷ 0x01 ∷ 0x00 ∷ 0x00
     ∷ 0x01 ∷ 0x01 ∷ 0x01
+    ∷ 0xFF ∷ 0xFF
+    ∷ 0xFF ∷ 0xFF
+    ∷ 0xFF ∷ 0xFF ∷ []
+
+-- of ruleTrigger on planA: T, which is true on row 2 alone, is marked 0 there too
+abbrev pub marksTriggerHeld : List ℕ
+marksTriggerHeld =
+    0x03 ∷ 0x00 ∷ 0x03 ∷ 0x00
+    ∷ 0x00 ∷ 0x00 ∷ 0x01
+    ∷ 0x00 ∷ 0x01 ∷ 0x01
+    ∷ 0x00 ∷ 0x00 ∷ 0x00
     ∷ 0xFF ∷ 0xFF
     ∷ 0xFF ∷ 0xFF
     ∷ 0xFF ∷ 0xFF ∷ []

@@ -10,7 +10,7 @@ use Rattle.cltlb.specs.declared.Part.the-variants.{Less, Equal, Not, And, Or, N
 use Rattle.rule.specs.Layout.{partCount, channelCount}
 use Rattle.rule.specs.Take.{partsOf}
 use Rattle.worked_examples.specs.Table.{ruleE1, ruleE2, ruleE3, ruleE4, ruleE5, ruleE6-4096, ruleE6-4093, ruleE7, ruleE8, ruleE9-10, ruleE9-9, ruleE9-0, ruleE10}
-use Rattle.worked_examples.specs.MoreSheets.{ruleKinds, ruleRelease, rulePast, ruleSince, ruleLimit, ruleMet, ruleReach, ruleEightChannels}
+use Rattle.worked_examples.specs.MoreSheets.{ruleKinds, ruleRelease, rulePast, ruleWeak, ruleSince, ruleTrigger, ruleLimit, ruleMet, ruleReach, ruleEightChannels}
 
 -- the n parts of a sheet from part k on
 unfoldable pub partsFrom : List ℕ → ℕ → ℕ → List Part
@@ -71,7 +71,9 @@ sheets =
     ∷ reads ruleKinds 3 everyKind
     ∷ reads ruleRelease 1 (Less x (Constant (pos 9)) ∷ Less x (Constant (pos 3)) ∷ Release 1 0 ∷ [])
     ∷ reads rulePast 3 (Less x y ∷ Yesterday 0 ∷ [])
+    ∷ reads ruleWeak 1 (Less x (Constant (pos 25)) ∷ WeakYesterday 0 ∷ [])
     ∷ reads ruleSince 1 (Less x (Constant (pos 25)) ∷ Equal x (Constant (pos 10)) ∷ Since 0 1 ∷ [])
+    ∷ reads ruleTrigger 1 (Less (Constant (pos 25)) x ∷ Less (Constant (pos 10)) x ∷ Trigger 0 1 ∷ [])
     ∷ reads ruleLimit 3 (Less x y ∷ Less x (Constant (pos 301)) ∷ [])
     ∷ reads ruleMet 3 (Equal x (Constant (negℤ (pos 70512))) ∷ [])
     ∷ reads ruleReach 1 (Less (Reading 0 (negℤ (pos 4))) (Reading 0 (pos 4)) ∷ [])

@@ -1,4 +1,4 @@
--- What the code goes by: equations on all rows at once. Assumes nothing.
+-- What the code goes by: equations on all rows at once, and marks that are the truth. Assumes nothing.
 use Prim.Native.Nat.{ℕ, suc, _+_, _*_, _-_, _≤_, _<_}
 use mathlib.Core.Path.{_≡_}
 use mathlib.Core.Bool.{Bool, false, _&&_, Bool·beq}
