@@ -4,6 +4,7 @@ ghost use mathlib.Core.Bool.{true};
 ghost use Prim.Native.Nat.{_*_, _<_};
 ghost use Rattle.cltlb.specs.Fits.{atomFits};
 ghost use Rattle.refusal.specs.First.{unless};
+ghost use Rattle.refusal.specs.declared.Outcome.the-variants.{Clear};
 ghost use Rattle.refusal.specs.declared.Refusal.the-variants.{Closing};
 ghost use Rattle.plan.specs.inner.Sizes.{allRows, Fitting};
 ghost use Rattle.table.specs.Layout.{marked, witnessOf};
@@ -129,7 +130,7 @@ pub fn check_closing(
     view: View,
     sure: bool,
 ) -> Outcome
-    requires { ⌜ (Readable (now plan) (now table) n sizes i view) × (sure ≡ true → PartClear (now plan) (now table) sizes view i) ⌝ }
+    requires { ⌜ (Readable (now plan) (now table) n sizes i view) × (sure ≡ true → closingOutcome (now plan) (marked (allRows sizes) (now table)) view i ≡ Clear) ⌝ }
     ensures { λ r. ⌜ r ≡ closingOutcome (now (plan .entry)) (marked (allRows sizes) (now (table .entry))) view i ⌝ }
 {
     if sure {

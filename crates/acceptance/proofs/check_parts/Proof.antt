@@ -11,9 +11,6 @@ use Rattle.inputs.proofs.Parts.{always-taken}
 use Rattle.acceptance.proofs.PartsInTurn as law
 use Rattle.acceptance.proofs.PartsInTurn.{turn, rowsFrom, rows-most}
 use native.Mathlib.Omega.{arith}
-use Prim.Native.Nat.{ℕ, _+_, _-_, _*_, _≤_, _<_}
-use mathlib.Core.Path.{_≡_}
-use lib.ListN.{length}
 use borrow.Author.Needs.{needs}
 use Rattle.acceptance.proofs.check_parts.Statement.{statement}
 use Rattle.acceptance.proofs.check_parts.Tie as tie
@@ -70,11 +67,26 @@ view-of-requires c κs = search needs
 
 -- src/lib.rt:60:13
 surely-clear-requires : tie.Need-surely-clear-requires Inv-loop μ-loop Inv-parts μ-parts
-surely-clear-requires c κs = (law.readable (now (c .before .before .before .before .before .before .before .before .before .before .before .before .before .args .rule)) (now (c .before .before .before .before .before .before .before .before .before .before .before .before .before .args .plan)) (now (c .before .before .before .before .before .before .before .before .before .before .before .before .before .args .table)) (c .before .before .before .before .before .before .before .before .before .before .before .before .before .pre .0) (c .before .before .before .before .before .before .parts .i) (c .before .before .before .before .before .parts-test .taken) (c .before .before .before .before .take .ensures .isTake) (c .before .before .taken .given .1) (c .view-of .ensures), c .before .before .before .before .before .before .before .before .before .before .before .before .before .pre .0 .marks, c .before .before .before .before .before .before .before .before .before .before .before .before .before .pre .1)
+surely-clear-requires c κs =
+    let start = c .before .before .before .before .before .before .before .before .before .before .before .before .before in
+    let parts = c .before .before .before .before .before .before .parts in
+    let parts-test = c .before .before .before .before .before .parts-test in
+    let take = c .before .before .before .before .take in
+    let taken = c .before .before .taken in
+    let view-of = c .view-of in
+    (law.readable (now (start .args .rule)) (now (start .args .plan)) (now (start .args .table)) (start .pre .0) (parts .i) (parts-test .taken) (take .ensures .isTake) (taken .given .1) (view-of .ensures), start .pre .0 .marks, start .pre .1)
 
 -- src/lib.rt:61:13
 check-closing-requires : tie.Need-check-closing-requires Inv-loop μ-loop Inv-parts μ-parts
-check-closing-requires c κs = (law.readable (now (c .before .before .before .before .before .before .before .before .before .before .before .before .before .before .args .rule)) (now (c .before .before .before .before .before .before .before .before .before .before .before .before .before .before .args .plan)) (now (c .before .before .before .before .before .before .before .before .before .before .before .before .before .before .args .table)) (c .before .before .before .before .before .before .before .before .before .before .before .before .before .before .pre .0) (c .before .before .before .before .before .before .before .parts .i) (c .before .before .before .before .before .before .parts-test .taken) (c .before .before .before .before .before .take .ensures .isTake) (c .before .before .before .taken .given .1) (c .before .view-of .ensures), c .surely-clear .ensures)
+check-closing-requires c κs =
+    let start = c .before .before .before .before .before .before .before .before .before .before .before .before .before .before in
+    let parts = c .before .before .before .before .before .before .before .parts in
+    let parts-test = c .before .before .before .before .before .before .parts-test in
+    let take = c .before .before .before .before .before .take in
+    let taken = c .before .before .before .taken in
+    let view-of = c .before .view-of in
+    let surely-clear = c .surely-clear in
+    (law.readable (now (start .args .rule)) (now (start .args .plan)) (now (start .args .table)) (start .pre .0) (parts .i) (parts-test .taken) (take .ensures .isTake) (taken .given .1) (view-of .ensures), λ sure. surely-clear .ensures sure .closing)
 
 -- src/lib.rt:62:33
 enum-known-closing : tie.Need-enum-known-closing Inv-loop μ-loop Inv-parts μ-parts
@@ -89,15 +101,39 @@ choose-requires c κs = search needs
 
 -- src/lib.rt:68:9
 loop-holds : tie.Need-loop-holds Inv-loop μ-loop Inv-parts μ-parts
-loop-holds c = (omega arith, c .before .before .before .before .before .before .before .before .before .before .before .parts .inv .1, law.searched (now (c .before .before .before .before .before .before .before .before .before .before .before .before .before .before .before .before .before .before .args .rule)) (now (c .before .before .before .before .before .before .before .before .before .before .before .before .before .before .before .before .before .before .args .plan)) (now (c .before .before .before .before .before .before .before .before .before .before .before .before .before .before .before .before .before .before .args .table)) (c .before .before .before .before .before .before .before .before .before .before .before .before .before .before .before .before .before .before .pre .0) (c .before .before .before .before .before .before .before .before .before .before .before .parts .i) (c .before .before .before .before .before .before .before .before .before .before .parts-test .taken) (c .before .before .before .before .before .before .before .before .before .take .ensures .isTake) (c .before .before .before .before .before .before .before .taken .given .1) (c .before .before .before .before .before .view-of .ensures) (c .before .before .before .before .surely-clear .result) (c .before .before .before .before .surely-clear .ensures) (c .choose .result) (c .choose .ensures))
+loop-holds c =
+    let start = c .before .before .before .before .before .before .before .before .before .before .before .before .before .before .before .before .before .before in
+    let parts = c .before .before .before .before .before .before .before .before .before .before .before .parts in
+    let parts-test = c .before .before .before .before .before .before .before .before .before .before .parts-test in
+    let take = c .before .before .before .before .before .before .before .before .before .take in
+    let taken = c .before .before .before .before .before .before .before .taken in
+    let view-of = c .before .before .before .before .before .view-of in
+    let surely-clear = c .before .before .before .before .surely-clear in
+    let choose = c .choose in
+    (omega arith, parts .inv .1, law.searched (now (start .args .rule)) (now (start .args .plan)) (now (start .args .table)) (start .pre .0) (parts .i) (parts-test .taken) (take .ensures .isTake) (taken .given .1) (view-of .ensures) (surely-clear .result) (surely-clear .ensures) (choose .result) (choose .ensures))
 
 -- src/lib.rt:69:16
 breaks-on-requires : tie.Need-breaks-on-requires Inv-loop μ-loop Inv-parts μ-parts
-breaks-on-requires c κs = (law.readable (now (c .before .before .before .before .before .before .before .before .before .before .before .before .before .before .before .before .before .before .before .before .args .rule)) (now (c .before .before .before .before .before .before .before .before .before .before .before .before .before .before .before .before .before .before .before .before .args .plan)) (now (c .before .before .before .before .before .before .before .before .before .before .before .before .before .before .before .before .before .before .before .before .args .table)) (c .before .before .before .before .before .before .before .before .before .before .before .before .before .before .before .before .before .before .before .before .pre .0) (c .before .before .before .before .before .before .before .before .before .before .before .before .before .parts .i) (c .before .before .before .before .before .before .before .before .before .before .before .before .parts-test .taken) (c .before .before .before .before .before .before .before .before .before .before .before .take .ensures .isTake) (c .before .before .before .before .before .before .before .before .before .taken .given .1) (c .before .before .before .before .before .before .before .view-of .ensures), omega (arith, c .loop-test .taken, rows-most (c .before .before .before .before .before .before .surely-clear .result) (c .before .before .choose .result) (allRows (c .before .before .before .before .before .before .before .before .before .before .before .before .before .before .before .before .before .before .before .before .args .sizes)) (c .before .before .choose .ensures)))
+breaks-on-requires c κs =
+    let start = c .before .before .before .before .before .before .before .before .before .before .before .before .before .before .before .before .before .before .before .before in
+    let parts = c .before .before .before .before .before .before .before .before .before .before .before .before .before .parts in
+    let parts-test = c .before .before .before .before .before .before .before .before .before .before .before .before .parts-test in
+    let take = c .before .before .before .before .before .before .before .before .before .before .before .take in
+    let taken = c .before .before .before .before .before .before .before .before .before .taken in
+    let view-of = c .before .before .before .before .before .before .before .view-of in
+    let surely-clear = c .before .before .before .before .before .before .surely-clear in
+    let choose = c .before .before .choose in
+    let loop-test = c .loop-test in
+    (law.readable (now (start .args .rule)) (now (start .args .plan)) (now (start .args .table)) (start .pre .0) (parts .i) (parts-test .taken) (take .ensures .isTake) (taken .given .1) (view-of .ensures), omega (arith, loop-test .taken, rows-most (surely-clear .result) (choose .result) (allRows (start .args .sizes)) (choose .ensures)))
 
 -- src/lib.rt:73:13
 add-row : tie.Need-add-row Inv-loop μ-loop Inv-parts μ-parts
-add-row c = omega (arith, c .before .before .loop-test .taken, rows-most (c .before .before .before .before .before .before .before .before .surely-clear .result) (c .before .before .before .before .choose .result) (allRows (c .before .before .before .before .before .before .before .before .before .before .before .before .before .before .before .before .before .before .before .before .before .before .args .sizes)) (c .before .before .before .before .choose .ensures), c .before .before .before .before .before .before .before .before .before .before .before .before .before .before .before .before .before .before .before .before .before .before .pre .0 .ready .fits .few-rows)
+add-row c =
+    let start = c .before .before .before .before .before .before .before .before .before .before .before .before .before .before .before .before .before .before .before .before .before .before in
+    let surely-clear = c .before .before .before .before .before .before .before .before .surely-clear in
+    let choose = c .before .before .before .before .choose in
+    let loop-test = c .before .before .loop-test in
+    omega (arith, loop-test .taken, rows-most (surely-clear .result) (choose .result) (allRows (start .args .sizes)) (choose .ensures), start .pre .0 .ready .fits .few-rows)
 
 -- src/lib.rt:68:9
 loop-less : tie.Need-loop-less Inv-loop μ-loop Inv-parts μ-parts
@@ -105,11 +141,30 @@ loop-less c = omega arith
 
 -- src/lib.rt:68:9
 loop-again : tie.Need-loop-again Inv-loop μ-loop Inv-parts μ-parts
-loop-again c = (omega arith, c .before .before .before .loop .inv .1, law.row-met (now (c .before .before .before .before .before .before .before .before .before .before .before .before .before .before .before .before .before .before .before .before .before .before .args .rule)) (now (c .before .before .before .before .before .before .before .before .before .before .before .before .before .before .before .before .before .before .before .before .before .before .args .plan)) (now (c .before .before .before .before .before .before .before .before .before .before .before .before .before .before .before .before .before .before .before .before .before .before .args .table)) (c .before .before .before .before .before .before .before .before .before .before .before .before .before .before .before .before .before .before .before .before .before .before .pre .0) (c .before .before .before .before .before .before .before .before .before .before .before .before .before .before .before .parts .i) (c .before .before .before .before .before .before .before .before .before .before .before .before .before .before .parts-test .taken) (c .before .before .before .before .before .before .before .before .before .before .before .before .before .take .ensures .isTake) (c .before .before .before .before .before .before .before .before .before .before .before .taken .given .1) (c .before .before .before .before .before .before .before .before .before .view-of .ensures) (c .before .before .before .before .choose .result) (c .before .before .before .loop .row) (c .before .before .before .loop .inv .2) (c .before .before .loop-test .taken) (c .before .breaks-on .ensures) (c .if1 .left))
+loop-again c =
+    let start = c .before .before .before .before .before .before .before .before .before .before .before .before .before .before .before .before .before .before .before .before .before .before in
+    let parts = c .before .before .before .before .before .before .before .before .before .before .before .before .before .before .before .parts in
+    let parts-test = c .before .before .before .before .before .before .before .before .before .before .before .before .before .before .parts-test in
+    let take = c .before .before .before .before .before .before .before .before .before .before .before .before .before .take in
+    let taken = c .before .before .before .before .before .before .before .before .before .before .before .taken in
+    let view-of = c .before .before .before .before .before .before .before .before .before .view-of in
+    let choose = c .before .before .before .before .choose in
+    let loop = c .before .before .before .loop in
+    let loop-test = c .before .before .loop-test in
+    let breaks-on = c .before .breaks-on in
+    let if1 = c .if1 in
+    (omega arith, loop .inv .1, law.row-met (now (start .args .rule)) (now (start .args .plan)) (now (start .args .table)) (start .pre .0) (parts .i) (parts-test .taken) (take .ensures .isTake) (taken .given .1) (view-of .ensures) (choose .result) (loop .row) (loop .inv .2) (loop-test .taken) (breaks-on .ensures) (if1 .left))
 
 -- src/lib.rt:75:13
 check-witness-requires : tie.Need-check-witness-requires Inv-loop μ-loop Inv-parts μ-parts
-check-witness-requires c κs = law.readable (now (c .before .before .before .before .before .before .before .before .before .before .before .before .before .before .before .before .before .before .before .before .args .rule)) (now (c .before .before .before .before .before .before .before .before .before .before .before .before .before .before .before .before .before .before .before .before .args .plan)) (now (c .before .before .before .before .before .before .before .before .before .before .before .before .before .before .before .before .before .before .before .before .args .table)) (c .before .before .before .before .before .before .before .before .before .before .before .before .before .before .before .before .before .before .before .before .pre .0) (c .before .before .before .before .before .before .before .before .before .before .before .before .before .parts .i) (c .before .before .before .before .before .before .before .before .before .before .before .before .parts-test .taken) (c .before .before .before .before .before .before .before .before .before .before .before .take .ensures .isTake) (c .before .before .before .before .before .before .before .before .before .taken .given .1) (c .before .before .before .before .before .before .before .view-of .ensures)
+check-witness-requires c κs =
+    let start = c .before .before .before .before .before .before .before .before .before .before .before .before .before .before .before .before .before .before .before .before in
+    let parts = c .before .before .before .before .before .before .before .before .before .before .before .before .before .parts in
+    let parts-test = c .before .before .before .before .before .before .before .before .before .before .before .before .parts-test in
+    let take = c .before .before .before .before .before .before .before .before .before .before .before .take in
+    let taken = c .before .before .before .before .before .before .before .before .before .taken in
+    let view-of = c .before .before .before .before .before .before .before .view-of in
+    law.readable (now (start .args .rule)) (now (start .args .plan)) (now (start .args .table)) (start .pre .0) (parts .i) (parts-test .taken) (take .ensures .isTake) (taken .given .1) (view-of .ensures)
 
 -- src/lib.rt:76:33
 enum-known-witness : tie.Need-enum-known-witness Inv-loop μ-loop Inv-parts μ-parts
@@ -120,7 +175,10 @@ enum-told-3 c = search needs
 
 -- src/lib.rt:80:9
 add-i : tie.Need-add-i Inv-loop μ-loop Inv-parts μ-parts
-add-i c = omega (arith, c .before .before .before .before .before .before .before .before .before .before .before .before .before .before .before .parts-test .taken, c .before .before .before .before .before .before .before .before .before .before .before .before .before .before .before .before .before .before .before .before .before .before .before .pre .0 .sized .few-parts)
+add-i c =
+    let start = c .before .before .before .before .before .before .before .before .before .before .before .before .before .before .before .before .before .before .before .before .before .before .before in
+    let parts-test = c .before .before .before .before .before .before .before .before .before .before .before .before .before .before .before .parts-test in
+    omega (arith, parts-test .taken, start .pre .0 .sized .few-parts)
 
 -- src/lib.rt:53:5
 parts-less : tie.Need-parts-less Inv-loop μ-loop Inv-parts μ-parts
@@ -128,27 +186,88 @@ parts-less c = omega arith
 
 -- src/lib.rt:53:5
 parts-again : tie.Need-parts-again Inv-loop μ-loop Inv-parts μ-parts
-parts-again c = (omega arith, c .before .before .before .before .loop .inv .1, law.part-passed (now (c .before .before .before .before .before .before .before .before .before .before .before .before .before .before .before .before .before .before .before .before .before .before .before .args .rule)) (now (c .before .before .before .before .before .before .before .before .before .before .before .before .before .before .before .before .before .before .before .before .before .before .before .args .plan)) (now (c .before .before .before .before .before .before .before .before .before .before .before .before .before .before .before .before .before .before .before .before .before .before .before .args .table)) (c .before .before .before .before .before .before .before .before .before .before .before .before .before .before .before .before .before .before .before .before .before .before .before .pre .0) (c .before .before .before .before .before .before .before .before .before .before .before .before .before .before .before .before .parts .i) (c .before .before .before .before .before .before .before .before .before .before .before .before .before .before .before .parts-test .taken) (c .before .before .before .before .before .before .before .before .before .before .before .before .before .before .take .ensures .isTake) (c .before .before .before .before .before .before .before .before .before .before .before .before .taken .given .1) (c .before .before .before .before .before .before .before .before .before .before .view-of .ensures) (c .before .before .before .before .before .before .before .before .before .before .before .before .before .before .before .before .parts .inv .2) (c .before .before .before .before .before .before .before .before .check-closing .ensures) (c .before .before .before .before .before .before .enum-told2 .given .1) (law.rows-met (now (c .before .before .before .before .before .before .before .before .before .before .before .before .before .before .before .before .before .before .before .before .before .before .before .args .rule)) (now (c .before .before .before .before .before .before .before .before .before .before .before .before .before .before .before .before .before .before .before .before .before .before .before .args .plan)) (now (c .before .before .before .before .before .before .before .before .before .before .before .before .before .before .before .before .before .before .before .before .before .before .before .args .table)) (c .before .before .before .before .before .before .before .before .before .before .before .before .before .before .before .before .before .before .before .before .before .before .before .pre .0) (c .before .before .before .before .before .before .before .before .before .before .before .before .before .before .before .before .parts .i) (c .before .before .before .before .before .before .before .before .before .before .before .before .before .before .before .parts-test .taken) (c .before .before .before .before .before .before .before .before .before .before .before .before .before .before .take .ensures .isTake) (c .before .before .before .before .before .before .before .before .before .before .before .before .taken .given .1) (c .before .before .before .before .before .before .before .before .before .before .view-of .ensures) (c .before .before .before .before .before .choose .result) (c .before .before .before .before .loop .row) (c .before .before .before .before .loop .inv .2) (c .before .before .before .loop-test .left)) (c .before .before .check-witness .ensures) (c .enum-told3 .given .1))
+parts-again c =
+    let start = c .before .before .before .before .before .before .before .before .before .before .before .before .before .before .before .before .before .before .before .before .before .before .before in
+    let parts = c .before .before .before .before .before .before .before .before .before .before .before .before .before .before .before .before .parts in
+    let parts-test = c .before .before .before .before .before .before .before .before .before .before .before .before .before .before .before .parts-test in
+    let take = c .before .before .before .before .before .before .before .before .before .before .before .before .before .before .take in
+    let taken = c .before .before .before .before .before .before .before .before .before .before .before .before .taken in
+    let view-of = c .before .before .before .before .before .before .before .before .before .before .view-of in
+    let check-closing = c .before .before .before .before .before .before .before .before .check-closing in
+    let enum-told2 = c .before .before .before .before .before .before .enum-told2 in
+    let choose = c .before .before .before .before .before .choose in
+    let loop = c .before .before .before .before .loop in
+    let loop-test = c .before .before .before .loop-test in
+    let check-witness = c .before .before .check-witness in
+    let enum-told3 = c .enum-told3 in
+    (omega arith, loop .inv .1, law.part-passed (now (start .args .rule)) (now (start .args .plan)) (now (start .args .table)) (start .pre .0) (parts .i) (parts-test .taken) (take .ensures .isTake) (taken .given .1) (view-of .ensures) (parts .inv .2) (check-closing .ensures) (enum-told2 .given .1) (law.rows-met (now (start .args .rule)) (now (start .args .plan)) (now (start .args .table)) (start .pre .0) (parts .i) (parts-test .taken) (take .ensures .isTake) (taken .given .1) (view-of .ensures) (choose .result) (loop .row) (loop .inv .2) (loop-test .left)) (check-witness .ensures) (enum-told3 .given .1))
 
 -- src/lib.rt:37:1
 returns : tie.Need-returns Inv-loop μ-loop Inv-parts μ-parts
-returns c = law.all-passed (now (c .before .before .before .before .before .before .before .before .args .rule)) (now (c .before .before .before .before .before .before .before .before .args .plan)) (now (c .before .before .before .before .before .before .before .before .args .table)) (c .before .before .before .before .before .before .before .before .pre .0) (c .before .parts .i) (c .before .parts .inv .2) (c .parts-test .left) (c .before .parts .inv .1)
+returns c =
+    let start = c .before .before .before .before .before .before .before .before in
+    let parts = c .before .parts in
+    let parts-test = c .parts-test in
+    law.all-passed (now (start .args .rule)) (now (start .args .plan)) (now (start .args .table)) (start .pre .0) (parts .i) (parts .inv .2) (parts-test .left) (parts .inv .1)
 
 -- src/lib.rt:37:1
 returns-2 : tie.Need-returns-2 Inv-loop μ-loop Inv-parts μ-parts
-returns-2 c = absurd (always-taken (now (c .before .before .before .before .before .before .before .before .before .before .before .before .args .rule)) (now (c .before .before .before .before .before .before .before .before .before .before .before .before .args .plan)) (c .before .before .before .before .before .before .before .before .before .before .before .before .pre .0 .ready) (c .before .before .before .before .before .parts .i) (c .before .before .before .before .parts-test .taken) (c .before .before .before .take .ensures .isTake) (c .before .enum-told .given .1))
+returns-2 c =
+    let start = c .before .before .before .before .before .before .before .before .before .before .before .before in
+    let parts = c .before .before .before .before .before .parts in
+    let parts-test = c .before .before .before .before .parts-test in
+    let take = c .before .before .before .take in
+    let enum-told = c .before .enum-told in
+    absurd (always-taken (now (start .args .rule)) (now (start .args .plan)) (start .pre .0 .ready) (parts .i) (parts-test .taken) (take .ensures .isTake) (enum-told .given .1))
 
 -- src/lib.rt:37:1
 returns-3 : tie.Need-returns-3 Inv-loop μ-loop Inv-parts μ-parts
-returns-3 c = law.closing-refused (now (c .before .before .before .before .before .before .before .before .before .before .before .before .before .before .before .before .before .before .args .rule)) (now (c .before .before .before .before .before .before .before .before .before .before .before .before .before .before .before .before .before .before .args .plan)) (now (c .before .before .before .before .before .before .before .before .before .before .before .before .before .before .before .before .before .before .args .table)) (c .before .before .before .before .before .before .before .before .before .before .before .before .before .before .before .before .before .before .pre .0) (c .before .before .before .before .before .before .before .before .before .before .before .parts .i) (c .before .before .before .before .before .before .before .before .before .before .parts-test .taken) (c .before .before .before .before .before .before .before .before .before .take .ensures .isTake) (c .before .before .before .before .before .before .before .taken .given .1) (c .before .before .before .before .before .view-of .ensures) (c .before .before .before .before .before .before .before .before .before .before .before .parts .inv .2) (c .before .before .before .check-closing .ensures) (c .before .closing .given .1)
+returns-3 c =
+    let start = c .before .before .before .before .before .before .before .before .before .before .before .before .before .before .before .before .before .before in
+    let parts = c .before .before .before .before .before .before .before .before .before .before .before .parts in
+    let parts-test = c .before .before .before .before .before .before .before .before .before .before .parts-test in
+    let take = c .before .before .before .before .before .before .before .before .before .take in
+    let taken = c .before .before .before .before .before .before .before .taken in
+    let view-of = c .before .before .before .before .before .view-of in
+    let check-closing = c .before .before .before .check-closing in
+    let closing = c .before .closing in
+    law.closing-refused (now (start .args .rule)) (now (start .args .plan)) (now (start .args .table)) (start .pre .0) (parts .i) (parts-test .taken) (take .ensures .isTake) (taken .given .1) (view-of .ensures) (parts .inv .2) (check-closing .ensures) (closing .given .1)
 
 -- src/lib.rt:37:1
 returns-4 : tie.Need-returns-4 Inv-loop μ-loop Inv-parts μ-parts
-returns-4 c = law.equation-refused (now (c .before .before .before .before .before .before .before .before .before .before .before .before .before .before .before .before .before .before .before .before .before .before .args .rule)) (now (c .before .before .before .before .before .before .before .before .before .before .before .before .before .before .before .before .before .before .before .before .before .before .args .plan)) (now (c .before .before .before .before .before .before .before .before .before .before .before .before .before .before .before .before .before .before .before .before .before .before .args .table)) (c .before .before .before .before .before .before .before .before .before .before .before .before .before .before .before .before .before .before .before .before .before .before .pre .0) (c .before .before .before .before .before .before .before .before .before .before .before .before .before .before .before .parts .i) (c .before .before .before .before .before .before .before .before .before .before .before .before .before .before .parts-test .taken) (c .before .before .before .before .before .before .before .before .before .before .before .before .before .take .ensures .isTake) (c .before .before .before .before .before .before .before .before .before .before .before .taken .given .1) (c .before .before .before .before .before .before .before .before .before .view-of .ensures) (c .before .before .before .before .before .before .before .before .before .before .before .before .before .before .before .parts .inv .2) (c .before .before .before .before .before .before .before .check-closing .ensures) (c .before .before .before .before .before .enum-told2 .given .1) (c .before .before .before .before .choose .result) (c .before .before .before .loop .row) (c .before .before .before .loop .inv .2) (c .before .before .loop-test .taken) (c .before .breaks-on .ensures) (c .if1 .taken)
+returns-4 c =
+    let start = c .before .before .before .before .before .before .before .before .before .before .before .before .before .before .before .before .before .before .before .before .before .before in
+    let parts = c .before .before .before .before .before .before .before .before .before .before .before .before .before .before .before .parts in
+    let parts-test = c .before .before .before .before .before .before .before .before .before .before .before .before .before .before .parts-test in
+    let take = c .before .before .before .before .before .before .before .before .before .before .before .before .before .take in
+    let taken = c .before .before .before .before .before .before .before .before .before .before .before .taken in
+    let view-of = c .before .before .before .before .before .before .before .before .before .view-of in
+    let check-closing = c .before .before .before .before .before .before .before .check-closing in
+    let enum-told2 = c .before .before .before .before .before .enum-told2 in
+    let choose = c .before .before .before .before .choose in
+    let loop = c .before .before .before .loop in
+    let loop-test = c .before .before .loop-test in
+    let breaks-on = c .before .breaks-on in
+    let if1 = c .if1 in
+    law.equation-refused (now (start .args .rule)) (now (start .args .plan)) (now (start .args .table)) (start .pre .0) (parts .i) (parts-test .taken) (take .ensures .isTake) (taken .given .1) (view-of .ensures) (parts .inv .2) (check-closing .ensures) (enum-told2 .given .1) (choose .result) (loop .row) (loop .inv .2) (loop-test .taken) (breaks-on .ensures) (if1 .taken)
 
 -- src/lib.rt:37:1
 returns-5 : tie.Need-returns-5 Inv-loop μ-loop Inv-parts μ-parts
-returns-5 c = law.witness-refused (now (c .before .before .before .before .before .before .before .before .before .before .before .before .before .before .before .before .before .before .before .before .before .before .before .before .args .rule)) (now (c .before .before .before .before .before .before .before .before .before .before .before .before .before .before .before .before .before .before .before .before .before .before .before .before .args .plan)) (now (c .before .before .before .before .before .before .before .before .before .before .before .before .before .before .before .before .before .before .before .before .before .before .before .before .args .table)) (c .before .before .before .before .before .before .before .before .before .before .before .before .before .before .before .before .before .before .before .before .before .before .before .before .pre .0) (c .before .before .before .before .before .before .before .before .before .before .before .before .before .before .before .before .before .parts .i) (c .before .before .before .before .before .before .before .before .before .before .before .before .before .before .before .before .parts-test .taken) (c .before .before .before .before .before .before .before .before .before .before .before .before .before .before .before .take .ensures .isTake) (c .before .before .before .before .before .before .before .before .before .before .before .before .before .taken .given .1) (c .before .before .before .before .before .before .before .before .before .before .before .view-of .ensures) (c .before .before .before .before .before .before .before .before .before .before .before .before .before .before .before .before .before .parts .inv .2) (c .before .before .before .before .before .before .before .before .before .check-closing .ensures) (c .before .before .before .before .before .before .before .enum-told2 .given .1) (law.rows-met (now (c .before .before .before .before .before .before .before .before .before .before .before .before .before .before .before .before .before .before .before .before .before .before .before .before .args .rule)) (now (c .before .before .before .before .before .before .before .before .before .before .before .before .before .before .before .before .before .before .before .before .before .before .before .before .args .plan)) (now (c .before .before .before .before .before .before .before .before .before .before .before .before .before .before .before .before .before .before .before .before .before .before .before .before .args .table)) (c .before .before .before .before .before .before .before .before .before .before .before .before .before .before .before .before .before .before .before .before .before .before .before .before .pre .0) (c .before .before .before .before .before .before .before .before .before .before .before .before .before .before .before .before .before .parts .i) (c .before .before .before .before .before .before .before .before .before .before .before .before .before .before .before .before .parts-test .taken) (c .before .before .before .before .before .before .before .before .before .before .before .before .before .before .before .take .ensures .isTake) (c .before .before .before .before .before .before .before .before .before .before .before .before .before .taken .given .1) (c .before .before .before .before .before .before .before .before .before .before .before .view-of .ensures) (c .before .before .before .before .before .before .choose .result) (c .before .before .before .before .before .loop .row) (c .before .before .before .before .before .loop .inv .2) (c .before .before .before .before .loop-test .left)) (c .before .before .before .check-witness .ensures) (c .before .witness .given .1)
+returns-5 c =
+    let start = c .before .before .before .before .before .before .before .before .before .before .before .before .before .before .before .before .before .before .before .before .before .before .before .before in
+    let parts = c .before .before .before .before .before .before .before .before .before .before .before .before .before .before .before .before .before .parts in
+    let parts-test = c .before .before .before .before .before .before .before .before .before .before .before .before .before .before .before .before .parts-test in
+    let take = c .before .before .before .before .before .before .before .before .before .before .before .before .before .before .before .take in
+    let taken = c .before .before .before .before .before .before .before .before .before .before .before .before .before .taken in
+    let view-of = c .before .before .before .before .before .before .before .before .before .before .before .view-of in
+    let check-closing = c .before .before .before .before .before .before .before .before .before .check-closing in
+    let enum-told2 = c .before .before .before .before .before .before .before .enum-told2 in
+    let choose = c .before .before .before .before .before .before .choose in
+    let loop = c .before .before .before .before .before .loop in
+    let loop-test = c .before .before .before .before .loop-test in
+    let check-witness = c .before .before .before .check-witness in
+    let witness = c .before .witness in
+    law.witness-refused (now (start .args .rule)) (now (start .args .plan)) (now (start .args .table)) (start .pre .0) (parts .i) (parts-test .taken) (take .ensures .isTake) (taken .given .1) (view-of .ensures) (parts .inv .2) (check-closing .ensures) (enum-told2 .given .1) (law.rows-met (now (start .args .rule)) (now (start .args .plan)) (now (start .args .table)) (start .pre .0) (parts .i) (parts-test .taken) (take .ensures .isTake) (taken .given .1) (view-of .ensures) (choose .result) (loop .row) (loop .inv .2) (loop-test .left)) (check-witness .ensures) (witness .given .1)
 
 pub check-parts-spec : {M : Type 1} → statement M
 check-parts-spec =

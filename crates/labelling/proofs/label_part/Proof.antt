@@ -1,9 +1,6 @@
 use denote.Ref.{now}
 use Rattle.labelling.proofs.OnePart.{atom-there, atom-made, operator-there, operator-ready, operator-made}
 use native.Mathlib.Omega.{arith}
-use Prim.Native.Nat.{ℕ, _+_, _-_, _*_, _≤_, _<_}
-use mathlib.Core.Path.{_≡_}
-use lib.ListN.{length}
 use borrow.Author.Needs.{needs}
 use Rattle.labelling.proofs.label_part.Statement.{statement}
 use Rattle.labelling.proofs.label_part.Tie as tie
@@ -20,7 +17,10 @@ enum-known-view c = search needs
 
 -- src/lib.rt:37:29
 label-atom-requires : tie.Need-label-atom-requires
-label-atom-requires c κs = (c .before .before .before .before .before .before .pre .0, c .before .before .before .before .before .before .pre .1, c .before .before .before .before .before .before .pre .2, atom-there (now (c .before .before .before .before .before .before .args .plan)) (c .before .before .before .before .before .before .pre .0) (c .before .before .before .before .before .before .args .n) (c .before .before .before .before .before .before .args .i) (c .before .before .before .before .before .before .pre .3) _ (c .before .before .view .given .1))
+label-atom-requires c κs =
+    let start = c .before .before .before .before .before .before in
+    let view = c .before .before .view in
+    (start .pre .0, start .pre .1, start .pre .2, atom-there (now (start .args .plan)) (start .pre .0) (start .args .n) (start .args .i) (start .pre .3) _ (view .given .1))
 
 -- src/lib.rt:38:24
 enum-known-view-2 : tie.Need-enum-known-view-2
@@ -32,11 +32,18 @@ add-w c = search needs
 
 -- src/lib.rt:40:13
 label-operator-requires : tie.Need-label-operator-requires
-label-operator-requires c κs = (c .before .before .before .before .before .before .before .pre .1, omega arith, c .before .before .before .before .before .before .before .pre .0 .a-cycle, c .before .before .before .before .before .before .before .pre .2, operator-there (now (c .before .before .before .before .before .before .before .args .plan)) (c .before .before .before .before .before .before .before .pre .0) (c .before .before .before .before .before .before .before .args .n) (c .before .before .before .before .before .before .before .args .i) (c .before .before .before .before .before .before .before .pre .3) _ (c .before .before .before .view2 .given .1))
+label-operator-requires c κs =
+    let start = c .before .before .before .before .before .before .before in
+    let view2 = c .before .before .before .view2 in
+    (start .pre .1, omega arith, start .pre .0 .a-cycle, start .pre .2, operator-there (now (start .args .plan)) (start .pre .0) (start .args .n) (start .args .i) (start .pre .3) _ (view2 .given .1))
 
 -- src/lib.rt:41:39
 closes-made-requires : tie.Need-closes-made-requires
-closes-made-requires c κs = operator-ready (now (c .before .before .before .before .before .before .before .before .before .before .before .args .plan)) (c .before .before .before .before .before .before .before .before .before .before .before .pre .0) (c .before .before .before .before .before .before .before .before .before .before .before .args .n) (c .before .before .before .before .before .before .before .before .before .before .before .args .i) (c .before .before .before .before .before .before .before .before .before .before .before .pre .3) _ (c .before .before .before .before .before .before .before .view2 .given .1) (c .before .before .before .label-operator .ensures) (c .before .before .before .before .before .before .before .before .before .before .before .pre .1) (c .before .before .before .before .before .before .before .before .before .before .before .pre .2)
+closes-made-requires c κs =
+    let start = c .before .before .before .before .before .before .before .before .before .before .before in
+    let view2 = c .before .before .before .before .before .before .before .view2 in
+    let label-operator = c .before .before .before .label-operator in
+    operator-ready (now (start .args .plan)) (start .pre .0) (start .args .n) (start .args .i) (start .pre .3) _ (view2 .given .1) (label-operator .ensures) (start .pre .1) (start .pre .2)
 
 -- src/lib.rt:41:13
 closing-outcome-requires : tie.Need-closing-outcome-requires
@@ -48,7 +55,11 @@ same-length c = search needs
 
 -- src/lib.rt:25:1
 returns : tie.Need-returns
-returns c = atom-made (now (c .before .before .before .before .before .before .before .before .before .args .plan)) (c .before .before .before .before .before .before .before .before .before .pre .0) (c .before .before .before .before .before .before .before .before .before .args .n) (c .before .before .before .before .before .before .before .before .before .args .i) (c .before .before .before .before .before .before .before .before .before .pre .3) _ (c .before .before .before .before .before .view .given .1) (c .before .before .label-atom .ensures .0) (c .before .before .label-atom .ensures .1)
+returns c =
+    let start = c .before .before .before .before .before .before .before .before .before in
+    let view = c .before .before .before .before .before .view in
+    let label-atom = c .before .before .label-atom in
+    atom-made (now (start .args .plan)) (start .pre .0) (start .args .n) (start .args .i) (start .pre .3) _ (view .given .1) (label-atom .ensures .0) (label-atom .ensures .1)
 
 -- src/lib.rt:25:1
 same-length-2 : tie.Need-same-length-2
@@ -56,7 +67,13 @@ same-length-2 c = search needs
 
 -- src/lib.rt:25:1
 returns-2 : tie.Need-returns-2
-returns-2 c = operator-made (now (c .before .before .before .before .before .before .before .before .before .before .before .before .before .args .plan)) (c .before .before .before .before .before .before .before .before .before .before .before .before .before .pre .0) (c .before .before .before .before .before .before .before .before .before .before .before .before .before .args .n) (c .before .before .before .before .before .before .before .before .before .before .before .before .before .args .i) (c .before .before .before .before .before .before .before .before .before .before .before .before .before .pre .3) _ (c .before .before .before .before .before .before .before .before .before .view2 .given .1) (c .before .before .before .before .before .label-operator .ensures) (c .before .closes-made .ensures) (c .closing-outcome .ensures)
+returns-2 c =
+    let start = c .before .before .before .before .before .before .before .before .before .before .before .before .before in
+    let view2 = c .before .before .before .before .before .before .before .before .before .view2 in
+    let label-operator = c .before .before .before .before .before .label-operator in
+    let closes-made = c .before .closes-made in
+    let closing-outcome = c .closing-outcome in
+    operator-made (now (start .args .plan)) (start .pre .0) (start .args .n) (start .args .i) (start .pre .3) _ (view2 .given .1) (label-operator .ensures) (closes-made .ensures) (closing-outcome .ensures)
 
 pub label-part-spec : {M : Type 1} → statement M
 label-part-spec =

@@ -13,7 +13,7 @@ use Rattle.marks.proofs.refusals.closing_outcome.Reads as closing-outco
 
 -- src/refusals.rt:136:9
 returns : tie.Need-returns
-returns c = sym (c .before .before .before .pre .1 (c .if1 .taken) .closing)
+returns c = sym (c .before .before .before .pre .1 (c .if1 .taken))
 
 -- src/refusals.rt:139:20
 enum-known-view : tie.Need-enum-known-view
