@@ -16,7 +16,7 @@ use Rattle.plan.specs.Positions.{last, after}
 use Rattle.marks.specs.declared.operators.Beside.{Beside}
 use Rattle.marks.specs.declared.operators.Beside.the-variants.{After, Before}
 use Rattle.marks.specs.Equations.{besideOf, watched, markOne, markTwo, stepOn, watchedTruth, markBeside, operatorMark, expected}
-use Rattle.marks.specs.Parts.{running, closesBy, closes}
+use Rattle.marks.specs.Parts.{running, turnsRound, closesBy, closes}
 use Rattle.marks.specs.inner.Tables.{TruthMarked}
 
 -- ---- the parts that an operator names, and the one that it watches, are there
@@ -104,7 +104,7 @@ module _ (mark : ℕ → ℕ → Bool) (o : Operator) (first : Bool) where
 
 module _ (P C : ℕ) (mark : ℕ → ℕ → Bool) (o : Operator) where
   pub turned : (start end : Bool) {seen step r : Bool} → seen ≡ watchedTruth mark o end (P + C - 1) → step ≡ stepOn mark o P seen → r ≡ Bool·beq start step
-      → r ≡ Bool·beq start (stepOn mark o P (watchedTruth mark o end (last P C)))
+      → r ≡ turnsRound P C mark o start end
   unfolding last
   turned start end d e h = h ∙ ap (Bool·beq start) (e ∙ ap (stepOn mark o P) d)
 
@@ -113,12 +113,12 @@ module _ (P C : ℕ) (mark : ℕ → ℕ → Bool) (o : Operator) where
   ahead-closes s = ap (λ (s : Beside). closesBy P C mark s o) (sym s)
 
   pub back-closes : {first start end r : Bool} → besideOf o ≡ Before first → start ≡ running mark o first P → end ≡ running mark o first (P + C - 1)
-      → r ≡ Bool·beq start (stepOn mark o P (watchedTruth mark o end (last P C))) → r ≡ closes P C mark o
+      → r ≡ turnsRound P C mark o start end → r ≡ closes P C mark o
   unfolding closes closesBy last
   back-closes s d e h =
       h ∙ ap₂ (λ (x y : Bool). Bool·beq x (stepOn mark o P (watchedTruth mark o y (P + C - 1)))) d e ∙ ap (λ (s : Beside). closesBy P C mark s o) (sym s)
 
   -- where its marks are its truth
   pub made-closes : 1 ≤ C → {i : ℕ} → TruthMarked P C mark o i → {first start end r : Bool} → besideOf o ≡ Before first → start ≡ mark i P → end ≡ mark i (P + C - 1)
-      → r ≡ Bool·beq start (stepOn mark o P (watchedTruth mark o end (last P C))) → r ≡ closes P C mark o
+      → r ≡ turnsRound P C mark o start end → r ≡ closes P C mark o
   made-closes hC truth {first} s d e = back-closes s (d ∙ truth first s P (omega arith)) (e ∙ truth first s (P + C - 1) (omega arith))

@@ -59,11 +59,14 @@ module _ (P C : ℕ) where
   witnessTwo Trigger marked b w = eqb w noWitness
 
   module _ (mark : ℕ → ℕ → Bool) where
-    -- Closing, the consistency of the loop, for Y, Z, S and T: the equation for a row above 0 also holds on row P with row W - 1
-    -- as the row before. It is said of their truth, whatever their own marks are.
+    -- The equation for a row above 0 also holds on row P with row W - 1 as the row before; `start` and `end` are the truth on the two.
+    abbrev pub turnsRound : Operator → Bool → Bool → Bool
+    turnsRound o start end = Bool·beq start (stepOn mark o P (watchedTruth mark o end (last P C)))
+
+    -- Closing, the consistency of the loop, for Y, Z, S and T: this is so of their truth, whatever their own marks are.
     unfoldable pub closesBy : Beside → Operator → Bool
     closesBy After o = true
-    closesBy (Before first) o = Bool·beq (running mark o first P) (stepOn mark o P (watchedTruth mark o (running mark o first (last P C)) (last P C)))
+    closesBy (Before first) o = turnsRound o (running mark o first P) (running mark o first (last P C))
 
     unfoldable pub closes : Operator → Bool
     closes o = closesBy (besideOf o) o

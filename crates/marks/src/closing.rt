@@ -1,16 +1,15 @@
 // Closing, the consistency of the loop, of an operator in a table of `n` parts with room for `w` rows of each, as many as there are or
 // more: by its truth, from the marks of the parts that it names.
 ghost use mathlib.Core.Path.{_≡_};
-ghost use mathlib.Core.Bool.{true, Bool·beq};
+ghost use mathlib.Core.Bool.{true};
 ghost use Prim.Native.Nat.{_≤_, _<_};
 ghost use Rattle.cltlb.specs.Fits.{namesLower};
-ghost use Rattle.plan.specs.Positions.{last};
 ghost use Rattle.plan.specs.inner.Sizes.{allRows};
 ghost use Rattle.table.specs.Layout.{marked};
 ghost use Rattle.table.specs.inner.Tables.{Sized};
-ghost use Rattle.marks.specs.Equations.{stepOn, watchedTruth};
+ghost use Rattle.marks.specs.Equations.{watchedTruth};
 ghost use Rattle.marks.specs.Parts as parts;
-ghost use Rattle.marks.specs.Parts.{running};
+ghost use Rattle.marks.specs.Parts.{running, turnsRound};
 ghost use Rattle.marks.specs.inner.Tables.{TruthMarked};
 use crate::equations::step_on;
 use crate::operators::Beside;
@@ -64,7 +63,7 @@ fn turns_round(
     end: bool,
 ) -> bool
     requires { ⌜ (Sized (now table) n w) × (allRows sizes ≤ w) × (1 ≤ sizes .cycle) × (namesLower n operator ≡ true) ⌝ }
-    ensures { λ r. ⌜ r ≡ Bool·beq start (stepOn (marked w (now (table .entry))) operator (sizes .start) (watchedTruth (marked w (now (table .entry))) operator end (last (sizes .start) (sizes .cycle)))) ⌝ }
+    ensures { λ r. ⌜ r ≡ turnsRound (sizes .start) (sizes .cycle) (marked w (now (table .entry))) operator start end ⌝ }
 {
     let p = sizes.start;
     let before = watched_truth(table, n, w, operator, end, p + sizes.cycle - 1);
