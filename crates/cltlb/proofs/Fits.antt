@@ -2,16 +2,17 @@
 use Prim.Native.Nat.{ℕ, _≤_, _<_}
 use native.Mathlib.Omega.{arith}
 use mathlib.Core.Path.{_≡_, refl}
-use mathlib.Core.Bool.{true, false, not, and-eq-true-iff}
-use lib.Dec.{ltb}
+use mathlib.Core.Bool.{Bool, true, false, not, _&&_, and-eq-true-iff}
+use lib.Dec.{ltb, eqb}
 use lib.IntN.{ℤ, pos, negsuc}
 use lib.Signed.{ltZ, leZ}
-use borrow.Author.Tests.{leb-true, ltb-true, ltb-false, lt-ltb, le-ltb, not-true}
-use Rattle.cltlb.specs.Fits.{shiftFits, termFits, atomFits, namesLower, viewFits}
+use borrow.Author.Tests.{leb-true, ltb-true, ltb-false, lt-ltb, le-ltb, eqb-false, not-true}
+use Rattle.cltlb.specs.Week.{week}
+use Rattle.cltlb.specs.Fits.{shiftFits, termFits, windowFits, atomFits, namesLower, viewFits}
 use Rattle.cltlb.specs.declared.Term.{Term}
 use Rattle.cltlb.specs.declared.Term.the-variants.{Constant, Reading}
 use Rattle.cltlb.specs.declared.Atom.{Atom}
-use Rattle.cltlb.specs.declared.Atom.the-variants.{Less, Equal}
+use Rattle.cltlb.specs.declared.Atom.the-variants.{Less, Equal, Window}
 use Rattle.cltlb.specs.declared.Unary.{Unary}
 use Rattle.cltlb.specs.declared.Binary.{Binary}
 use Rattle.cltlb.specs.declared.Operator.{Operator}
@@ -43,6 +44,11 @@ module _ (v : ℕ) where
   unfolding atomFits
   equal-fits x y h = and-eq-true-iff (termFits v x) (termFits v y) .0 h
 
+  pub window-fits : (c : ℕ) (s : ℤ) (from to : ℕ) → atomFits v (Window c s from to) ≡ true
+      → (termFits v (Reading c s) ≡ true) × (windowFits from to ≡ true)
+  unfolding atomFits
+  window-fits c s from to h = and-eq-true-iff (termFits v (Reading c s)) (windowFits from to) .0 h
+
   module _ (n : ℕ) where
     pub atom-fits : (x : Atom) → viewFits v n (view.Atom x) ≡ true → atomFits v x ≡ true
     unfolding viewFits
@@ -51,6 +57,19 @@ module _ (v : ℕ) where
     pub operator-fits : (o : Operator) → viewFits v n (view.Operator o) ≡ true → namesLower n o ≡ true
     unfolding viewFits
     operator-fits o h = h
+
+-- Two minutes of the week that differ.
+pub record Ends (from to : ℕ) : Type 0 where
+  pub from-fits : from < week
+  pub to-fits : to < week
+  pub differ : from ≡ to → ⊥
+
+pub ends-fit : (from to : ℕ) → windowFits from to ≡ true → Ends from to
+unfolding windowFits
+ends-fit from to h =
+    let p = and-eq-true-iff (ltb from week && ltb to week) (not (eqb from to)) .0 h in
+    let q = and-eq-true-iff (ltb from week) (ltb to week) .0 (p .0) in
+    record { from-fits = ltb-true from week (q .0); to-fits = ltb-true to week (q .1); differ = eqb-false from to (not-true (eqb from to) (p .1)) }
 
 module _ (n : ℕ) where
   pub one-lower : (o : Unary) (a : ℕ) → namesLower n (One o a) ≡ true → a < n
@@ -75,6 +94,7 @@ module _ (v u : ℕ) (h : v ≤ u) where
   unfolding atomFits
   atom-more (Less x y) e = let p = less-fits v x y e in simp (term-more x (p .0), term-more y (p .1))
   atom-more (Equal x y) e = let p = equal-fits v x y e in simp (term-more x (p .0), term-more y (p .1))
+  atom-more (Window c s from to) e = let p = window-fits v c s from to e in simp (term-more (Reading c s) (p .0), p .1)
 
   pub view-more : (m n : ℕ) → m ≤ n → (x : View) → viewFits v m x ≡ true → viewFits u n x ≡ true
   unfolding viewFits namesLower
@@ -104,3 +124,10 @@ module _ (v : ℕ) {x : Term} {k : ℕ} {d : ℤ} (e : x ≡ Reading k d) where
   pub fits-high : k < v → ltZ d (negsuc 3) ≡ false → leZ d (pos 4) ≡ termFits v x
   unfolding termFits shiftFits
   fits-high h l = simp (e, lt-ltb _ _ h, l)
+
+-- ---- a window by the tests that the code makes
+
+pub fits-window : (v : ℕ) {x : Atom} {c from to : ℕ} {s u : ℤ} {a b : Bool} → x ≡ Window c s from to → u ≡ s
+    → a ≡ termFits v (Reading c u) → b ≡ windowFits from to → (a && b) ≡ atomFits v x
+unfolding atomFits
+fits-window v h e f g = rw (h, f, g, e) refl

@@ -1,5 +1,6 @@
 pub mod Run
 pub mod Operators
+pub mod Week
 pub mod Truth
 pub mod Views
 pub mod Fits

@@ -2,7 +2,7 @@
 use Prim.Native.Nat.{ℕ}
 use mathlib.Core.Bool.{Bool, true, false}
 use Rattle.cltlb.specs.declared.Part.{Part}
-use Rattle.cltlb.specs.declared.Part.the-variants.{Less, Equal, Not, And, Or, Next, Until, Release, Yesterday, WeakYesterday, Since, Trigger}
+use Rattle.cltlb.specs.declared.Part.the-variants.{Less, Equal, Not, And, Or, Next, Until, Release, Yesterday, WeakYesterday, Since, Trigger, Window}
 use Rattle.cltlb.specs.declared.Atom.the-variants as atom
 use Rattle.cltlb.specs.declared.Unary.{Unary}
 use Rattle.cltlb.specs.declared.Unary.the-variants as unary
@@ -31,8 +31,9 @@ viewOf (Yesterday a) = oneView unary.Yesterday a
 viewOf (WeakYesterday a) = oneView unary.WeakYesterday a
 viewOf (Since a b) = twoView binary.Since a b
 viewOf (Trigger a b) = twoView binary.Trigger a b
+viewOf (Window c s from to) = Atom (atom.Window c s from to)
 
--- The atoms are the comparisons, less and equal.
+-- The atoms are the parts whose truth is read off the run: the comparisons, less and equal, and the windows.
 abbrev pub isAtom : View → Bool
 isAtom (Atom x) = true
 isAtom (Operator o) = false

@@ -1,9 +1,12 @@
-// The logic CLTLB over the whole numbers with < and =: the terms and parts that a rule is made of, and how the logic looks at a
-// part. What they mean is in specs/.
+// The logic CLTLB over the whole numbers with < and =, and windows of the week: the terms and parts that a rule is made of, and how
+// the logic looks at a part. What they mean is in specs/.
 ghost use mathlib.Core.Path.{_≡_};
 ghost use mathlib.Core.Bool.{_&&_};
 ghost use Rattle.cltlb.specs.Views.{oneView, twoView, viewOf};
-ghost use Rattle.cltlb.specs.Fits.{termFits, atomFits, namesLower, viewFits};
+ghost use Rattle.cltlb.specs.Fits.{termFits, windowFits, atomFits, namesLower, viewFits};
+
+// The minutes of a week.
+pub const WEEK: usize = 10080;
 
 // A term (the field's arithmetic temporal term) is a constant, or the reading of a channel, which is a variable, at the present
 // position plus a shift.
@@ -12,8 +15,9 @@ pub enum Term {
     Reading { channel: usize, shift: i32 },
 }
 
-// A part of a rule, that is, a subformula of its formula: a comparison of two terms (an atomic constraint), or an operator over
-// parts that are named by their numbers.
+// A part of a rule, that is, a subformula of its formula: a comparison of two terms or a window of the week (an atomic constraint),
+// or an operator over parts that are named by their numbers. A window is true where the reading, in minutes, lies in the part of the
+// week that begins at `from` and ends before `to`.
 pub enum Part {
     Less(Term, Term),
     Equal(Term, Term),
@@ -27,12 +31,24 @@ pub enum Part {
     WeakYesterday(usize),
     Since(usize, usize),
     Trigger(usize, usize),
+    Window {
+        channel: usize,
+        shift: i32,
+        from: usize,
+        to: usize,
+    },
 }
 
 // What a part says of readings alone: the field's atomic constraint.
 pub enum Atom {
     Less(Term, Term),
     Equal(Term, Term),
+    Window {
+        channel: usize,
+        shift: i32,
+        from: usize,
+        to: usize,
+    },
 }
 
 // An operator over one part.
@@ -94,6 +110,17 @@ pub fn view_of(part: Part) -> View
         Part::WeakYesterday(a) => one(Unary::WeakYesterday, a),
         Part::Since(a, b) => two(Binary::Since, a, b),
         Part::Trigger(a, b) => two(Binary::Trigger, a, b),
+        Part::Window {
+            channel,
+            shift,
+            from,
+            to,
+        } => View::Atom(Atom::Window {
+            channel,
+            shift,
+            from,
+            to,
+        }),
     }
 }
 
@@ -115,13 +142,26 @@ pub fn term_fits(x: Term, v: usize) -> bool
     }
 }
 
-// The terms of an atom fit `v` channels.
+// The two ends of a window are minutes of the week, and differ.
+pub fn window_fits(from: usize, to: usize) -> bool
+    ensures { λ r. ⌜ r ≡ windowFits from to ⌝ }
+{
+    ((from < WEEK) & (to < WEEK)) & !(from == to)
+}
+
+// The terms of an atom fit `v` channels, and so do the ends of a window the week.
 fn atom_fits(x: Atom, v: usize) -> bool
     ensures { λ r. ⌜ r ≡ atomFits v x ⌝ }
 {
     match x {
         Atom::Less(left, right) => term_fits(left, v) & term_fits(right, v),
         Atom::Equal(left, right) => term_fits(left, v) & term_fits(right, v),
+        Atom::Window {
+            channel,
+            shift,
+            from,
+            to,
+        } => term_fits(Term::Reading { channel, shift }, v) & window_fits(from, to),
     }
 }
 

@@ -1,4 +1,4 @@
--- "Judge" answers for one comparison (an atomic constraint) and one row: its refusals in the order of checking, its answer, and
+-- "Judge" answers for one atom, a comparison or a window, and one row: its refusals in the order of checking, its answer, and
 -- what it promises on all inputs. Assumes nothing.
 use Prim.Native.Nat.{ℕ}
 use mathlib.Core.Path.{_≡_}
@@ -32,7 +32,7 @@ verdictOn plan (view.Atom x) row = verdictOf plan x row
 verdictOn plan (view.Operator o) row = AlwaysFalse
 
 module _ (rule plan : List ℕ) (part row : ℕ) where
-  -- Judge: 1 to 6, then 12: the part or row named by the caller is absent, or the part to be judged is no comparison.
+  -- Judge: 1 to 6, then 12: the part or row named by the caller is absent, or the part to be judged is no atom.
   unfoldable pub judgeOutcome : Outcome
   judgeOutcome =
       inputsOutcome rule plan

@@ -1,4 +1,4 @@
-// Judge: one comparison on one row, over all passes.
+// Judge: one atom on one row, over all passes.
 ghost use mathlib.Core.Path.{_≡_};
 ghost use Rattle.inputs.specs.inner.Read.{Ready};
 ghost use Rattle.judge.specs.Judge.{judgeOf, JudgePromise};

@@ -50,7 +50,7 @@ module _ (P C : ℕ) (mark : ℕ → ℕ → Bool) where
   unfoldable pub operatorLabel : Operator → ℕ → Bool
   operatorLabel o row = labelBy (besideOf o) o row
 
--- The mark of a part on a row of a plan: a comparison by its truth at the row's first position, an operator by the marks.
+-- The mark of a part on a row of a plan: an atom by its truth at the row's first position, an operator by the marks.
 unfoldable pub labelOf : List ℕ → (ℕ → ℕ → Bool) → View → ℕ → Bool
 labelOf plan mark (view.Atom x) row = atomAt plan x row
 labelOf plan mark (view.Operator o) row = operatorLabel (startRows plan) (cycleRows plan) mark o row

@@ -1,5 +1,5 @@
 // The marks of one part, made on all rows of a lent mark table from the marks of lower parts, and its lowest witness.
-pub mod comparisons;
+pub mod atoms;
 pub mod operators;
 pub mod witnesses;
 
@@ -13,7 +13,7 @@ ghost use Rattle.table.specs.inner.Tables.{Sized};
 ghost use Rattle.marks.specs.Parts.{closingOutcome};
 ghost use Rattle.labelling.specs.Labels.{labelOf};
 ghost use Rattle.labelling.specs.inner.Rows.{RowsLabelled};
-use crate::comparisons::label_atom;
+use crate::atoms::label_atom;
 use crate::operators::label_operator;
 use cltlb::View;
 use marks::closing::closes_made;

@@ -1,10 +1,10 @@
 -- Marks held against two lines: what the sweeps test is whether the verdict on the lines says on every pass what the mark says.
 -- Assumes nothing.
-use Prim.Native.Nat.{ℕ, _-_, _%_, _≤_, _<_}
+use Prim.Native.Nat.{ℕ, _+_, _-_, _%_, _≤_, _<_}
 use native.Mathlib.Decide.{decLt, ℕ-discrete}
 use native.Mathlib.Omega.{arith}
 use mathlib.Core.Path.{_≡_, refl, sym, ap, ap₂, _∙_}
-use mathlib.Core.Bool.{Bool, true, false, cond, not, _&&_, Bool·beq}
+use mathlib.Core.Bool.{Bool, true, false, cond, not, _&&_, _||_, Bool·beq}
 use mathlib.Core.Logic.{by-cases}
 use lib.Dec.{ltb, eqb}
 use lib.IntN.{ℤ, pos, subℕ}
@@ -12,11 +12,14 @@ use lib.Signed.{ltZ}
 use borrow.Author.Tests.{lt-ltb, le-ltb, eq-eqb, ne-eqb}
 use Rattle.fields.specs.inner.Biased.{bias, unbiased}
 use Rattle.verdict.specs.Lines.{Line, eqZ, judgeLess, meets, judgeEqual}
+use Rattle.cltlb.specs.Week.{week, minuteOf}
+use Rattle.verdict.specs.Weeks.{minutesAfter, judgeSpaced}
 use Rattle.verdict.specs.Comparisons.{testOf, judgeLines}
 use Rattle.verdict.specs.declared.Relation.{Relation}
-use Rattle.verdict.specs.declared.Relation.the-variants.{Below, Same}
+use Rattle.verdict.specs.declared.Relation.the-variants.{Below, Same, Within}
 use Rattle.verdict.specs.declared.Verdict.the-variants.{AlwaysTrue, AlwaysFalse, Changes}
 use Rattle.verdict.proofs.Decisions.{lifted, by-bias, by-lifted, bias-ltZ, bias-eqZ, less-until, less-always, less-later, less-never, meets-once, meets-over, meets-apart, equal-below, equal-above, equal-always, equal-once}
+use Rattle.verdict.proofs.Minutes.{after-bias, spaced-none, spaced-all, spaced-some, level-within}
 use Rattle.lanes.specs.inner.Agreement.{lineFrom, verdictAgrees, stays}
 
 -- ---- two numbers kept without a sign
@@ -32,6 +35,12 @@ compare-below a b e = rw e (numbers-below a b refl refl)
 
 pub compare-same : (a b : ℕ) {relation : Relation} → relation ≡ Same → eqb a b ≡ testOf relation (unbiased a) (unbiased b)
 compare-same a b e = rw e (numbers-same a b refl refl)
+
+pub numbers-within : (n a b : ℕ) {x y : ℤ} {r : ℕ} → unbiased a ≡ x → unbiased b ≡ y → r ≡ minuteOf (subℕ a b) → ltb r n ≡ testOf (Within n) x y
+numbers-within n a b e f h = ap (λ (m : ℕ). ltb m n) (h ∙ sym (after-bias a b bias) ∙ ap₂ minutesAfter e f)
+
+pub compare-within : (a b : ℕ) {relation : Relation} {n r : ℕ} → relation ≡ Within n → r ≡ minuteOf (subℕ a b) → ltb r n ≡ testOf relation (unbiased a) (unbiased b)
+compare-within a b e h = rw e (numbers-within _ a b refl refl h)
 
 -- ---- two lines
 
@@ -126,6 +135,29 @@ equal-agrees = by-lifted (λ x y. (mark : Bool) → (Bool·beq mark (eqZ (x .at)
         (λ g. rw (bias-eqZ a b B, eq-eqb a b (omega arith), equal-always B D a d b e (omega arith) g) (always mark))
         (λ g. rw (bias-eqZ a b B, eq-eqb a b (omega arith), equal-once B D a d b e (omega arith) g) (once mark))))
 
+-- ---- minutes that are so far apart
+
+pub spaced-agrees : (n g least : ℕ) (mark : Bool)
+    → ((mark && ltb (least + (week - g)) n) || not (mark || ltb least n)) ≡ verdictAgrees (judgeSpaced n g least) mark
+spaced-agrees n g least mark =
+    by-cases (decLt least n)
+    (λ h. by-cases (decLt (least + (week - g)) n)
+    (λ l. rw (lt-ltb least n h, lt-ltb (least + (week - g)) n l, ← spaced-all n g least h l) (always mark))
+    (λ l. rw (lt-ltb least n h, le-ltb (least + (week - g)) n (omega arith), ← spaced-some n g least h (omega arith)) (some mark)))
+    (λ h. rw (le-ltb least n (omega arith), le-ltb (least + (week - g)) n (omega arith), ← spaced-none n g least (omega arith)) (never mark))
+  where
+    always : (m : Bool) → ((m && true) || not (m || true)) ≡ m
+    always true = refl
+    always false = refl
+
+    some : (m : Bool) → ((m && false) || not (m || true)) ≡ false
+    some true = refl
+    some false = refl
+
+    never : (m : Bool) → ((m && false) || not (m || false)) ≡ not m
+    never true = refl
+    never false = refl
+
 -- ---- lines that do not drift, and rows that are not repeated
 
 -- a number that stays
@@ -151,6 +183,7 @@ level-verdict : (relation : Relation) (a b : ℤ) → judgeLines relation (level
 unfolding judgeLess
 level-verdict Below a b = refl
 level-verdict Same a b = level-same a b
+level-verdict (Within n) a b = level-within n a b
 
 -- Where neither line drifts, the mark has to say how they compare at first.
 pub level-agrees : (relation : Relation) (a b : ℤ) (mark : Bool) → Bool·beq mark (testOf relation a b) ≡ verdictAgrees (judgeLines relation (level a) (level b)) mark

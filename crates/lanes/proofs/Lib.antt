@@ -1,4 +1,5 @@
 pub mod Comparing
+pub mod Windows
 pub mod Reaching
 pub mod Sweeping
 pub mod Laying

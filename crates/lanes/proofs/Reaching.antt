@@ -10,7 +10,7 @@ use Rattle.table.specs.inner.Tables.{allBelow, Sized}
 use Rattle.table.proofs.AllBelow.{all-each, sweep-next}
 use Rattle.table.proofs.Places.{part-cells, area}
 use Rattle.lanes.specs.declared.columns.Column.{Column}
-use Rattle.lanes.specs.inner.Columns.{Reaches, InMarks}
+use Rattle.lanes.specs.inner.Columns.{Reaches, InLanes, InMarks}
 
 module _ (lanes : List ℕ) (x : Column) where
   pub reaches-row : (count k : ℕ) → Reaches lanes x count → k < count → Reaches lanes x (k + 1)
@@ -20,6 +20,18 @@ module _ (lanes : List ℕ) (x : Column) where
   pub in-reach : (k : ℕ) → Reaches lanes x (k + 1) → x .reads ≡ true → 4 * (x .from + k) + 4 ≤ length lanes
   unfolding Reaches
   in-reach k h e = let g = h e in omega arith
+
+-- fewer rows
+pub lanes-to : {lanes : List ℕ} {x y : Column} {count : ℕ} (to : ℕ) → to ≤ count → InLanes lanes x y count → InLanes lanes x y to
+unfolding Reaches
+lanes-to to h i = record {
+  left = λ e. let g = i .left e in omega arith;
+  right = λ e. let g = i .right e in omega arith;
+  few = i .few;
+}
+
+pub marks-to : {table : List ℕ} {m count : ℕ} (to : ℕ) → to ≤ count → InMarks table m count → InMarks table m to
+marks-to to h i = record { there = (let g = i .there in omega arith); few = i .few }
 
 -- the marks of part i from a row on
 pub marks-there : (table : List ℕ) (n w : ℕ) → Sized table n w → (i row count m : ℕ) → i < n → row + count ≤ w → m ≡ 4 + (i * w + row) → InMarks table m count

@@ -5,4 +5,5 @@ pub mod Direct
 pub mod Lanes
 pub mod Positions
 pub mod Ranges
+pub mod Spacing
 pub mod Still

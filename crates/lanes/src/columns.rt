@@ -2,7 +2,7 @@
 ghost use mathlib.Core.Path.{_≡_};
 ghost use Prim.Native.Nat.{_+_, _≤_, _<_};
 ghost use lib.ListN.{length};
-ghost use Rattle.fields.specs.inner.Biased.{unbiased};
+ghost use Rattle.fields.specs.inner.Biased.{patterns, unbiased};
 ghost use Rattle.plan.specs.inner.Sizes.{mostStored, mostArray};
 ghost use Rattle.lanes.specs.inner.Columns.{numberIn, driftIn, Reaches, FewChannels, Stands};
 use cltlb::Term;
@@ -21,7 +21,7 @@ pub struct Column {
 // The number of a column on its k-th row, kept without a sign.
 pub fn number(values: &[u8], column: Column, k: usize) -> u64
     requires { ⌜ (Reaches (now values) column (k + 1)) × (length (now values) ≤ mostArray) ⌝ }
-    ensures { λ r. ⌜ unbiased r ≡ numberIn (now (values .entry)) column k ⌝ }
+    ensures { λ r. ⌜ (unbiased r ≡ numberIn (now (values .entry)) column k) × (r < patterns) ⌝ }
 {
     if column.reads {
         return entry_at(values, column.from + k);

@@ -6,3 +6,4 @@ pub mod layout;
 pub mod ranges;
 pub mod rows;
 pub mod sweeps;
+pub mod weeks;

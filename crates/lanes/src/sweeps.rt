@@ -12,8 +12,11 @@ ghost use Rattle.lanes.specs.inner.Columns.{lineIn, InLanes, InMarks};
 use crate::columns::Column;
 use crate::columns::drift;
 use crate::columns::number;
+use crate::weeks::within_lines;
+use crate::weeks::within_values;
 use table::sweeps::agree;
 use verdict::Relation;
+use verdict::weeks::minutes_after;
 
 // How two numbers kept without a sign compare.
 pub fn numbers_compare(relation: Relation, a: u64, b: u64) -> bool
@@ -22,6 +25,7 @@ pub fn numbers_compare(relation: Relation, a: u64, b: u64) -> bool
     match relation {
         Relation::Below => a < b,
         Relation::Same => a == b,
+        Relation::Within(minutes) => minutes_after(a, b) < minutes,
     }
 }
 
@@ -156,6 +160,7 @@ pub fn values_agree(
     match relation {
         Relation::Below => less_values(values, x, y, table, m, count),
         Relation::Same => same_values(values, x, y, table, m, count),
+        Relation::Within(minutes) => within_values(values, minutes, x, y, table, m, count),
     }
 }
 
@@ -181,6 +186,9 @@ pub fn lines_agree(
             } else {
                 false
             }
+        }
+        Relation::Within(minutes) => {
+            within_lines(values, drifts, minutes, x, y, table, m, count)
         }
     }
 }

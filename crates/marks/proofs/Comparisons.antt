@@ -40,7 +40,7 @@ pub record Judged (plan : List ℕ) (x : Atom) (F : ℕ → Type 0) : Type 0 whe
 pub judged-atom : (plan : List ℕ) → 1 ≤ cycleRows plan → (v : ℕ) (x : Atom) → atomFits v x ≡ true → Judged plan x (AtomHolds (runOf plan) x)
 unfolding rows
 judged-atom plan hC v x fits = record {
-  tells = atom-tells plan x;
+  tells = atom-tells plan v x fits;
   verdict = λ row low high. judged plan hC row high v x fits;
 }
 

@@ -101,7 +101,7 @@ module _ (plan : List ℕ) (mark : ℕ → ℕ → Bool) (f : ℕ → Formula) w
 
     pub is-due : (v : ℕ) (p : View) → viewFits v i p ≡ true → Due p i
     unfolding formulaFrom Holds due
-    is-due v (view.Atom x) fits = byEarlier (λ _ t _. Iff·trans (T-true (atomAt plan x t)) (atom-tells plan x t))
+    is-due v (view.Atom x) fits = byEarlier (λ _ t _. Iff·trans (T-true (atomAt plan x t)) (atom-tells plan v x (atom-fits v i x fits) t))
     is-due v (view.Operator (One o a)) fits =
         let l = one-lower i o a (operator-fits v i (One o a) fits) in byEarlier (λ _ t _. unary-agrees (Of a) (at a) (named a l) o t)
     is-due v (view.Operator (Two o a b)) fits = let l = two-lower i o a b (operator-fits v i (Two o a b) fits) in two-due o a b (l .0) (l .1)

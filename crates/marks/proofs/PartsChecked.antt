@@ -65,9 +65,9 @@ module _ (plan : List ℕ) (hC : 1 ≤ cycleRows plan) (mark : ℕ → ℕ → B
       not-marked false e = refl
 
       go : (w : Verdict) → verdictOf plan x row ≡ w → verdictAgrees w (mark i row) ≡ true → atomAt plan x row ≡ mark i row
-      go AlwaysTrue e m = atom-tells plan x row .1 (means .alwaysTrue .0 e row here) ∙ sym m
+      go AlwaysTrue e m = atom-tells plan v x fits row .1 (means .alwaysTrue .0 e row here) ∙ sym m
       go AlwaysFalse e m =
-          false-of (atomAt plan x row) (λ t. means .alwaysFalse .0 e row here (atom-tells plan x row .0 t)) ∙ sym (not-marked (mark i row) m)
+          false-of (atomAt plan x row) (λ t. means .alwaysFalse .0 e row here (atom-tells plan v x fits row .0 t)) ∙ sym (not-marked (mark i row) m)
       go Changes e m = absurd (false≢true m)
 
   steady-row : (w : Verdict) (b : Bool) → verdictAgrees w b ≡ true → isChanges w ≡ false

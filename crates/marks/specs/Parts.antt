@@ -80,7 +80,7 @@ module _ (P C : ℕ) where
     witnessInOrder (view.Operator o) i w = witnessOfOperator o i w
 
 module _ (plan : List ℕ) where
-  -- a comparison must not change on any cycle row: the lowest changing row
+  -- an atom must not change on any cycle row: the lowest changing row
   unfoldable pub steadyOutcome : Atom → ℕ → Outcome
   steadyOutcome x i = refusedAt (Closing i) (lowestFrom (λ row. isChanges (verdictOf plan x row)) (startRows plan) (cycleRows plan))
 
@@ -89,7 +89,7 @@ module _ (plan : List ℕ) where
     unfoldable pub breaks : View → ℕ → ℕ → Bool
     breaks p i row = not (Bool·beq (mark i row) (expected (startRows plan) (cycleRows plan) mark (atomAt plan) p i row))
 
-    -- 10 A part does not close (part; for a comparison the lowest changing row, else row P), by its truth, whatever its own marks
+    -- 10 A part does not close (part; for an atom the lowest changing row, else row P), by its truth, whatever its own marks
     -- say.
     unfoldable pub closingOutcome : View → ℕ → Outcome
     closingOutcome (view.Atom x) i = steadyOutcome x i

@@ -42,7 +42,7 @@ module _ (parts : ℕ → View) (n : ℕ) (plan : List ℕ) (mark : ℕ → ℕ 
     pub in-cycle : (startRows plan ≤ row) × (row < rows plan)
     -- on which the part's truth is not the same on all passes, whatever its marks say;
     pub differs : DiffersOn plan (Truth parts plan i) row
-    -- of a comparison it is the lowest such row
+    -- of an atom it is the lowest such row
     pub lowest : isAtom (parts i) ≡ true → (q : ℕ) → startRows plan ≤ q → q < row → SameOn plan (Truth parts plan i) q
 
   -- 11 of part i: it is settled, and its witness is not in order

@@ -6,9 +6,10 @@ use mathlib.Core.Bool.{true}
 use lib.ListN.{take, drop}
 use Rattle.cltlb.specs.declared.Part.{Part}
 use Rattle.rule.specs.declared.operands.Operand.{Operand}
-use Rattle.rule.specs.declared.operands.Operand.the-variants.{Terms, One, Two}
+use Rattle.rule.specs.declared.operands.Operand.the-variants.{Terms, One, Two, Window}
 use Rattle.rule.specs.declared.operands.Shape.{Shape}
 use Rattle.rule.specs.declared.operands.Shape.the-variants.{Comparison, NamesOne, NamesTwo}
+use Rattle.rule.specs.declared.operands.Shape.the-variants as shape
 use Rattle.rule.specs.Layout.{partCount, channelCount, kindByte, operandPlace, sizesFit}
 use Rattle.cltlb.specs.Views.{viewOf}
 use Rattle.cltlb.specs.Fits.{viewFits}
@@ -21,6 +22,7 @@ abbrev pub shapeIn : Operand → Shape
 shapeIn (Terms x y) = Comparison
 shapeIn (One a) = NamesOne
 shapeIn (Two a b) = NamesTwo
+shapeIn (Window channel shift from to) = shape.Window
 
 -- the constants of a part are signed numbers of four bytes
 abbrev pub Words : Part → Type 0

@@ -4,42 +4,47 @@ use mathlib.Core.Path.{_≡_, refl, ap, ap₂, _∙_}
 use mathlib.Core.List.{List}
 use mathlib.Core.Bool.{Bool, true, false, cond, _&&_}
 use lib.Dec.{ltb}
-use lib.ListN.{take, drop}
+use lib.ListN.{getD, take, drop}
+use lib.IntN.{ℤ}
 use Rattle.fields.specs.LittleEndian.{numberAt}
 use Rattle.cltlb.specs.declared.Term.{Term}
+use Rattle.cltlb.specs.declared.Term.the-variants.{Constant, Reading}
 use Rattle.cltlb.specs.declared.Part.{Part}
-use Rattle.cltlb.specs.Fits.{termFits}
+use Rattle.cltlb.specs.declared.Part.the-variants as part
+use Rattle.cltlb.specs.Fits.{termFits, windowFits}
 use Rattle.rule.specs.declared.terms.TermRead.{TermRead}
 use Rattle.rule.specs.declared.terms.TermRead.the-variants as R
 use Rattle.rule.specs.declared.operands.Operand.{Operand}
 use Rattle.rule.specs.declared.operands.Operand.the-variants.{Terms, One, Two}
+use Rattle.rule.specs.declared.operands.OperandRead.{OperandRead}
 use Rattle.rule.specs.declared.operands.OperandRead.the-variants as O
 use Rattle.rule.specs.declared.operands.Shape.{Shape}
 use Rattle.rule.specs.declared.operands.Shape.the-variants as S
-use Rattle.rule.specs.Terms.{termAt}
-use Rattle.rule.specs.Operands.{allZero, bothTerms, operandAt}
+use Rattle.rule.specs.Terms.{shiftOf, termAt}
+use Rattle.rule.specs.Operands.{allZero, bothTerms, windowOver, operandAt}
 use Rattle.rule.specs.Kinds.{partOf}
-use Rattle.rule.specs.inner.Sound.{termSound, operandFits, operandSound, IsTerm, IsPart}
+use Rattle.rule.specs.inner.Sound.{termSound, readingSound, operandFits, operandSound, IsTerm, IsPart}
+use Rattle.rule.proofs.TermsRead.{by-form}
 
 never : (b : Bool) → b && false ≡ false
 never true = refl
 never false = refl
 
--- an operand that is there by a test is sound where it fits and the test holds
-by-test : (v n : ℕ) (b : Bool) (x : Operand) → operandFits v n x && b ≡ operandSound v n (cond b (O.Operand x) O.Broken)
+-- what is there by a test is sound where it is and the test holds
+by-test : (v n : ℕ) (b : Bool) (x : OperandRead) → operandSound v n x && b ≡ operandSound v n (cond b x O.Broken)
 unfolding operandSound
-by-test v n true x = go (operandFits v n x)
+by-test v n true x = go (operandSound v n x)
   where
     go : (b : Bool) → b && true ≡ b
     go true = refl
     go false = refl
-by-test v n false x = never (operandFits v n x)
+by-test v n false x = never (operandSound v n x)
 
 -- and the part of it is the part there
-made : (k : ℕ) (b : Bool) (x : Operand) {p : Part} → p ≡ partOf k x → IsPart k (cond b (O.Operand x) O.Broken) p
+made : (k : ℕ) (b : Bool) (x : OperandRead) (p : Part) → IsPart k x p → IsPart k (cond b x O.Broken) p
 unfolding IsPart
-made k true x e = e
-made k false x e = tt
+made k true x p e = e
+made k false x p e = tt
 
 both-sound : (v n : ℕ) (t u : TermRead) → termSound v t && termSound v u ≡ operandSound v n (bothTerms t u)
 unfolding termSound operandSound operandFits bothTerms
@@ -53,6 +58,21 @@ both-made k R.Broken u x y e f g = tt
 both-made k (R.Term a) R.Broken x y e f g = tt
 both-made k (R.Term a) (R.Term b) x y e f g = g ∙ ap (partOf k) (ap₂ Terms e f)
 
+over-sound : (v n : ℕ) (t : TermRead) (from to : ℕ) → readingSound v t && windowFits from to ≡ operandSound v n (windowOver t from to)
+unfolding readingSound operandSound operandFits windowOver
+over-sound v n R.Broken from to = refl
+over-sound v n (R.Term (Constant z)) from to = refl
+over-sound v n (R.Term (Reading c d)) from to = refl
+
+-- a window of any part by the tests that are made of its bytes
+pub window-tested : (s : List ℕ) (at v : ℕ) {a b c : Bool} {from to : ℕ} → a ≡ readingSound v (termAt s at) → b ≡ windowFits from to
+    → from ≡ numberAt 2 s (at + 6) → to ≡ numberAt 2 s (at + 8) → c ≡ allZero (take 2 (drop (at + 10) s))
+    → (n : ℕ) → (a && b) && c ≡ operandSound v n (operandAt S.Window s at)
+unfolding operandAt
+window-tested s at v e f g h i n =
+    rw (e, f, g, h, i, over-sound v n (termAt s at) (numberAt 2 s (at + 6)) (numberAt 2 s (at + 8)))
+    (by-test v n (allZero (take 2 (drop (at + 10) s))) (windowOver (termAt s at) (numberAt 2 s (at + 6)) (numberAt 2 s (at + 8))))
+
 module _ (s : List ℕ) (at : ℕ) {shape : Shape} where
   module _ (v n : ℕ) where
     pub terms-sound : shape ≡ S.Comparison → {a b : Bool} → a ≡ termSound v (termAt s at) → b ≡ termSound v (termAt s (at + 6))
@@ -62,13 +82,16 @@ module _ (s : List ℕ) (at : ℕ) {shape : Shape} where
 
     pub one-sound : shape ≡ S.NamesOne → {r : Bool} → r ≡ (ltb (numberAt 2 s at) n && allZero (take 10 (drop (at + 2) s)))
         → r ≡ operandSound v n (operandAt shape s at)
-    unfolding operandAt operandFits
-    one-sound c e = rw c (e ∙ by-test v n (allZero (take 10 (drop (at + 2) s))) (One (numberAt 2 s at)))
+    unfolding operandAt operandSound operandFits
+    one-sound c e = rw c (e ∙ by-test v n (allZero (take 10 (drop (at + 2) s))) (O.Operand (One (numberAt 2 s at))))
 
     pub two-sound : shape ≡ S.NamesTwo → {r : Bool} → r ≡ ((ltb (numberAt 2 s at) n && ltb (numberAt 2 s (at + 2)) n) && allZero (take 8 (drop (at + 4) s)))
         → r ≡ operandSound v n (operandAt shape s at)
-    unfolding operandAt operandFits
-    two-sound c e = rw c (e ∙ by-test v n (allZero (take 8 (drop (at + 4) s))) (Two (numberAt 2 s at) (numberAt 2 s (at + 2))))
+    unfolding operandAt operandSound operandFits
+    two-sound c e = rw c (e ∙ by-test v n (allZero (take 8 (drop (at + 4) s))) (O.Operand (Two (numberAt 2 s at) (numberAt 2 s (at + 2)))))
+
+    pub window-sound : shape ≡ S.Window → {r : Bool} → r ≡ operandSound v n (operandAt S.Window s at) → r ≡ operandSound v n (operandAt shape s at)
+    window-sound c e = rw c e
 
     pub none-sound : shape ≡ S.Unknown → false ≡ operandSound v n (operandAt shape s at)
     unfolding operandAt operandSound
@@ -81,13 +104,25 @@ module _ (s : List ℕ) (at : ℕ) {shape : Shape} where
     terms-part c x y e f g = rw c (both-made k (termAt s at) (termAt s (at + 6)) x y e f g)
 
     pub one-part : shape ≡ S.NamesOne → {a : ℕ} → a ≡ numberAt 2 s at → p ≡ partOf k (One a) → IsPart k (operandAt shape s at) p
-    unfolding operandAt
-    one-part c e g = rw c (made k (allZero (take 10 (drop (at + 2) s))) (One (numberAt 2 s at)) (g ∙ ap (λ (a : ℕ). partOf k (One a)) e))
+    unfolding operandAt IsPart
+    one-part c e g = rw c (made k (allZero (take 10 (drop (at + 2) s))) (O.Operand (One (numberAt 2 s at))) p (g ∙ ap (λ (a : ℕ). partOf k (One a)) e))
 
     pub two-part : shape ≡ S.NamesTwo → {a b : ℕ} → a ≡ numberAt 2 s at → b ≡ numberAt 2 s (at + 2) → p ≡ partOf k (Two a b) → IsPart k (operandAt shape s at) p
-    unfolding operandAt
+    unfolding operandAt IsPart
     two-part c e f g =
-        rw c (made k (allZero (take 8 (drop (at + 4) s))) (Two (numberAt 2 s at) (numberAt 2 s (at + 2))) (g ∙ ap (partOf k) (ap₂ Two e f)))
+        rw c (made k (allZero (take 8 (drop (at + 4) s))) (O.Operand (Two (numberAt 2 s at) (numberAt 2 s (at + 2)))) p (g ∙ ap (partOf k) (ap₂ Two e f)))
+
+  pub window-part : (k : ℕ) → shape ≡ S.Window → {c from to : ℕ} {d : ℤ} → c ≡ numberAt 4 s (at + 2) → d ≡ shiftOf (getD s (at + 1) 0)
+      → from ≡ numberAt 2 s (at + 6) → to ≡ numberAt 2 s (at + 8) → IsPart k (operandAt shape s at) (part.Window c d from to)
+  unfolding operandAt windowOver IsPart partOf
+  window-part k h e f g i =
+      rw (h, e, f, g, i)
+      (made k (allZero (take 2 (drop (at + 10) s))) (windowOver (termAt s at) (numberAt 2 s (at + 6)) (numberAt 2 s (at + 8))) _
+      (by-form s at
+      (λ (t : TermRead).
+      IsPart k (windowOver t (numberAt 2 s (at + 6)) (numberAt 2 s (at + 8)))
+      (part.Window (numberAt 4 s (at + 2)) (shiftOf (getD s (at + 1) 0)) (numberAt 2 s (at + 6)) (numberAt 2 s (at + 8))))
+      (λ p q. tt) (λ p. refl) (λ p. tt)))
 
   pub none-part : (k : ℕ) (p : Part) → shape ≡ S.Unknown → IsPart k (operandAt shape s at) p
   unfolding operandAt IsPart

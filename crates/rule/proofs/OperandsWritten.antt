@@ -1,22 +1,29 @@
--- An operand's twelve bytes, written as two neighbouring fields or as names over zeros. Assumes nothing.
+-- An operand's twelve bytes, written as neighbouring fields or as names over zeros. Assumes nothing.
 use Prim.Native.Nat.{ℕ, _+_, _-_, _≤_}
 use native.Mathlib.Omega.{arith}
-use mathlib.Core.Path.{_≡_, refl, sym, ap, ap₂, _∙_}
+use mathlib.Core.Path.{_≡_, refl, sym, ap, ap₂, _∙_, subst⁻¹}
 use mathlib.Core.List.{List, _++_, append-assoc}
+use mathlib.Core.Bool.{true}
+use lib.IntN.{ℤ}
 use lib.ListN.{length, take, drop, replicate, length-append, length-drop}
 use lib.Seq.{take-at, drop-at, drop-drop}
 use borrow.Rule.Slice.PartMut.{putMid}
 use Rattle.fields.specs.LittleEndian.{bytesOf}
 use Rattle.cltlb.specs.declared.Term.{Term}
+use Rattle.cltlb.specs.declared.Term.the-variants.{Reading}
+use Rattle.cltlb.specs.declared.Atom.{Atom}
+use Rattle.cltlb.specs.declared.Atom.the-variants as atom
 use Rattle.cltlb.specs.declared.Operator.{Operator}
 use Rattle.cltlb.specs.declared.Operator.the-variants as operator
 use Rattle.cltlb.specs.declared.View.{View}
 use Rattle.cltlb.specs.declared.View.the-variants as view
+use Rattle.cltlb.specs.Fits.{termFits, windowFits, atomFits}
+use Rattle.cltlb.proofs.Fits.{window-fits}
 use Rattle.rule.specs.Kinds.{operandIn}
 use Rattle.rule.specs.declared.operands.Operand.{Operand}
-use Rattle.rule.specs.declared.operands.Operand.the-variants.{Terms, One, Two}
+use Rattle.rule.specs.declared.operands.Operand.the-variants.{Terms, One, Two, Window}
 use Rattle.rule.specs.Terms.{termBytes}
-use Rattle.rule.specs.Operands.{operandBytes}
+use Rattle.rule.specs.Operands.{endBytes, operandBytes}
 use Rattle.rule.specs.Put.{overwritten}
 use Rattle.rule.specs.inner.Words.{WordTerm, WordOperand}
 use Rattle.rule.proofs.Overwriting.{lent-front}
@@ -27,6 +34,8 @@ unfolding operandBytes bytesOf
 operand-length (Terms a b) = length-append (termBytes a) (termBytes b) ∙ (let e = term-length a in let f = term-length b in omega arith)
 operand-length (One a) = refl
 operand-length (Two a b) = refl
+operand-length (Window channel shift from to) =
+    length-append (termBytes (Reading channel shift)) (endBytes from to) ∙ omega (arith, term-length (Reading channel shift))
 
 -- a field w right behind the field v at the front, in the part lent from there on
 field-behind : (t l zs v w : List ℕ) (m k : ℕ) → l ≡ v ++ drop m t → length v ≡ m → length w ≡ k → m + k ≤ length t
@@ -47,6 +56,13 @@ module _ (t : List ℕ) (long : 12 ≤ length t) where
   unfolding operandBytes
   two-terms l zs x y e z = field-behind t l zs (termBytes x) (termBytes y) 6 6 e (term-length x) (term-length y) long z
 
+  -- the ends of a window behind its reading
+  pub window-ends : (l zs : List ℕ) (x : Term) (from to : ℕ) → l ≡ termBytes x ++ drop 6 t
+      → zs ≡ endBytes from to ++ drop 6 (take (length l - 6) (drop 6 l))
+      → putMid 6 (length l - 6) l zs ≡ (termBytes x ++ endBytes from to) ++ drop 12 t
+  unfolding bytesOf
+  window-ends l zs x from to e z = field-behind t l zs (termBytes x) (endBytes from to) 6 6 e (term-length x) refl long z
+
   pub one-name : (l : List ℕ) (a : ℕ) → l ≡ replicate 12 0 ++ drop 12 t → bytesOf 2 a ++ drop 2 l ≡ operandBytes (One a) ++ drop 12 t
   unfolding operandBytes bytesOf
   one-name l a e = ap (λ (l : List ℕ). bytesOf 2 a ++ drop 2 l) e
@@ -57,6 +73,18 @@ module _ (t : List ℕ) (long : 12 ≤ length t) where
   unfolding operandBytes bytesOf
   two-names l zs a b e z =
       field-behind (replicate 12 0 ++ drop 12 t) l zs (bytesOf 2 a) (bytesOf 2 b) 2 2 e refl refl (omega (arith, length-append (replicate 12 0) (drop 12 t))) z
+
+-- the second end of a window behind the first, and the zeros behind both
+module _ (t : List ℕ) (from to : ℕ) (long : 6 ≤ length t) where
+  pub to-behind : (l zs : List ℕ) → l ≡ bytesOf 2 from ++ drop 2 t → zs ≡ bytesOf 2 to ++ drop 2 (take (length l - 2) (drop 2 l))
+      → putMid 2 (length l - 2) l zs ≡ (bytesOf 2 from ++ bytesOf 2 to) ++ drop 4 t
+  unfolding bytesOf
+  to-behind l zs e z = field-behind t l zs (bytesOf 2 from) (bytesOf 2 to) 2 2 e refl refl (omega arith) z
+
+  pub zeros-behind : (l zs : List ℕ) → l ≡ (bytesOf 2 from ++ bytesOf 2 to) ++ drop 4 t → zs ≡ bytesOf 2 0 ++ drop 2 (take (length l - 4) (drop 4 l))
+      → putMid 4 (length l - 4) l zs ≡ endBytes from to ++ drop 6 t
+  unfolding bytesOf
+  zeros-behind l zs e z = field-behind t l zs (bytesOf 2 from ++ bytesOf 2 to) (bytesOf 2 0) 4 2 e refl refl long z
 
 -- an operand of code: its constants are numbers of four bytes
 pub terms-word : (left right : Term) → WordTerm left → WordTerm right → WordOperand (Terms left right)
@@ -74,3 +102,15 @@ OperandPut before after x = (after ≡ operandBytes (operandIn x) ++ drop 12 bef
 
 pub names-put : (t l : List ℕ) {x y : Operator} → x ≡ y → l ≡ operandBytes (operandIn (view.Operator y)) ++ drop 12 t → OperandPut t l (view.Operator x)
 names-put t l {x} e f = (f ∙ sym (ap (λ (o : Operator). operandBytes (operandIn (view.Operator o)) ++ drop 12 t) e), names-word x)
+
+-- A window, by its reading with a shift that is the same number: it fits where they do, and it is put where they are.
+module _ {x : Atom} {c from to : ℕ} {d u : ℤ} (e : x ≡ atom.Window c d from to) (f : u ≡ d) where
+  pub window-asks : (v : ℕ) → atomFits v x ≡ true → (termFits v (Reading c u) ≡ true) × (windowFits from to ≡ true)
+  window-asks v h =
+      let p = window-fits v c d from to (ap (atomFits v) (sym e) ∙ h) in (ap (λ (z : ℤ). termFits v (Reading c z)) f ∙ p .0, p .1)
+
+  pub window-put : (t l : List ℕ) → l ≡ (termBytes (Reading c u) ++ endBytes from to) ++ drop 12 t → OperandPut t l (view.Atom x)
+  unfolding operandBytes WordOperand
+  window-put t l g =
+      subst⁻¹ (λ (y : Atom). OperandPut t l (view.Atom y)) e
+      (g ∙ ap (λ (z : ℤ). (termBytes (Reading c z) ++ endBytes from to) ++ drop 12 t) f, tt)

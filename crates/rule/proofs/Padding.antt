@@ -56,6 +56,10 @@ module _ (s : List ℕ) where
         ∙ ap₂ _&&_ (ap (λ (n : ℕ). eqb n 0) (sym e))
         (ap (λ (i : ℕ). allZero (take 4 (drop i s))) eight ∙ field-zero 4 s (at + 8) (omega arith) ∙ ap (λ (n : ℕ). eqb n 0) (sym f)))
 
+    -- the two behind a window
+    pub last-zero : {x : ℕ} → x ≡ numberAt 2 s (at + 10) → eqb x 0 ≡ allZero (take 2 (drop (at + 10) s))
+    last-zero e = ap (λ (n : ℕ). eqb n 0) e ∙ sym (field-zero 2 s (at + 10) (omega arith))
+
     -- the ten behind one
     pub more-zero : {x : ℕ} {r : Bool} → x ≡ numberAt 2 s (at + 2) → r ≡ allZero (take 8 (drop (at + 4) s)) → eqb x 0 && r ≡ allZero (take 10 (drop (at + 2) s))
     more-zero e f =

@@ -1,11 +1,13 @@
 -- Take by the tests that it makes, one law for each way out. Assumes nothing.
 use Prim.Native.Nat.{ℕ, _+_, _*_, _≤_, _<_}
 use native.Mathlib.Omega.{arith}
-use mathlib.Core.Path.{_≡_, refl, sym, ap, _∙_}
+use native.Mathlib.Decide.{decLt}
+use mathlib.Core.Path.{_≡_, refl, sym, ap, _∙_, subst}
+use mathlib.Core.Logic.{by-cases}
 use mathlib.Core.List.{List}
-use mathlib.Core.Bool.{Bool, true, false, not, cond}
+use mathlib.Core.Bool.{Bool, true, false, not, cond, _&&_, and-eq-true-iff}
 use lib.ListN.{getD}
-use borrow.Author.Tests.{le-leb, lt-leb}
+use borrow.Author.Tests.{le-leb, lt-leb, not-true}
 use Rattle.refusal.specs.declared.Refusal.the-variants.{RuleSizes, Kind, Absent}
 use Rattle.refusal.specs.declared.Refusal.the-variants as N
 use Rattle.cltlb.specs.declared.Part.{Part}
@@ -20,6 +22,7 @@ use Rattle.rule.specs.declared.operands.OperandRead.{OperandRead}
 use Rattle.rule.specs.declared.operands.OperandRead.the-variants as O
 use Rattle.rule.specs.declared.operands.Shape.{Shape}
 use Rattle.rule.specs.Layout.{kindByte, kindPlace, operandPlace}
+use Rattle.rule.specs.inner.Known.{AllKnown}
 use Rattle.rule.specs.inner.Sizes.{sizesOf}
 use Rattle.cltlb.specs.Views.{viewOf}
 use Rattle.cltlb.specs.Fits.{atomFits, namesLower, viewFits}
@@ -35,6 +38,12 @@ use Rattle.rule.proofs.KindTables.{operand-back}
 pub kind-tested : (s : List ℕ) (n : ℕ) {k : Shape} {r b : Bool} → r ≡ isUnknown k → k ≡ shapeOf (getD s (4 + n) 0) → r ≡ b → kindUnknown s n ≡ b
 unfolding kindUnknown kindByte kindPlace
 kind-tested s n e f h = sym (ap isUnknown f) ∙ sym e ∙ h
+
+-- One more kind byte in a sweep over all.
+pub known-next : (s : List ℕ) (n : ℕ) {all b : Bool} → (all ≡ true → AllKnown s n) → kindUnknown s n ≡ b → all && not b ≡ true → AllKnown s (n + 1)
+known-next s n {all} {b} known e h i l =
+    let p = and-eq-true-iff all (not b) .0 h in
+    by-cases (decLt i n) (known (p .0) i) (λ m. subst (λ (k : ℕ). kindUnknown s k ≡ false) (omega arith) (e ∙ not-true b (p .1)))
 
 module _ (s : List ℕ) (n : ℕ) where
   pub take-sizes : sizesOf s ≡ Wrong → K.Refused RuleSizes ≡ takeOf s n
@@ -61,6 +70,7 @@ view-operand : (v n : ℕ) (x : View) → viewFits v n x ≡ operandFits v n (op
 unfolding viewFits atomFits namesLower operandFits
 view-operand v n (view.Atom (atom.Less x y)) = refl
 view-operand v n (view.Atom (atom.Equal x y)) = refl
+view-operand v n (view.Atom (atom.Window channel shift from to)) = refl
 view-operand v n (view.Operator (operator.One o a)) = refl
 view-operand v n (view.Operator (operator.Two o a b)) = refl
 

@@ -6,11 +6,11 @@ use native.Mathlib.Omega.{arith}
 use mathlib.Core.Path.{_≡_, refl, sym, ap, ap₂, _∙_, subst}
 use mathlib.Core.List.{List, [], _∷_, _++_, append-assoc}
 use mathlib.Core.Bool.{Bool, true, false, cond}
-use lib.Dec.{ltb, eqb}
+use lib.Dec.{ltb}
 use lib.ListN.{length, getD, take, drop, length-append}
 use lib.Seq.{drop-cons, getD-at}
 use lib.IntN.{pos, negsuc}
-use borrow.Author.Tests.{ltb-true, ltb-false, eqb-true}
+use borrow.Author.Tests.{ltb-true, ltb-false}
 use Rattle.fields.specs.LittleEndian.{numberAt, bytesOf}
 use Rattle.fields.specs.inner.Ranges.{Bytes, SignedFits}
 use Rattle.fields.specs.TwosComplement.{signedOf, signedAt, patternOf}
@@ -25,7 +25,7 @@ use Rattle.cltlb.proofs.Fits.{reading-fits}
 use Rattle.rule.specs.Terms.{shiftOf, codeOf, termBytes, termAt}
 use Rattle.rule.specs.inner.Words.{WordTerm}
 use Rattle.rule.proofs.Shifts.{coded}
-use Rattle.rule.proofs.TermsRead.{constant, reading}
+use Rattle.rule.proofs.TermsRead.{constant, reading, by-form}
 
 -- every code is the code of its shift
 pub code-back : (c : ℕ) → codeOf (shiftOf c) ≡ c
@@ -105,21 +105,4 @@ module _ (s : List ℕ) (at : ℕ) (bytes : Bytes s) (long : at + 6 ≤ length s
 
   -- A term that was read lies in the bytes.
   pub term-laid : (x : Term) → termAt s at ≡ R.Term x → (take 6 (drop at s) ≡ termBytes x) × WordTerm x
-  unfolding termAt
-  term-laid = by-form (eqb (getD s at 0) 0) refl
-    where
-      by-code : getD s at 0 ≡ 0 → (b : Bool) → eqb (getD s (at + 1) 0) 4 ≡ b
-          → Says (cond b (R.Term (T.Constant (signedAt 4 s (at + 2)))) R.Broken)
-      by-code f true e = of-constant f (eqb-true _ _ e)
-      by-code f false e = of-broken
-
-      by-reading : (b : Bool) → eqb (getD s at 0) 1 ≡ b
-          → Says (cond b (R.Term (T.Reading (numberAt 4 s (at + 2)) (shiftOf (getD s (at + 1) 0)))) R.Broken)
-      by-reading true e = of-reading (eqb-true _ _ e)
-      by-reading false e = of-broken
-
-      by-form : (b : Bool) → eqb (getD s at 0) 0 ≡ b
-          → Says (cond b (cond (eqb (getD s (at + 1) 0) 4) (R.Term (T.Constant (signedAt 4 s (at + 2)))) R.Broken)
-          (cond (eqb (getD s at 0) 1) (R.Term (T.Reading (numberAt 4 s (at + 2)) (shiftOf (getD s (at + 1) 0)))) R.Broken))
-      by-form true e = by-code (eqb-true _ _ e) (eqb (getD s (at + 1) 0) 4) refl
-      by-form false e = by-reading (eqb (getD s at 0) 1) refl
+  term-laid = by-form s at Says of-constant of-reading (λ _. of-broken)

@@ -1,6 +1,6 @@
 -- A term by the tests that are made of its bytes, and by the bytes that it is made of. Assumes nothing.
 use Prim.Native.Nat.{ℕ, _+_}
-use mathlib.Core.Path.{_≡_, refl, ap}
+use mathlib.Core.Path.{_≡_, refl, ap, _∙_}
 use mathlib.Core.List.{List}
 use mathlib.Core.Bool.{Bool, true, false, cond, _&&_}
 use lib.Dec.{eqb, ltb, leb}
@@ -11,11 +11,13 @@ use Rattle.fields.specs.LittleEndian.{numberAt}
 use Rattle.fields.specs.TwosComplement.{signedAt}
 use Rattle.cltlb.specs.declared.Term.{Term}
 use Rattle.cltlb.specs.declared.Term.the-variants as T
-use Rattle.cltlb.specs.Fits.{termFits}
+use Rattle.cltlb.specs.Fits.{shiftFits, termFits}
+use Rattle.rule.specs.declared.terms.TermRead.{TermRead}
 use Rattle.rule.specs.declared.terms.TermRead.the-variants as R
 use Rattle.rule.specs.Terms.{shiftOf, termAt}
-use Rattle.rule.specs.inner.Sound.{termSound, IsTerm}
+use Rattle.rule.specs.inner.Sound.{termSound, readingSound, IsTerm}
 use Rattle.rule.proofs.Shifts.{code-tested}
+use Rattle.rule.proofs.TermsRead.{by-form}
 
 -- a term that is there by a test is sound where the test holds and the term fits
 by-test : (v : ℕ) (b : Bool) (x : Term) → b && termFits v x ≡ termSound v (cond b (R.Term x) R.Broken)
@@ -38,12 +40,19 @@ module _ (s : List ℕ) (at : ℕ) where
       go true = by-test v true (T.Constant (signedAt 4 s (at + 2)))
       go false = by-test v false (T.Constant (signedAt 4 s (at + 2)))
 
-  pub reading-sound : (v : ℕ) {u : ℕ} → (getD s at 0 ≡ 0 → ⊥) → u ≡ numberAt 4 s (at + 2)
-      → eqb (getD s at 0) 1 && (ltb u v && leb (getD s (at + 1) 0) 8) ≡ termSound v (termAt s at)
-  unfolding termAt termFits
-  reading-sound v {u} p e =
-      rw (e, ← code-tested (getD s (at + 1) 0), ne-eqb _ _ p)
-      (by-test v (eqb (getD s at 0) 1) (T.Reading (numberAt 4 s (at + 2)) (shiftOf (getD s (at + 1) 0))))
+  pub reading-sound : (v : ℕ) {u : ℕ} → u ≡ numberAt 4 s (at + 2)
+      → eqb (getD s at 0) 1 && (ltb u v && leb (getD s (at + 1) 0) 8) ≡ readingSound v (termAt s at)
+  unfolding readingSound termFits
+  reading-sound v e =
+      rw (e, ← code-tested (getD s (at + 1) 0))
+      (by-form s at
+      (λ (t : TermRead). eqb (getD s at 0) 1 && (ltb (numberAt 4 s (at + 2)) v && shiftFits (shiftOf (getD s (at + 1) 0))) ≡ readingSound v t)
+      (λ f c. rw f refl) (λ f. rw f refl) (λ f. rw f refl))
+
+  -- What is no constant is sound where it is a sound reading.
+  pub other-sound : (v : ℕ) {r : Bool} → (getD s at 0 ≡ 0 → ⊥) → r ≡ readingSound v (termAt s at) → r ≡ termSound v (termAt s at)
+  unfolding readingSound termSound
+  other-sound v p e = e ∙ by-form s at (λ (t : TermRead). readingSound v t ≡ termSound v t) (λ f c. absurd (p f)) (λ f. refl) (λ f. refl)
 
   pub constant-on : {z : ℤ} → getD s at 0 ≡ 0 → z ≡ signedAt 4 s (at + 2) → IsTerm (termAt s at) (T.Constant z)
   unfolding termAt

@@ -1,11 +1,11 @@
--- The twelve kinds: each part as its kind byte and its operand, and back. Assumes nothing.
+-- The thirteen kinds: each part as its kind byte and its operand, and back. Assumes nothing.
 use Prim.Native.Nat.{ℕ}
 use lib.Dec.{eqb}
 use mathlib.Core.List.{List}
 use mathlib.Core.Bool.{Bool, true, false, cond}
 use Rattle.rule.specs.Layout.{kindByte}
 use Rattle.cltlb.specs.declared.Part.{Part}
-use Rattle.cltlb.specs.declared.Part.the-variants.{Less, Equal, Not, And, Or, Next, Until, Release, Yesterday, WeakYesterday, Since, Trigger}
+use Rattle.cltlb.specs.declared.Part.the-variants.{Less, Equal, Not, And, Or, Next, Until, Release, Yesterday, WeakYesterday, Since, Trigger, Window}
 use Rattle.cltlb.specs.declared.Atom.the-variants as atom
 use Rattle.cltlb.specs.declared.Operator.the-variants as operator
 use Rattle.cltlb.specs.declared.View.{View}
@@ -13,10 +13,13 @@ use Rattle.cltlb.specs.declared.View.the-variants as view
 use Rattle.cltlb.specs.Views.{viewOf}
 use Rattle.rule.specs.declared.operands.Operand.{Operand}
 use Rattle.rule.specs.declared.operands.Operand.the-variants.{Terms, One, Two}
+use Rattle.rule.specs.declared.operands.Operand.the-variants as operand
 use Rattle.rule.specs.declared.operands.Shape.{Shape}
 use Rattle.rule.specs.declared.operands.Shape.the-variants.{Comparison, NamesOne, NamesTwo, Unknown}
+use Rattle.rule.specs.declared.operands.Shape.the-variants as shape
 
--- 1 less, 2 equal, 3 not, 4 and, 5 or, 6 next, 7 until, 8 release, 9 yesterday, 10 weak yesterday, 11 since, 12 trigger
+-- 1 less, 2 equal, 3 not, 4 and, 5 or, 6 next, 7 until, 8 release, 9 yesterday, 10 weak yesterday, 11 since, 12 trigger,
+-- 13 a window of the week
 abbrev pub kindOf : Part → ℕ
 kindOf (Less x y) = 1
 kindOf (Equal x y) = 2
@@ -30,18 +33,20 @@ kindOf (Yesterday a) = 9
 kindOf (WeakYesterday a) = 10
 kindOf (Since a b) = 11
 kindOf (Trigger a b) = 12
+kindOf (Window channel shift from to) = 13
 
--- An atom's operand is its two terms, an operator's the parts that it names.
+-- A comparison's operand is its two terms, a window's its reading and its ends, an operator's the parts that it names.
 abbrev pub operandIn : View → Operand
 operandIn (view.Atom (atom.Less x y)) = Terms x y
 operandIn (view.Atom (atom.Equal x y)) = Terms x y
+operandIn (view.Atom (atom.Window channel shift from to)) = operand.Window channel shift from to
 operandIn (view.Operator (operator.One o a)) = One a
 operandIn (view.Operator (operator.Two o a b)) = Two a b
 
 abbrev pub operandOf : Part → Operand
 operandOf part = operandIn (viewOf part)
 
--- Kinds 1 and 2 compare two terms; 3, 6, 9 and 10 name one part; 4, 5, 7, 8, 11 and 12 name two.
+-- Kinds 1 and 2 compare two terms; 3, 6, 9 and 10 name one part; 4, 5, 7, 8, 11 and 12 name two; 13 is a window.
 unfoldable pub shapeOf : ℕ → Shape
 shapeOf k =
     cond (eqb k 1) Comparison
@@ -52,15 +57,18 @@ shapeOf k =
     (cond (eqb k 6) NamesOne
     (cond (eqb k 7) NamesTwo
     (cond (eqb k 8) NamesTwo
-    (cond (eqb k 9) NamesOne (cond (eqb k 10) NamesOne (cond (eqb k 11) NamesTwo (cond (eqb k 12) NamesTwo Unknown)))))))))))
+    (cond (eqb k 9) NamesOne
+    (cond (eqb k 10) NamesOne
+    (cond (eqb k 11) NamesTwo (cond (eqb k 12) NamesTwo (cond (eqb k 13) shape.Window Unknown))))))))))))
 
 abbrev pub isUnknown : Shape → Bool
 isUnknown Comparison = false
 isUnknown NamesOne = false
 isUnknown NamesTwo = false
+isUnknown shape.Window = false
 isUnknown Unknown = true
 
--- a kind byte that is not 1 to 12
+-- a kind byte that is not 1 to 13
 unfoldable pub kindUnknown : List ℕ → ℕ → Bool
 kindUnknown sheet n = isUnknown (shapeOf (kindByte sheet n))
 
@@ -72,3 +80,4 @@ partOf k (Two a b) =
     cond (eqb k 4) (And a b)
     (cond (eqb k 5) (Or a b)
     (cond (eqb k 7) (Until a b) (cond (eqb k 8) (Release a b) (cond (eqb k 11) (Since a b) (Trigger a b)))))
+partOf k (operand.Window channel shift from to) = Window channel shift from to

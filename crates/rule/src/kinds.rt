@@ -26,6 +26,7 @@ pub fn kind_of(part: Part) -> u8
         Part::WeakYesterday(_) => 10,
         Part::Since(_, _) => 11,
         Part::Trigger(_, _) => 12,
+        Part::Window { .. } => 13,
     }
 }
 
@@ -46,6 +47,7 @@ pub fn shape_of(kind: u8) -> Shape
         10 => Shape::NamesOne,
         11 => Shape::NamesTwo,
         12 => Shape::NamesTwo,
+        13 => Shape::Window,
         _ => Shape::Unknown,
     }
 }
@@ -57,6 +59,7 @@ pub fn is_unknown(shape: Shape) -> bool
         Shape::Comparison => false,
         Shape::NamesOne => false,
         Shape::NamesTwo => false,
+        Shape::Window => false,
         Shape::Unknown => true,
     }
 }
@@ -111,6 +114,12 @@ pub fn part_on(s: &[u8], at: usize, kind: u8, shape: Shape) -> Part
         }
         Shape::NamesOne => one_part(kind, fields::u16_at(s, at)),
         Shape::NamesTwo => two_part(kind, fields::u16_at(s, at), fields::u16_at(s, at + 2)),
+        Shape::Window => Part::Window {
+            channel: crate::terms::channel_on(s, at),
+            shift: crate::terms::shift_on(s, at),
+            from: fields::u16_at(s, at + 6),
+            to: fields::u16_at(s, at + 8),
+        },
         // Nothing is an operand of this shape, so any part will do.
         Shape::Unknown => Part::Not(0),
     }

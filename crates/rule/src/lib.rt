@@ -1,6 +1,6 @@
 // The rule sheet: one part of it taken and put, and the whole of it checked.
 ghost use mathlib.Core.Path.{_≡_};
-ghost use Rattle.rule.specs.inner.Known.{KindsKnown};
+ghost use Rattle.rule.specs.inner.Known.{AllKnown, KindsKnown};
 ghost use Rattle.rule.specs.inner.Read.{sheetRead};
 ghost use Rattle.rule.specs.inner.Sizes.{sizesOf};
 ghost use Rattle.rule.specs.inner.Untaken.{refusalTaken};
@@ -15,6 +15,7 @@ ghost use Rattle.cltlb.specs.Views.{viewOf};
 ghost use Rattle.cltlb.specs.Fits.{viewFits};
 ghost use Rattle.refusal.specs.First.{atLowest};
 ghost use Prim.Native.Nat.{_+_, _≤_, _<_};
+ghost use mathlib.Core.Bool.{true};
 ghost use lib.ListN.{length};
 use cltlb::Part;
 use operands::OPERAND_BYTES;
@@ -108,11 +109,28 @@ pub fn put(sheet: &mut [u8], n: usize, part: Part) -> Outcome
     }
 }
 
-// The lowest part whose kind byte is none of the twelve.
+// Whether the kind bytes of all parts are known, without leaving early, so that the compiler can take many at a time.
+fn kinds_known(sheet: &[u8], parts: usize) -> bool
+    requires { ⌜ 4 + parts ≤ length (now sheet) ⌝ }
+    ensures { λ r. ⌜ ((r ≡ true) → AllKnown (now (sheet .entry)) parts) ⌝ }
+{
+    let mut all = true;
+    let mut n = 0;
+    while n < parts {
+        all = all & !kinds::is_unknown(kinds::shape_of(sheet[KINDS_AT + n]));
+        n += 1;
+    }
+    all
+}
+
+// The lowest part whose kind byte is none of the thirteen.
 fn check_kinds(sheet: &[u8], parts: usize) -> Outcome
     requires { ⌜ 4 + parts ≤ length (now sheet) ⌝ }
     ensures { λ r. ⌜ r ≡ atLowest (kindUnknown (now (sheet .entry))) parts Refusal.Kind ⌝ }
 {
+    if kinds_known(sheet, parts) {
+        return Outcome::Clear;
+    }
     let mut n = 0;
     while n < parts {
         if kinds::is_unknown(kinds::shape_of(sheet[KINDS_AT + n])) {

@@ -2,13 +2,14 @@
 ghost use mathlib.Core.Path.{_≡_};
 ghost use mathlib.Core.Bool.{true, _&&_};
 ghost use mathlib.Core.List.{_++_};
-ghost use Prim.Native.Nat.{_+_, _≤_, _<_};
+ghost use Prim.Native.Nat.{ℕ, _+_, _≤_, _<_};
 ghost use lib.Dec.{ltb};
 ghost use lib.ListN.{length, take, drop, replicate};
 ghost use Rattle.fields.specs.LittleEndian.{numberAt};
-ghost use Rattle.rule.specs.Operands.{operandAt, operandBytes, allZero};
+ghost use Rattle.rule.specs.Terms.{termBytes};
+ghost use Rattle.rule.specs.Operands.{operandAt, endBytes, operandBytes, allZero};
 ghost use Rattle.rule.specs.Kinds.{operandIn};
-ghost use Rattle.cltlb.specs.Fits.{termFits, atomFits, namesLower, viewFits};
+ghost use Rattle.cltlb.specs.Fits.{termFits, windowFits, atomFits, namesLower, viewFits};
 ghost use Rattle.rule.specs.inner.Sound.{operandSound};
 ghost use Rattle.rule.specs.inner.Words.{WordOperand};
 use cltlb::Atom;
@@ -18,11 +19,17 @@ use cltlb::View;
 
 pub const OPERAND_BYTES: usize = 12;
 
-// What a part works on: two terms, or one or two parts that it names.
+// What a part works on: two terms, one or two parts that it names, or a reading and the two ends of a window.
 pub enum Operand {
     Terms(Term, Term),
     One(usize),
     Two(usize, usize),
+    Window {
+        channel: usize,
+        shift: i32,
+        from: usize,
+        to: usize,
+    },
 }
 
 // What twelve bytes stand for. The definitions say it so; code asks the bytes, and makes none of these.
@@ -36,6 +43,7 @@ pub enum Shape {
     Comparison,
     NamesOne,
     NamesTwo,
+    Window,
     Unknown,
 }
 
@@ -47,32 +55,47 @@ fn rest_zero(s: &[u8], at: usize) -> bool
     (fields::u32_at(s, at + 4) == 0) & (fields::u32_at(s, at + 8) == 0)
 }
 
-// Whether the twelve bytes from `at` on name one part, lower than `n`.
-fn name_sound(s: &[u8], at: usize, n: usize) -> bool
-    requires { ⌜ at + 12 ≤ length (now s) ⌝ }
+// Whether the twelve bytes from `at` on name one part, lower than `n`; `rest` says whether the last eight are zero.
+fn name_sound(s: &[u8], at: usize, n: usize, rest: bool) -> bool
+    requires { ⌜ (at + 12 ≤ length (now s)) × (rest ≡ allZero (take 8 (drop (at + 4) (now s)))) ⌝ }
     ensures { λ r. ⌜ r ≡ (ltb (numberAt 2 (now (s .entry)) at) n && allZero (take 10 (drop (at + 2) (now (s .entry))))) ⌝ }
 {
-    (fields::u16_at(s, at) < n) & ((fields::u16_at(s, at + 2) == 0) & rest_zero(s, at))
+    (fields::u16_at(s, at) < n) & ((fields::u16_at(s, at + 2) == 0) & rest)
 }
 
-// Whether the twelve bytes from `at` on name two parts, both lower than `n`.
-fn names_sound(s: &[u8], at: usize, n: usize) -> bool
-    requires { ⌜ at + 12 ≤ length (now s) ⌝ }
+// Whether the twelve bytes from `at` on name two parts, both lower than `n`; `rest` likewise.
+fn names_sound(s: &[u8], at: usize, n: usize, rest: bool) -> bool
+    requires { ⌜ (at + 12 ≤ length (now s)) × (rest ≡ allZero (take 8 (drop (at + 4) (now s)))) ⌝ }
     ensures { λ r. ⌜ r ≡ ((ltb (numberAt 2 (now (s .entry)) at) n && ltb (numberAt 2 (now (s .entry)) (at + 2)) n) && allZero (take 8 (drop (at + 4) (now (s .entry))))) ⌝ }
 {
-    ((fields::u16_at(s, at) < n) & (fields::u16_at(s, at + 2) < n)) & rest_zero(s, at)
+    ((fields::u16_at(s, at) < n) & (fields::u16_at(s, at + 2) < n)) & rest
 }
 
-// Whether the twelve bytes from `at` on are an operand of a stated shape that fits `v` channels at number `n`.
+// Whether the twelve bytes from `at` on are a reading that fits `v` channels, the ends of a window, and two zero bytes. It
+// names no part, so that its own number `n` is no matter.
+fn window_sound(s: &[u8], at: usize, v: usize) -> bool
+    requires { ⌜ at + 12 ≤ length (now s) ⌝ }
+    ensures { λ r. ⌜ ((n : ℕ) → r ≡ operandSound v n (operandAt Shape.Window (now (s .entry)) at)) ⌝ }
+{
+    let from = fields::u16_at(s, at + 6);
+    let to = fields::u16_at(s, at + 8);
+    (crate::terms::reading_sound(s, at, v) & cltlb::window_fits(from, to))
+        & (fields::u16_at(s, at + 10) == 0)
+}
+
+// Whether the twelve bytes from `at` on are an operand of a stated shape that fits `v` channels at number `n`. The test that both
+// shapes with names make is made ahead of them: so the function is small enough for the compiler to put it into its callers.
 pub fn operand_sound(s: &[u8], at: usize, shape: Shape, v: usize, n: usize) -> bool
     requires { ⌜ at + 12 ≤ length (now s) ⌝ }
     ensures { λ r. ⌜ r ≡ operandSound v n (operandAt shape (now (s .entry)) at) ⌝ }
 {
+    let rest = rest_zero(s, at);
     match shape {
         Shape::Comparison => crate::terms::term_sound(s, at, v)
             & crate::terms::term_sound(s, at + 6, v),
-        Shape::NamesOne => name_sound(s, at, n),
-        Shape::NamesTwo => names_sound(s, at, n),
+        Shape::NamesOne => name_sound(s, at, n, rest),
+        Shape::NamesTwo => names_sound(s, at, n, rest),
+        Shape::Window => window_sound(s, at, v),
         Shape::Unknown => false,
     }
 }
@@ -113,6 +136,24 @@ fn put_two(t: &mut [u8], a: usize, b: usize)
     fields::put_u16(&mut t[2..], b);
 }
 
+// Writes the ends of a window and two zero bytes over the six bytes at the front of a lent part.
+fn put_ends(t: &mut [u8], from: usize, to: usize)
+    requires { ⌜ (6 ≤ length (now t)) × (windowFits from to ≡ true) ⌝ }
+    ensures { λ _. ⌜ now (t .exit) ≡ endBytes from to ++ drop 6 (now (t .entry)) ⌝ }
+{
+    fields::put_u16(t, from);
+    fields::put_u16(&mut t[2..], to);
+    fields::put_u16(&mut t[4..], 0);
+}
+
+fn put_window(t: &mut [u8], reading: Term, from: usize, to: usize)
+    requires { ⌜ (12 ≤ length (now t)) × (termFits 8 reading ≡ true) × (windowFits from to ≡ true) ⌝ }
+    ensures { λ _. ⌜ now (t .exit) ≡ (termBytes reading ++ endBytes from to) ++ drop 12 (now (t .entry)) ⌝ }
+{
+    crate::terms::put_term(t, reading);
+    put_ends(&mut t[6..], from, to);
+}
+
 fn put_atom(t: &mut [u8], x: Atom)
     requires { ⌜ (12 ≤ length (now t)) × (atomFits 8 x ≡ true) ⌝ }
     ensures { λ _. ⌜ (now (t .exit) ≡ operandBytes (operandIn (View.Atom x)) ++ drop 12 (now (t .entry))) × WordOperand (operandIn (View.Atom x)) ⌝ }
@@ -120,6 +161,12 @@ fn put_atom(t: &mut [u8], x: Atom)
     match x {
         Atom::Less(left, right) => put_terms(t, left, right),
         Atom::Equal(left, right) => put_terms(t, left, right),
+        Atom::Window {
+            channel,
+            shift,
+            from,
+            to,
+        } => put_window(t, Term::Reading { channel, shift }, from, to),
     }
 }
 

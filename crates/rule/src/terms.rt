@@ -3,9 +3,9 @@ ghost use mathlib.Core.Path.{_≡_};
 ghost use mathlib.Core.Bool.{true};
 ghost use mathlib.Core.List.{_∷_, _++_};
 ghost use Prim.Native.Nat.{_+_, _≤_};
-ghost use lib.ListN.{length, drop};
-ghost use Rattle.fields.specs.LittleEndian.{bytesOf};
-ghost use Rattle.rule.specs.inner.Sound.{termSound, IsTerm};
+ghost use lib.ListN.{length, getD, drop};
+ghost use Rattle.fields.specs.LittleEndian.{numberAt, bytesOf};
+ghost use Rattle.rule.specs.inner.Sound.{termSound, readingSound, IsTerm};
 ghost use Rattle.rule.specs.inner.Words.{WordTerm};
 ghost use Rattle.rule.specs.Terms.{shiftOf, codeOf, termAt, termBytes};
 ghost use Rattle.cltlb.specs.Fits.{shiftFits, termFits};
@@ -23,18 +23,41 @@ fn shift_of(code: u8) -> i32
     (code as i32) - 4
 }
 
+// The channel and the shift that six bytes from `at` on have where they are a reading.
+pub fn channel_on(s: &[u8], at: usize) -> usize
+    requires { ⌜ at + 6 ≤ length (now s) ⌝ }
+    ensures { λ r. ⌜ r ≡ numberAt 4 (now (s .entry)) (at + 2) ⌝ }
+{
+    fields::u32_at(s, at + 2) as usize
+}
+
+pub fn shift_on(s: &[u8], at: usize) -> i32
+    requires { ⌜ at + 6 ≤ length (now s) ⌝ }
+    ensures { λ r. ⌜ r ≡ shiftOf (getD (now (s .entry)) (at + 1) 0) ⌝ }
+{
+    shift_of(s[at + 1])
+}
+
+// Whether the six bytes from `at` on are a reading that fits `v` channels.
+pub fn reading_sound(s: &[u8], at: usize, v: usize) -> bool
+    requires { ⌜ at + 6 ≤ length (now s) ⌝ }
+    ensures { λ r. ⌜ r ≡ readingSound v (termAt (now (s .entry)) at) ⌝ }
+{
+    let form = s[at];
+    let code = s[at + 1];
+    let channel = channel_on(s, at);
+    (form == 1) & ((channel < v) & (code <= 8))
+}
+
 // Whether the six bytes from `at` on are a term that fits `v` channels.
 pub fn term_sound(s: &[u8], at: usize, v: usize) -> bool
     requires { ⌜ at + 6 ≤ length (now s) ⌝ }
     ensures { λ r. ⌜ r ≡ termSound v (termAt (now (s .entry)) at) ⌝ }
 {
-    let form = s[at];
-    let code = s[at + 1];
-    if form == 0 {
-        return code == 4;
+    if s[at] == 0 {
+        return s[at + 1] == 4;
     }
-    let channel = fields::u32_at(s, at + 2) as usize;
-    (form == 1) & ((channel < v) & (code <= 8))
+    reading_sound(s, at, v)
 }
 
 // The term that six bytes from `at` on are, once they are known to be one.
@@ -45,10 +68,9 @@ pub fn term_on(s: &[u8], at: usize) -> Term
     if s[at] == 0 {
         return Term::Constant(fields::i32_at(s, at + 2));
     }
-    let channel = fields::u32_at(s, at + 2) as usize;
     Term::Reading {
-        channel: channel,
-        shift: shift_of(s[at + 1]),
+        channel: channel_on(s, at),
+        shift: shift_on(s, at),
     }
 }
 

@@ -7,7 +7,7 @@ mod sheets;
 mod takes;
 
 fn main() {
-    let mut text = [0u8; 4096];
+    let mut text = [0u8; 8192];
     let n = io::read_full(libc::STDIN_FILENO, &mut text);
     takes::lengths();
     takes::counts();
@@ -22,6 +22,7 @@ fn run_rows(text: &[u8]) {
     puts::put_comparisons();
     let numbers = rows::try_rows(text, names);
     puts::put_readings();
+    puts::put_windows();
     rows::try_rows(text, numbers);
     puts::put_far();
 }

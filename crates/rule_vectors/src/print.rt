@@ -63,10 +63,22 @@ fn say_terms(x: Term, y: Term) {
     say_term(y);
 }
 
+fn say_window(reading: Term, from: usize, to: usize) {
+    say_term(reading);
+    say_number(from as u64);
+    say_number(to as u64);
+}
+
 fn say_atom(atom: Atom) {
     match atom {
         Atom::Less(x, y) => say_terms(x, y),
         Atom::Equal(x, y) => say_terms(x, y),
+        Atom::Window {
+            channel,
+            shift,
+            from,
+            to,
+        } => say_window(Term::Reading { channel, shift }, from, to),
     }
 }
 

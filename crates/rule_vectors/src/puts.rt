@@ -87,6 +87,36 @@ pub fn put_readings() {
     try_reading(b"shift -5", 0, -5);
 }
 
+// A window put as part 2.
+fn try_window(name: &[u8], channel: usize, shift: i32, from: usize, to: usize) {
+    try_put(
+        name,
+        2,
+        Part::Window {
+            channel,
+            shift,
+            from,
+            to,
+        },
+    );
+}
+
+fn put_windows_over() {
+    try_window(b"window of channel 1, shift -4", 1, -4, 540, 1020);
+    try_window(b"window of channel 2, which is V", 2, 0, 540, 1020);
+    try_window(b"window of shift 4", 0, 4, 540, 1020);
+    try_window(b"window of shift 5", 0, 5, 540, 1020);
+}
+
+pub fn put_windows() {
+    put_windows_over();
+    try_window(b"window from 10079 to 0", 0, 0, 10079, 0);
+    try_window(b"window from 10080", 0, 0, 10080, 0);
+    try_window(b"window to 10080", 0, 0, 0, 10080);
+    try_window(b"window from 65536", 0, 0, 65536, 540);
+    try_window(b"window from 540 to 540", 0, 0, 540, 540);
+}
+
 // A number beyond what a row holds.
 pub fn put_far() {
     try_put(b"part 2^63", 9223372036854775808, Part::Not(2));

@@ -73,6 +73,11 @@ pub fn four_parts() -> [u8; 56] {
     ]
 }
 
+// One window over two channels: channel 1 at its present position, from minute 10079 to before 10078.
+pub fn one_window() -> [u8; 17] {
+    [1, 0, 2, 0, 13, 1, 4, 1, 0, 0, 0, 95, 39, 94, 39, 0, 0]
+}
+
 pub fn set_byte(sheet: &mut [u8], at: usize, x: u8) {
     if at < sheet.len() {
         sheet[at] = x;

@@ -7,6 +7,7 @@ use crate::sheets::fill;
 use crate::sheets::first_example;
 use crate::sheets::four_parts;
 use crate::sheets::longer_example;
+use crate::sheets::one_window;
 use crate::sheets::set_byte;
 use cltlb::Part;
 use cltlb::Term;
@@ -21,11 +22,21 @@ pub fn try_sheet(name: &[u8], sheet: &[u8], n: usize) {
     say(b"\n");
 }
 
-// The four parts with so many bytes from `at` on changed to x.
+// A sheet with so many bytes from `at` on changed to x.
+fn try_changed(name: &[u8], sheet: &mut [u8], at: usize, count: usize, x: u8, n: usize) {
+    fill(sheet, at % 64, count % 64, x);
+    try_sheet(name, sheet, n);
+}
+
+// The four parts so changed, and the window.
 pub fn try_bytes(name: &[u8], at: usize, count: usize, x: u8, n: usize) {
     let mut sheet = four_parts();
-    fill(&mut sheet, at % 64, count % 64, x);
-    try_sheet(name, &sheet, n);
+    try_changed(name, &mut sheet, at, count, x, n);
+}
+
+pub fn try_window(name: &[u8], at: usize, count: usize, x: u8, n: usize) {
+    let mut sheet = one_window();
+    try_changed(name, &mut sheet, at, count, x, n);
 }
 
 // Every front part of a sheet, the shortest first, and the sheet.

@@ -16,11 +16,11 @@ use Rattle.cltlb.specs.Nesting.{deeperOne, deeperTwo, nestingFrom, nestingTo, n
 use Rattle.cltlb.specs.declared.Term.{Term}
 use Rattle.cltlb.specs.declared.Term.the-variants.{Constant, Reading}
 use Rattle.cltlb.specs.declared.Atom.{Atom}
-use Rattle.cltlb.specs.declared.Atom.the-variants.{Less, Equal}
+use Rattle.cltlb.specs.declared.Atom.the-variants.{Less, Equal, Window}
 use Rattle.cltlb.specs.declared.Operator.the-variants.{One, Two}
 use Rattle.cltlb.specs.declared.View.{View}
 use Rattle.cltlb.specs.declared.View.the-variants as view
-use Rattle.cltlb.proofs.Fits.{reading-fits, less-fits, equal-fits, atom-fits, operator-fits, one-lower, two-lower}
+use Rattle.cltlb.proofs.Fits.{reading-fits, less-fits, equal-fits, window-fits, atom-fits, operator-fits, one-lower, two-lower}
 use Rattle.cltlb.proofs.Repeats.{RepeatsFrom, repeats-later, one-repeats, two-repeats}
 use Rattle.plan.specs.Layout.{channels, startRows, cycleRows, rows, driftOf}
 use Rattle.plan.specs.Run.{runOf}
@@ -77,13 +77,14 @@ module _ (plan : List ℕ) (some-cycle : 1 ≤ cycleRows plan)
       subst₂ (λ (m n : ℕ). valueAt (runOf plan) x m ≡ valueAt (runOf plan) x n) none one
       (level x t 0 fits (omega arith) ∙ sym (level x t 1 fits (omega arith)))
 
-  -- A comparison repeats from where its terms are not read before the cycle.
+  -- An atom repeats from where its terms are not read before the cycle.
   pub atom-repeats : (x : Atom) → atomFits (channels plan) x ≡ true → RepeatsFrom (cycleRows plan) (startRows plan + 4) (AtomHolds (runOf plan) x)
   unfolding AtomHolds
   atom-repeats (Less x y) fits t l =
       let p = less-fits (channels plan) x y fits in rw (value-repeats x t (p .0) l, value-repeats y t (p .1) l) Iff·rfl
   atom-repeats (Equal x y) fits t l =
       let p = equal-fits (channels plan) x y fits in rw (value-repeats x t (p .0) l, value-repeats y t (p .1) l) Iff·rfl
+  atom-repeats (Window c s from to) fits t l = rw (value-repeats (Reading c s) t (window-fits (channels plan) c s from to fits .0) l) Iff·rfl
 
   -- ---- one part
 

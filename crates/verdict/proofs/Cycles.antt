@@ -23,7 +23,8 @@ use Rattle.verdict.specs.Rows.{channelLine, termLine, testAt, judgeCycle
 use Rattle.verdict.specs.inner.Reach.{back, reach}
 use Rattle.verdict.specs.declared.Comparison.{Comparison}
 use Rattle.verdict.proofs.Passes.{PassMeans, means-iff, means-one, first-means}
-use Rattle.verdict.proofs.Decisions.{onPass, Decides, Judges, Relates, tells, judges}
+use Rattle.verdict.proofs.Decisions.{onPass, Decides, Judges}
+use Rattle.verdict.proofs.Relations.{Relates, tells, judges}
 
 -- No shift reaches back more than four positions.
 pub reach-le : (v : ℕ) (x : Term) → termFits v x ≡ true → reach x ≤ 4
@@ -53,7 +54,7 @@ module _ (plan : List ℕ) (hC : 1 ≤ cycleRows plan) where
 no-number : (a : ℤ) → beforeRun ≡ number a → ⊥
 no-number a e = let z : _≡_ {A = ℕ} 0 1 = cc in absurd (omega arith)
 
-same-number : {m n : ℤ} → number m ≡ number n → m ≡ n
+pub same-number : {m n : ℤ} → number m ≡ number n → m ≡ n
 same-number e = cc
 
 -- Two numbers that are seen.

@@ -13,9 +13,6 @@ use lib.Signed.{_<ℤ_, ltZ}
 use borrow.Author.Tests.{lt-ltb, le-ltb, eq-eqb, ne-eqb, eqb-true, ltb-true}
 use Rattle.fields.proofs.Differences.{by-sub, sub-same, sub-pos, sub-add, sub-line, sub-negate, sub-lt, sub-eq}
 use Rattle.verdict.specs.Lines.{Line, eqZ, judgeLess, meets, judgeEqual}
-use Rattle.verdict.specs.Comparisons.{testOf, judgeLines}
-use Rattle.verdict.specs.declared.Relation.{Relation}
-use Rattle.verdict.specs.declared.Relation.the-variants.{Below, Same}
 use Rattle.verdict.specs.declared.Verdict.{Verdict}
 use Rattle.verdict.specs.declared.Verdict.the-variants.{AlwaysTrue, AlwaysFalse, Changes}
 use Rattle.verdict.proofs.Passes.{PassMeans, means-iff}
@@ -212,18 +209,3 @@ pub equal-judges : Judges judgeEqual _≡_
 unfolding Judges
 equal-judges = by-lifted (λ x y. PassMeans (judgeEqual x y) (λ k. onPass x k ≡ onPass y k))
     (λ B D a d b e. means-iff _ _ _ (pass-eq B D a d b e) (equal-right B D a d b e))
-
--- ---- both comparisons
-
--- the relation that a comparison asks of two numbers
-abbrev pub Relates : Relation → ℤ → ℤ → Type 0
-Relates Below = _<ℤ_
-Relates Same = _≡_
-
-pub tells : (relation : Relation) → Decides (testOf relation) (Relates relation)
-tells Below = lt-decides
-tells Same = eq-decides
-
-pub judges : (relation : Relation) → Judges (judgeLines relation) (Relates relation)
-judges Below = less-judges
-judges Same = equal-judges

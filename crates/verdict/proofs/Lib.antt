@@ -1,5 +1,9 @@
 pub mod Passes
 pub mod Decisions
+pub mod Euclid
+pub mod Residues
+pub mod Minutes
+pub mod Relations
 pub mod Lifts
 pub mod Cycles
 pub mod Verdicts

@@ -9,11 +9,13 @@ use lib.Dec.{ltb, eqb}
 use lib.IntN.{ℤ, pos, subℕ}
 use borrow.Author.Tests.{lt-ltb, le-ltb}
 use Rattle.cltlb.specs.Run as cltlb
+use Rattle.cltlb.specs.Week.{week, minuteOf}
 use Rattle.cltlb.specs.Truth.{valueAt}
 use Rattle.cltlb.specs.Fits.{shiftFits, termFits, atomFits}
 use Rattle.cltlb.specs.declared.Term.{Term}
 use Rattle.cltlb.specs.declared.Term.the-variants.{Constant, Reading}
 use Rattle.cltlb.specs.declared.Atom.{Atom}
+use Rattle.cltlb.specs.declared.Atom.the-variants.{Window}
 use Rattle.cltlb.proofs.Fits as fits
 use Rattle.fields.specs.inner.Biased.{bias, unbiased}
 use Rattle.plan.specs.Layout.{cycleRows, driftOf}
@@ -24,18 +26,21 @@ use Rattle.plan.specs.declared.lookup.Seen.{Seen}
 use Rattle.plan.specs.declared.lookup.Seen.the-variants.{Number, BeforeRun}
 use Rattle.plan.specs.declared.sizes.Sizes.{Sizes}
 use Rattle.plan.proofs.Shifts.{shifted}
-use Rattle.verdict.specs.Comparisons.{comparisonOf, testOf, ofNumber, tested, judgeLines}
+use Rattle.fields.proofs.Differences.{pos-sub}
+use Rattle.verdict.specs.Weeks.{minutesAfter}
+use Rattle.verdict.specs.Comparisons.{comparison, comparisonOf, testOf, ofNumber, tested, judgeLines}
 use Rattle.verdict.specs.Lines.{Line}
 use Rattle.verdict.specs.Rows.{termLine, join, joinFirst, testAt, judgeCycle, judgeRow, verdictOf}
 use Rattle.verdict.specs.inner.Landed.{lineOn, landedLine}
-use Rattle.verdict.specs.inner.Reach.{back, reach, TermsFit}
+use Rattle.verdict.specs.inner.Reach.{back, reach, TermsFit, FitsSome}
 use Rattle.plan.specs.declared.landing.Landing.{Landing}
 use Rattle.verdict.specs.inner.Judgement.{Judgement}
 use Rattle.verdict.specs.declared.Comparison.{Comparison}
-use Rattle.verdict.specs.declared.Relation.the-variants.{Below, Same}
+use Rattle.verdict.specs.declared.Relation.the-variants.{Below, Same, Within}
 use Rattle.verdict.specs.declared.Verdict.{Verdict}
 use Rattle.verdict.specs.declared.Verdict.the-variants.{AlwaysTrue, AlwaysFalse}
 use Rattle.verdict.proofs.Decisions.{lifted, bias-ltZ, bias-eqZ}
+use Rattle.verdict.proofs.Minutes.{after-bias}
 use Rattle.verdict.proofs.Cycles.{reach-le, Inside, cycle-same, inside-4}
 use Rattle.verdict.proofs.Verdicts.{judged, atom-terms}
 
@@ -95,6 +100,10 @@ module _ (a b : Seen) where
     pub tested-same : eqb m n ≡ tested (testOf Same) (seenOf a) (seenOf b)
     unfolding seenOf ofNumber tested
     tested-same = rw (e, f) (sym (bias-eqZ m n valueBias))
+
+    pub tested-within : (r minutes : ℕ) → r ≡ minuteOf (subℕ m n) → ltb r minutes ≡ tested (testOf (Within minutes)) (seenOf a) (seenOf b)
+    unfolding seenOf ofNumber tested
+    tested-within r minutes h = rw (e, f) (rw (after-bias m n valueBias, ← h) refl)
 
 pub test-is : (plan : List ℕ) (x : Comparison) (t : ℕ) (a b : Seen) → seenOf a ≡ valueAt (runOf plan) (x .left) t → seenOf b ≡ valueAt (runOf plan) (x .right) t
     → tested (testOf (x .relation)) (seenOf a) (seenOf b) ≡ testAt plan x t
@@ -164,6 +173,18 @@ module _ {plan : List ℕ} {z : Sizes} (f : Fitting plan z) (x : Comparison) whe
     on-start-row h b c e g = simp (f .p-is, lt-ltb row (z .start) h, ← e, g)
 
 -- ---- atoms
+
+-- a window, which is a comparison with the minute at which it begins
+module _ {x : Atom} {c from to : ℕ} {s : ℤ} (e : x ≡ Window c s from to) where
+  pub window-begins : FitsSome x → from < week
+  window-begins f = fits.ends-fit from to (fits.window-fits (f .0) c s from to (ap (atomFits (f .0)) (sym e) ∙ f .1) .1) .from-fits
+
+  pub window-comparison : {u z : ℤ} {m : ℕ} → u ≡ s → m ≡ minuteOf (subℕ to from) → z ≡ pos from
+      → comparison (Within m) (Reading c u) (Constant z) ≡ comparisonOf x
+  window-comparison g h k = rw (e, g, h, k) (ap (λ (i : ℕ). comparison (Within i) (Reading c s) (Constant (pos from))) (sym ends))
+    where
+      ends : minutesAfter (pos to) (pos from) ≡ minuteOf (subℕ to from)
+      ends = ap₂ minutesAfter (pos-sub to) (pos-sub from) ∙ after-bias to from 0
 
 -- the terms of the comparison that an atom is
 pub atom-fit : (z : Sizes) (x : Atom) → atomFits (z .channels) x ≡ true → {r : Comparison} → r ≡ comparisonOf x → TermsFit z r

@@ -6,26 +6,30 @@ use native.Mathlib.Omega.{arith}
 use mathlib.Core.Path.{_≡_, refl, sym, subst}
 use mathlib.Core.Bool.{Bool, true, false, cond, false≢true}
 use mathlib.Core.List.{List}
-use mathlib.Core.Logic.{_↔_, by-cases}
+use mathlib.Core.Logic.{_↔_, Iff·trans, by-cases}
+use lib.IntN.{ℤ, pos}
 use borrow.Author.Tests.{lt-ltb, le-ltb}
-use Rattle.cltlb.specs.Truth.{AtomHolds}
+use Rattle.cltlb.specs.Truth.{valueAt, Compared, Within, AtomHolds}
 use Rattle.cltlb.specs.Fits.{termFits, atomFits}
+use Rattle.cltlb.specs.declared.Term.the-variants.{Constant, Reading}
 use Rattle.cltlb.specs.declared.Atom.{Atom}
-use Rattle.cltlb.specs.declared.Atom.the-variants.{Less, Equal}
-use Rattle.cltlb.proofs.Fits.{less-fits, equal-fits}
+use Rattle.cltlb.specs.declared.Atom.the-variants.{Less, Equal, Window}
+use Rattle.cltlb.proofs.Fits.{less-fits, equal-fits, window-fits, Ends, ends-fit}
 use Rattle.plan.specs.Layout.{startRows, cycleRows}
 use Rattle.plan.specs.Positions.{rowOf, passOf}
 use Rattle.plan.specs.Run.{runOf}
 use Rattle.plan.proofs.Rows.{row-start, row-ge, row-again, row-split}
 use Rattle.verdict.specs.Meaning.{VerdictMeans}
 use Rattle.verdict.specs.Comparisons.{comparison, comparisonOf}
+use Rattle.verdict.specs.Weeks.{minutesAfter}
 use Rattle.verdict.specs.Rows.{testAt, judgeRow, atomAt, verdictOf}
 use Rattle.verdict.specs.declared.Comparison.{Comparison}
 use Rattle.verdict.specs.declared.Relation.the-variants.{Below, Same}
 use Rattle.verdict.specs.declared.Verdict.{Verdict}
 use Rattle.verdict.specs.declared.Verdict.the-variants.{AlwaysTrue, AlwaysFalse, Changes}
 use Rattle.verdict.proofs.Passes.{PassMeans, means-one}
-use Rattle.verdict.proofs.Cycles.{ComparedAt, test-decides, cycle-means, inside-4}
+use Rattle.verdict.proofs.Minutes.{window-within}
+use Rattle.verdict.proofs.Cycles.{same-number, ComparedAt, test-decides, cycle-means, inside-4}
 
 -- A verdict on the passes of a row is one on the row, where `at` gives all positions that lie on it.
 pub row-means : (P C row : ℕ) (at : ℕ → ℕ) → ((k : ℕ) → rowOf P C (at k) ≡ row) → ((t : ℕ) → rowOf P C t ≡ row → (k : ℕ) × (at k ≡ t))
@@ -63,6 +67,31 @@ module _ (P C : ℕ) (hC : 1 ≤ C) (row : ℕ) where
       (λ l. absurd (omega (arith, row-start P C t (omega arith))))
       (λ l. omega (arith, row-split P C hC t (omega arith)))
 
+-- A verdict on a statement is one on an equivalent statement.
+verdict-iff : {P C row : ℕ} {F G : ℕ → Type 0} {v : Verdict} → ((t : ℕ) → F t ↔ G t) → VerdictMeans P C row F v → VerdictMeans P C row G v
+verdict-iff e m = record {
+  alwaysTrue = (λ h t l. e t .0 (m .alwaysTrue .0 h t l), λ h. m .alwaysTrue .1 (λ t l. e t .1 (h t l)));
+  alwaysFalse = (λ h t l g. m .alwaysFalse .0 h t l (e t .1 g), λ h. m .alwaysFalse .1 (λ t l f. h t l (e t .0 f)));
+  changes = (
+    λ h. let c = m .changes .0 h in ((c .0 .0, c .0 .1, e (c .0 .0) .0 (c .0 .2)), (c .1 .0, c .1 .1, λ g. c .1 .2 (e (c .1 .0) .1 g))),
+    λ c. m .changes .1 ((c .0 .0, c .0 .1, e (c .0 .0) .1 (c .0 .2)), (c .1 .0, c .1 .1, λ f. c .1 .2 (e (c .1 .0) .0 f))),
+  );
+}
+
+-- A constant fits any number of channels.
+constant-fits : (v : ℕ) (z : ℤ) → termFits v (Constant z) ≡ true
+unfolding termFits
+constant-fits v z = refl
+
+-- A window is its comparison.
+window-holds : (plan : List ℕ) (c : ℕ) (s : ℤ) (from to : ℕ) → Ends from to
+    → (t : ℕ) → ComparedAt plan (comparisonOf (Window c s from to)) t ↔ AtomHolds (runOf plan) (Window c s from to) t
+unfolding AtomHolds Within Compared valueAt
+window-holds plan c s from to w t = (
+  λ h. (h .0, h .2, window-within from to w (h .0) .0 (subst (λ (b : ℤ). minutesAfter (h .0) b < minutesAfter (pos to) (pos from)) (sym (same-number (h .3))) (h .4))),
+  λ h. (h .0, pos from, h .1, refl, window-within from to w (h .0) .1 (h .2)),
+)
+
 module _ (plan : List ℕ) (hC : 1 ≤ cycleRows plan) (row : ℕ) (hr : row < startRows plan + cycleRows plan) (v : ℕ) where
   module _ (x : Comparison) (fx : termFits v (x .left) ≡ true) (fy : termFits v (x .right) ≡ true) where
     start-means : (b : Bool) → (b ≡ true) ↔ ComparedAt plan x row → PassMeans (cond b AlwaysTrue AlwaysFalse) (λ k. ComparedAt plan x row)
@@ -89,14 +118,21 @@ module _ (plan : List ℕ) (hC : 1 ≤ cycleRows plan) (row : ℕ) (hr : row < s
   unfolding AtomHolds verdictOf
   judged (Less x y) f = let fits = less-fits v x y f in row-judged (comparison Below x y) (fits .0) (fits .1)
   judged (Equal x y) f = let fits = equal-fits v x y f in row-judged (comparison Same x y) (fits .0) (fits .1)
+  judged (Window c s from to) f =
+      let fits = window-fits v c s from to f in
+      verdict-iff (window-holds plan c s from to (ends-fit from to (fits .1)))
+      (row-judged (comparisonOf (Window c s from to)) (fits .0) (constant-fits v (pos from)))
 
 -- The terms of an atom that fits.
 pub atom-terms : (v : ℕ) (x : Atom) → atomFits v x ≡ true → (termFits v (comparisonOf x .left) ≡ true) × (termFits v (comparisonOf x .right) ≡ true)
 atom-terms v (Less x y) f = less-fits v x y f
 atom-terms v (Equal x y) f = equal-fits v x y f
+atom-terms v (Window c s from to) f = (window-fits v c s from to f .0, constant-fits v (pos from))
 
--- The test of an atom at a position tells its truth there.
-pub atom-tells : (plan : List ℕ) (x : Atom) (t : ℕ) → (atomAt plan x t ≡ true) ↔ AtomHolds (runOf plan) x t
+-- The test of an atom that fits tells, at a position, its truth there.
+pub atom-tells : (plan : List ℕ) (v : ℕ) (x : Atom) → atomFits v x ≡ true → (t : ℕ) → (atomAt plan x t ≡ true) ↔ AtomHolds (runOf plan) x t
 unfolding atomAt AtomHolds
-atom-tells plan (Less x y) t = test-decides plan (comparison Below x y) t
-atom-tells plan (Equal x y) t = test-decides plan (comparison Same x y) t
+atom-tells plan v (Less x y) f t = test-decides plan (comparison Below x y) t
+atom-tells plan v (Equal x y) f t = test-decides plan (comparison Same x y) t
+atom-tells plan v (Window c s from to) f t =
+    Iff·trans (test-decides plan (comparisonOf (Window c s from to)) t) (window-holds plan c s from to (ends-fit from to (window-fits v c s from to f .1)) t)

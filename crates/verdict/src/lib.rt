@@ -1,4 +1,4 @@
-// The verdict on an atom, that is, one comparison, on one row of a plan, over all passes.
+// The verdict on an atom, as a comparison of two terms, on one row of a plan, over all passes.
 use cltlb::Term;
 
 pub mod bounds;
@@ -6,6 +6,7 @@ pub mod early;
 pub mod lines;
 pub mod rows;
 pub mod terms;
+pub mod weeks;
 
 // What a comparison is on the passes of a row.
 pub enum Verdict {
@@ -14,10 +15,12 @@ pub enum Verdict {
     Changes,
 }
 
-// What a comparison asks of its two numbers: that the left one is below the right one, or the same.
+// What a comparison asks of its two numbers: that the left one is below the right one, or the same, or less than so many minutes
+// after it, whole weeks left aside.
 pub enum Relation {
     Below,
     Same,
+    Within(u64),
 }
 
 // A comparison of two terms.

@@ -7,6 +7,7 @@ ghost use Rattle.verdict.specs.Comparisons.{judgeLines};
 ghost use Rattle.verdict.specs.inner.Lifted.{lineOf};
 use crate::Relation;
 use crate::Verdict;
+use crate::weeks::decide_within;
 
 // A line, lifted so that no number is below 0: `at` is the number on the first pass, lifted as the values of readings are, `step`
 // what it grows by on each pass, as a field is kept.
@@ -65,5 +66,6 @@ pub fn decide(relation: Relation, x: LiftedLine, y: LiftedLine) -> Verdict
     match relation {
         Relation::Below => decide_less(x, y),
         Relation::Same => decide_equal(x, y),
+        Relation::Within(n) => decide_within(n, x, y),
     }
 }

@@ -8,7 +8,7 @@ ghost use Rattle.plan.specs.inner.Sizes.{allRows, Fitting};
 ghost use Rattle.plan.specs.inner.Lifted.{seenOf};
 ghost use Rattle.verdict.specs.Comparisons.{comparisonOf, testOf, tested};
 ghost use Rattle.verdict.specs.Rows.{joinFirst, testAt, judgeCycle, judgeRow, atomAt};
-ghost use Rattle.verdict.specs.inner.Reach.{reach, TermsFit, latest, latestFrom};
+ghost use Rattle.verdict.specs.inner.Reach.{reach, TermsFit, FitsSome, latest, latestFrom};
 ghost use Rattle.verdict.specs.inner.Landed.{BothLand};
 ghost use Rattle.verdict.specs.inner.Settled.{judgeFrom};
 ghost use Rattle.verdict.specs.inner.Judgement.{Judgement};
@@ -24,7 +24,9 @@ use crate::terms::landed_line;
 use crate::terms::reach_of;
 use crate::terms::seen_on;
 use crate::terms::seen_term;
+use crate::weeks::minutes_after;
 use cltlb::Atom;
+use cltlb::Term;
 use plan::landing::Landing;
 use plan::landing::landing_of;
 use plan::lookup::Seen;
@@ -43,6 +45,7 @@ fn compare(relation: Relation, a: Seen, b: Seen) -> bool
     match relation {
         Relation::Below => m < n,
         Relation::Same => m == n,
+        Relation::Within(minutes) => minutes_after(m, n) < minutes,
     }
 }
 
@@ -163,6 +166,7 @@ pub fn judge_comparison(plan: &[u8], sizes: Sizes, comparison: Comparison, row: 
 
 // The comparison that an atom is.
 pub fn comparison_of(atom: Atom) -> Comparison
+    requires { ⌜ FitsSome atom ⌝ }
     ensures { λ r. ⌜ r ≡ comparisonOf atom ⌝ }
 {
     match atom {
@@ -175,6 +179,16 @@ pub fn comparison_of(atom: Atom) -> Comparison
             relation: Relation::Same,
             left,
             right,
+        },
+        Atom::Window {
+            channel,
+            shift,
+            from,
+            to,
+        } => Comparison {
+            relation: Relation::Within(minutes_after(to as u64, from as u64)),
+            left: Term::Reading { channel, shift },
+            right: Term::Constant(from as i32),
         },
     }
 }

@@ -8,9 +8,9 @@ use Rattle.cltlb.specs.Run.{Seen}
 use Rattle.cltlb.specs.declared.Part.{Part}
 use Rattle.rule.specs.Layout.{partCount, channelCount, kindPlace, operandPlace, kindByte}
 use Rattle.rule.specs.Layout as rule
-use Rattle.cltlb.specs.Fits.{shiftFits, termFits, atomFits, namesLower, viewFits}
+use Rattle.cltlb.specs.Fits.{shiftFits, termFits, windowFits, atomFits, namesLower, viewFits}
 use Rattle.rule.specs.Terms.{shiftOf, termAt}
-use Rattle.rule.specs.Operands.{allZero, bothTerms, operandAt}
+use Rattle.rule.specs.Operands.{allZero, bothTerms, windowOver, operandAt}
 use Rattle.rule.specs.Kinds.{shapeOf, kindUnknown, partOf}
 use Rattle.rule.specs.Take.{takenOperand, takeOf, partTaken, partsOf}
 use Rattle.plan.specs.Layout.{channels, startRows, cycleRows, leadRows, rows, storedRows, arrayLength, readings, drifts, cell, entry, storedReading, storedDrift, readingOf, driftOf}
@@ -33,7 +33,7 @@ unfolding sheetRead sheetStated ReadsAs
 sheet-read (reads sheet v parts) e = (ap (λ (r : ℕ × List Part). r .0) e, ap (λ (r : ℕ × List Part). r .1) e)
 
 sheets-computed : map sheetRead sheets ≡ map sheetStated sheets
-unfolding sheetRead sheetStated sheets partsFrom allParts numberAt signedOf signedAt partCount channelCount kindPlace operandPlace kindByte rule.sizesFit shiftOf shiftFits termFits atomFits namesLower viewFits termAt allZero bothTerms operandAt shapeOf kindUnknown partOf takenOperand takeOf partTaken partsOf
+unfolding sheetRead sheetStated sheets partsFrom allParts numberAt signedOf signedAt partCount channelCount kindPlace operandPlace kindByte rule.sizesFit shiftOf shiftFits termFits windowFits atomFits namesLower viewFits termAt allZero bothTerms windowOver operandAt shapeOf kindUnknown partOf takenOperand takeOf partTaken partsOf
 sheets-computed = refl
 
 pub sheets-read : All ReadsAs sheets

@@ -9,20 +9,22 @@ use Rattle.worked_examples.specs.SheetsRead.{sheets, ReadsAs}
 use Rattle.worked_examples.specs.PlansRead.{plans, sights, SizedAs, SeesAs}
 use Rattle.worked_examples.specs.Handed.{questionBytes, callBytes}
 use Rattle.worked_examples.specs.Table.{ruleE1, ruleE2, ruleE4, ruleE8, ruleE9-0, planA, planB, planE9, planE10, examples, marksE4-2}
-use Rattle.worked_examples.specs.MoreSheets.{ruleKinds, ruleRelease, rulePast, ruleWeak, ruleSince, ruleTrigger, ruleLimit, ruleMet, ruleReach, ruleEightChannels, ruleNoParts, ruleLong, ruleNineChannels, ruleKind0, ruleKind13, ruleShiftedConstant, ruleShiftCode9, ruleForm2, ruleChannel1, ruleNamesItself, ruleSpareByte, ruleMostParts, ruleTooManyParts}
-use Rattle.worked_examples.specs.MorePlans.{planThree, planStartDrift, planNoCycle, planLong, planLead, planLeadDrift, planBehindLeadDrift, planSevenBytes, planMostLead, planTooMuchLead, planMostRows, planTooManyRows, planMostChannels, planTooManyChannels, planHigh}
-use Rattle.worked_examples.specs.MoreMarks.{marksKinds, marksLead, marksLeadSeen, marksRelease-1, marksRelease-0, marksRelease-spare, marksLong, marksByte2, marksBytes2, marksBroken, marksSpare, marksSpareBroken, marksLowerBroken, marksLowerSpare, marksPast, marksPastHeld, marksMetWrong, marksWeakHeld, marksSinceHeld, marksTriggerHeld, marksLimit, marksLimitBroken, marksLimitSpare, lentFull, lentSevens, zeros}
-use Rattle.worked_examples.specs.Layouts.{lentPlan, lentScratch, clearedScratch, laidA-0, laidA-1, laidB-1}
+use Rattle.worked_examples.specs.MoreSheets.{ruleKinds, ruleRelease, rulePast, ruleWeak, ruleSince, ruleTrigger, ruleLimit, ruleMet, ruleReach, ruleEightChannels, ruleWindows, ruleHours, ruleFirstDay, ruleDayBefore, ruleBack, ruleNoParts, ruleLong, ruleNineChannels, ruleKind0, ruleKind14, ruleShiftedConstant, ruleShiftCode9, ruleForm2, ruleChannel1, ruleNamesItself, ruleSpareByte, ruleWindowConstant, ruleWindowFrom, ruleWindowTo, ruleWindowNone, ruleWindowSpare, ruleMostParts, ruleTooManyParts}
+use Rattle.worked_examples.specs.MorePlans.{planThree, planWeek, planLeap, planStartDrift, planNoCycle, planLong, planLead, planLeadDrift, planBehindLeadDrift, planSevenBytes, planMostLead, planTooMuchLead, planMostRows, planTooManyRows, planMostChannels, planTooManyChannels, planHigh}
+use Rattle.worked_examples.specs.MoreMarks.{marksKinds, marksLead, marksLeadSeen, marksRelease-1, marksRelease-0, marksRelease-spare, marksLong, marksByte2, marksBytes2, marksBroken, marksSpare, marksSpareBroken, marksLowerBroken, marksLowerSpare, marksPast, marksPastHeld, marksMetWrong, marksWeakHeld, marksSinceHeld, marksTriggerHeld, marksLimit, marksLimitBroken, marksLimitSpare, marksWindows, marksWindowsBroken, marksWindowsSpare, marksFirstDay, marksFirstDayWrong, lentFull, lentSevens, zeros, zerosFirstDay}
+use Rattle.worked_examples.specs.Layouts.{lentPlan, lentScratch, clearedScratch, laidA-0, laidA-1, laidB-1, laidLeap-1, laidLead-1}
 
 -- A refusal is number × 2^32 + part × 2^16 + row; beside it stand its number, part and row.
 unfoldable pub more : List Call
 more =
-    -- Accepted. Every kind: the whole rule, a T, is false at position 0.
+    -- Accepted. Every kind: the whole rule, a window, is false at position 0, where it looks before the run.
     checks ruleKinds planThree marksKinds 0
     -- R marked 1 is true at position 0.
     ∷ checks ruleRelease planE10 marksRelease-1 1
     -- Y does not see the lead-in.
     ∷ checks ruleE2 planLead marksLead 0
+    -- Windows, on rows that drift by a day, a week and an hour back, none of which changes: the last one is false at position 0.
+    ∷ checks ruleWindows planWeek marksWindows 0
     -- Refused. 1: no bytes, no parts, nine channels, a byte too many. It comes before all others.
     ∷ checks [] [] [] 4294967296  -- 1, 0, 0
     ∷ checks ruleNoParts [] [] 4294967296  -- 1, 0, 0
@@ -30,7 +32,7 @@ more =
     ∷ checks ruleLong [] [] 4294967296  -- 1, 0, 0
     -- 2: the lowest such part, and all kinds before an operand.
     ∷ checks ruleKind0 [] [] 8589934592  -- 2, 0, 0
-    ∷ checks ruleKind13 [] [] 8590000128  -- 2, 1, 0
+    ∷ checks ruleKind14 [] [] 8590000128  -- 2, 1, 0
     -- 3: each way to break the layout.
     ∷ checks ruleShiftedConstant [] [] 12884901888  -- 3, 0, 0
     ∷ checks ruleShiftCode9 [] [] 12884901888  -- 3, 0, 0
@@ -38,6 +40,12 @@ more =
     ∷ checks ruleChannel1 [] [] 12884901888  -- 3, 0, 0
     ∷ checks ruleNamesItself [] [] 12884967424  -- 3, 1, 0
     ∷ checks ruleSpareByte [] [] 12884967424  -- 3, 1, 0
+    -- 3 of a window: a constant, ends that are no minutes of the week or are equal, a byte that is not zero behind them.
+    ∷ checks ruleWindowConstant [] [] 12884901888  -- 3, 0, 0
+    ∷ checks ruleWindowFrom [] [] 12884901888  -- 3, 0, 0
+    ∷ checks ruleWindowTo [] [] 12884901888  -- 3, 0, 0
+    ∷ checks ruleWindowNone [] [] 12884901888  -- 3, 0, 0
+    ∷ checks ruleWindowSpare [] [] 12884901888  -- 3, 0, 0
     -- 4: no bytes, seven bytes, no cycle row, a byte too many, a lead-in of five rows. It comes before 5.
     ∷ checks ruleE1 [] [] 17179869184  -- 4, 0, 0
     ∷ checks ruleE1 planSevenBytes [] 17179869184  -- 4, 0, 0
@@ -63,7 +71,9 @@ more =
     ∷ checks ruleE2 planLead marksLeadSeen 38654771200  -- 9, 1, 0
     ∷ checks ruleE4 planA marksBroken 38654836737  -- 9, 2, 1
     ∷ checks ruleE2 planA marksLowerBroken 38654705665  -- 9, 0, 1
-    -- 10: of a past part row P, of a comparison the lowest changing row. It comes before 11 and before 9 of the same part, also where
+    -- Of a window that the drift steps over.
+    ∷ checks ruleWindows planWeek marksWindowsBroken 38654836739  -- 9, 2, 3
+    -- 10: of a past part row P, of an atom the lowest changing row. It comes before 11 and before 9 of the same part, also where
     -- the part's own marks would close.
     ∷ checks rulePast planThree marksPast 42949738498  -- 10, 1, 2
     ∷ checks ruleLimit planThree marksLimit 42949738499  -- 10, 1, 3
@@ -74,12 +84,17 @@ more =
     ∷ checks ruleWeak planA marksWeakHeld 42949738497  -- 10, 1, 1
     ∷ checks ruleSince planA marksSinceHeld 42949804033  -- 10, 2, 1
     ∷ checks ruleTrigger planA marksTriggerHeld 42949804033  -- 10, 2, 1
+    -- Of a window the lowest changing row too; row 3 changes as well. The mark of row 0 is wrong in the second table.
+    ∷ checks ruleFirstDay planWeek marksFirstDay 42949672961  -- 10, 0, 1
+    ∷ checks ruleFirstDay planWeek marksFirstDayWrong 42949672961  -- 10, 0, 1
     -- 11: a witness that is not needed, twice, and one that is no witness. It comes before 9 and before 10 of a higher part.
     ∷ checks ruleE4 planA marksSpare 47244705792  -- 11, 1, 0
     ∷ checks ruleRelease planE10 marksRelease-spare 47244771328  -- 11, 2, 0
     ∷ checks ruleRelease planE10 marksRelease-0 47244771328  -- 11, 2, 0
     ∷ checks ruleE4 planA marksSpareBroken 47244705792  -- 11, 1, 0
     ∷ checks ruleE2 planA marksLowerSpare 47244640256  -- 11, 0, 0
+    -- A window needs none.
+    ∷ checks ruleWindows planWeek marksWindowsSpare 47244705792  -- 11, 1, 0
     -- The largest sizes are allowed, so that the next string is what is refused, and larger ones are not (E12).
     ∷ checks ruleMostParts [] [] 17179869184  -- 4, 0, 0
     ∷ checks ruleTooManyParts [] [] 4294967296  -- 1, 0, 0
@@ -94,6 +109,8 @@ more =
     -- U has witness 2; R marked 1 has none, though the buffer held one.
     ∷ makes ruleE4 planA lentSevens marksE4-2 1
     ∷ makes ruleRelease planE10 marksRelease-0 marksRelease-1 1
+    -- Windows have no witness.
+    ∷ makes ruleWindows planWeek marksWindowsBroken marksWindows 0
     -- 13: a byte too many, no bytes. It comes after 1 to 6 and before 14, and the buffer is as it was.
     ∷ makes ruleE1 planA marksLong marksLong 55834574848  -- 13, 0, 0
     ∷ makes rulePast planThree [] [] 55834574848  -- 13, 0, 0
@@ -101,10 +118,14 @@ more =
     -- 14: part and row as in 10. The buffer is all zero bytes.
     ∷ makes rulePast planThree marksPast zeros 60129607682  -- 14, 1, 2
     ∷ makes ruleLimit planThree marksLimit zeros 60129607683  -- 14, 1, 3
+    ∷ makes ruleFirstDay planWeek marksFirstDay zerosFirstDay 60129542145  -- 14, 0, 1
     -- Settled, whatever the buffers held: after no pass; after one, when each cycle row has another before it that is of the cycle too.
     ∷ settles ruleE1 planA lentPlan lentScratch laidA-0 clearedScratch 0
     ∷ settles ruleE2 planA lentPlan lentScratch laidA-1 clearedScratch 1
     ∷ settles ruleE8 planB lentPlan lentScratch laidB-1 clearedScratch 1
+    -- After one: a window that looks before the run on pass 0 alone, and one that looks before the lead-in.
+    ∷ settles ruleDayBefore planLeap lentPlan lentScratch laidLeap-1 clearedScratch 1
+    ∷ settles ruleBack planLead lentPlan lentScratch laidLead-1 clearedScratch 1
     -- 13: either buffer. It comes after 1 to 6 and before 15, and both buffers are as they were.
     ∷ settles ruleE1 planA planA lentScratch planA lentScratch 55834574848  -- 13, 0, 0
     ∷ settles ruleE8 planHigh lentPlan [] lentPlan [] 55834574848  -- 13, 0, 0
@@ -112,6 +133,8 @@ more =
     -- 15: with a pass more a reading takes more than 32 bits, or the rows are more than 256. The scratch is all zero bytes.
     ∷ settles ruleE8 planHigh lentPlan lentScratch lentPlan clearedScratch 64424509440  -- 15, 0, 0
     ∷ settles ruleE2 planMostRows lentPlan lentScratch lentPlan clearedScratch 64424509440  -- 15, 0, 0
+    -- A window that changes for ever: two passes can be laid out, and it changes after both.
+    ∷ settles ruleFirstDay planLeap lentPlan lentScratch lentPlan clearedScratch 64424509440  -- 15, 0, 0
     -- Judged on start rows and on cycle rows: 0 always false, 1 always true, 2 changes.
     ∷ judges ruleKinds planThree 0 0 1
     ∷ judges ruleKinds planThree 0 1 0
@@ -124,7 +147,26 @@ more =
     -- Row 0 held against the lead-in.
     ∷ judges ruleE8 planLead 0 0 1
     ∷ judges ruleE8 planLead 0 1 0
-    -- 12: no such part, no such row, also where the lead-in is counted, no comparison. It comes after 1 to 6.
+    -- Windows. -1 is minute 10079, the last one.
+    ∷ judges ruleWindows planWeek 0 0 1
+    ∷ judges ruleWindows planWeek 1 0 0
+    -- A day on each pass: 540, 1980 and so on to 9180, which are all in a window, or one of them is.
+    ∷ judges ruleWindows planWeek 1 1 1
+    ∷ judges ruleHours planWeek 0 1 1
+    ∷ judges ruleFirstDay planWeek 0 1 2
+    -- A week on each pass: minute 60 for ever, which belongs to the window from 60 and not to the one to 60.
+    ∷ judges ruleWindows planWeek 2 2 1
+    ∷ judges ruleHours planWeek 1 2 0
+    -- An hour back on each pass: half past every hour, which steps over the window from 60 to 90.
+    ∷ judges ruleWindows planWeek 2 3 0
+    ∷ judges ruleHours planWeek 1 3 2
+    -- Over the end of the week.
+    ∷ judges ruleHours planWeek 1 0 1
+    -- Before the lead-in, in it, and before it on pass 0 alone.
+    ∷ judges ruleBack planLead 0 0 0
+    ∷ judges ruleBack planLead 0 1 1
+    ∷ judges ruleBack planLead 1 1 2
+    -- 12: no such part, no such row, also where the lead-in is counted, no atom. It comes after 1 to 6.
     ∷ judges ruleE1 planA 1 0 51539607552  -- 12, 0, 0
     ∷ judges ruleE1 planA 0 3 51539607552  -- 12, 0, 0
     ∷ judges ruleE1 planLead 0 2 51539607552  -- 12, 0, 0

@@ -7,7 +7,7 @@ use Rattle.cltlb.specs.Run.{Seen, number, beforeRun}
 use Rattle.plan.specs.Layout.{channels, startRows, cycleRows, leadRows}
 use Rattle.plan.specs.Run.{runOf}
 use Rattle.worked_examples.specs.Table.{planA, planB, planE8-lead, planE9, planE10}
-use Rattle.worked_examples.specs.MorePlans.{planThree, planStartDrift, planNoCycle, planLong, planLead, planLeadTwo, planLeadDrift, planBehindLeadDrift, planHigh}
+use Rattle.worked_examples.specs.MorePlans.{planThree, planWeek, planLeap, planStartDrift, planNoCycle, planLong, planLead, planLeadTwo, planLeadDrift, planBehindLeadDrift, planHigh}
 
 -- a plan with its V, P, C and L
 pub data PlanRow : Type 0 where
@@ -24,6 +24,8 @@ plans =
     ∷ sized planE9 1 0 1 0
     ∷ sized planE10 1 0 1 0
     ∷ sized planThree 3 2 3 0
+    ∷ sized planWeek 1 1 3 0
+    ∷ sized planLeap 1 0 1 0
     ∷ sized planStartDrift 1 3 1 0
     ∷ sized planNoCycle 1 1 0 0
     ∷ sized planLong 1 0 1 0
@@ -46,8 +48,8 @@ pub data Sight : Type 0 where
 unfoldable pub SeesAs : Sight → Type 0
 SeesAs (sees plan position seen) = seenFrom plan position 0 (channels plan) ≡ seen
 
--- planThree: before the run, the start rows, the cycle rows on passes 0 and 1, two of them on pass 2, and one on pass 100. The last
--- three plans: before the lead-in, in it, and behind it.
+-- planThree: before the run, the start rows, the cycle rows on passes 0 and 1, two of them on pass 2, and one on pass 100. planWeek:
+-- the start row, and the cycle rows on passes 0 and 1. The last three plans: before the lead-in, in it, and behind it.
 unfoldable pub sights : List Sight
 sights =
     sees planA (pos 0) (number (pos 10) ∷ [])
@@ -71,6 +73,14 @@ sights =
     ∷ sees planThree (pos 8) (number (negℤ (pos 70512)) ∷ number (negℤ (pos 513)) ∷ number (negℤ (pos 14)) ∷ [])
     ∷ sees planThree (pos 10) (number (pos 202) ∷ number (pos 203) ∷ number (pos 14) ∷ [])
     ∷ sees planThree (pos 302) (number (negℤ (pos 95600)) ∷ number (negℤ (pos 25601)) ∷ number (negℤ (pos 504)) ∷ [])
+    ∷ sees planWeek (pos 0) (number (negℤ (pos 1)) ∷ [])
+    ∷ sees planWeek (pos 1) (number (pos 540) ∷ [])
+    ∷ sees planWeek (pos 2) (number (negℤ (pos 10020)) ∷ [])
+    ∷ sees planWeek (pos 3) (number (pos 30) ∷ [])
+    ∷ sees planWeek (pos 4) (number (pos 1980) ∷ [])
+    ∷ sees planWeek (pos 5) (number (pos 60) ∷ [])
+    ∷ sees planWeek (pos 6) (number (negℤ (pos 30)) ∷ [])
+    ∷ sees planLeap (pos 2) (number (pos 1440000540) ∷ [])
     ∷ sees planE8-lead (negℤ (pos 2)) (beforeRun ∷ [])
     ∷ sees planE8-lead (negℤ (pos 1)) (number (pos 4093) ∷ [])
     ∷ sees planE8-lead (pos 2) (number (pos 4096) ∷ [])

@@ -6,11 +6,11 @@ use lib.IntN.{pos, negℤ}
 use Rattle.cltlb.specs.declared.Term.{Term}
 use Rattle.cltlb.specs.declared.Term.the-variants.{Constant, Reading}
 use Rattle.cltlb.specs.declared.Part.{Part}
-use Rattle.cltlb.specs.declared.Part.the-variants.{Less, Equal, Not, And, Or, Next, Until, Release, Yesterday, WeakYesterday, Since, Trigger}
+use Rattle.cltlb.specs.declared.Part.the-variants.{Less, Equal, Not, And, Or, Next, Until, Release, Yesterday, WeakYesterday, Since, Trigger, Window}
 use Rattle.rule.specs.Layout.{partCount, channelCount}
 use Rattle.rule.specs.Take.{partsOf}
 use Rattle.worked_examples.specs.Table.{ruleE1, ruleE2, ruleE3, ruleE4, ruleE5, ruleE6-4096, ruleE6-4093, ruleE7, ruleE8, ruleE9-10, ruleE9-9, ruleE9-0, ruleE10}
-use Rattle.worked_examples.specs.MoreSheets.{ruleKinds, ruleRelease, rulePast, ruleWeak, ruleSince, ruleTrigger, ruleLimit, ruleMet, ruleReach, ruleEightChannels}
+use Rattle.worked_examples.specs.MoreSheets.{ruleKinds, ruleRelease, rulePast, ruleWeak, ruleSince, ruleTrigger, ruleLimit, ruleMet, ruleReach, ruleEightChannels, ruleWindows, ruleHours, ruleFirstDay, ruleDayBefore, ruleBack}
 
 -- the n parts of a sheet from part k on
 unfoldable pub partsFrom : List ℕ → ℕ → ℕ → List Part
@@ -50,6 +50,7 @@ everyKind =
     ∷ WeakYesterday 1
     ∷ Since 0 1
     ∷ Trigger 0 1
+    ∷ Window 2 (negℤ (pos 1)) 10078 10077
     ∷ []
 
 -- E1 to E10, then the sheets of more examples.
@@ -78,4 +79,9 @@ sheets =
     ∷ reads ruleMet 3 (Equal x (Constant (negℤ (pos 70512))) ∷ [])
     ∷ reads ruleReach 1 (Less (Reading 0 (negℤ (pos 4))) (Reading 0 (pos 4)) ∷ [])
     ∷ reads ruleEightChannels 8 (Less (Reading 7 (pos 0)) (Constant (pos 25)) ∷ [])
+    ∷ reads ruleWindows 1 (Window 0 (pos 0) 10079 0 ∷ Window 0 (pos 0) 0 10079 ∷ Window 0 (pos 0) 60 90 ∷ [])
+    ∷ reads ruleHours 1 (Window 0 (pos 0) 540 9181 ∷ Window 0 (pos 0) 10000 60 ∷ [])
+    ∷ reads ruleFirstDay 1 (Window 0 (pos 0) 540 1020 ∷ [])
+    ∷ reads ruleDayBefore 1 (Window 0 (negℤ (pos 1)) 540 9181 ∷ [])
+    ∷ reads ruleBack 1 (Window 0 (negℤ (pos 3)) 0 10079 ∷ Window 0 (negℤ (pos 4)) 0 10079 ∷ [])
     ∷ []

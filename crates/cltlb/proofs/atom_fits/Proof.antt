@@ -1,46 +1,76 @@
+-- `cltlb::atom_fits` meets its contract. Assumes nothing.
 use mathlib.Core.Path.{ap, ap₂, sym, _∙_}
 use mathlib.Core.Bool.{_&&_}
+use mir.Syntax.{w32}
+use mir.ValLaws.{toZ-ofZ}
 use Rattle.cltlb.specs.Fits.{atomFits}
+use Rattle.cltlb.proofs.Fits.{fits-window}
 use borrow.Author.Needs.{needs}
 use Rattle.cltlb.proofs.atom_fits.Statement.{statement}
 use Rattle.cltlb.proofs.atom_fits.Tie as tie
 use Rattle.cltlb.proofs.atom_fits.Reads as reads
 use Rattle.cltlb.proofs.atom_fits.Lts as lts
 use Rattle.cltlb.proofs.term_fits.Reads as term-fits-reads
+use Rattle.cltlb.proofs.window_fits.Reads as window-fits-reads
 
--- src/lib.rt:105:20
+-- src/lib.rt:157:20
 enum-known-x : tie.Need-enum-known-x
 enum-known-x c = search needs
 
--- src/lib.rt:105:36
+-- src/lib.rt:157:36
 term-fits-requires : tie.Need-term-fits-requires
 term-fits-requires c κs = search needs
 
--- src/lib.rt:105:57
+-- src/lib.rt:157:57
 term-fits-requires-2 : tie.Need-term-fits-requires-2
 term-fits-requires-2 c κs = search needs
 
--- src/lib.rt:106:21
+-- src/lib.rt:158:21
 enum-known-x-2 : tie.Need-enum-known-x-2
 enum-known-x-2 c = search needs
 
--- src/lib.rt:106:37
+-- src/lib.rt:158:37
 term-fits-requires-3 : tie.Need-term-fits-requires-3
 term-fits-requires-3 c κs = search needs
 
--- src/lib.rt:106:58
+-- src/lib.rt:158:58
 term-fits-requires-4 : tie.Need-term-fits-requires-4
 term-fits-requires-4 c κs = search needs
 
--- src/lib.rt:101:1
+-- src/lib.rt:160:13
+enum-known-x-3 : tie.Need-enum-known-x-3
+enum-known-x-3 c = search needs
+
+-- src/lib.rt:164:14
+term-fits-requires-5 : tie.Need-term-fits-requires-5
+term-fits-requires-5 c κs = search needs
+
+-- src/lib.rt:164:63
+window-fits-requires : tie.Need-window-fits-requires
+window-fits-requires c κs = search needs
+
+-- src/lib.rt:153:1
 returns : tie.Need-returns
 unfolding atomFits
-returns c = ap₂ _&&_ (c .before .term-fits .ensures) (c .term-fits2 .ensures) ∙ sym (ap (atomFits (c .before .before .before .before .before .args .v)) (c .before .before .before .x .given .1))
+returns c =
+    let start = c .before .before .before .before .before in
+    let x = c .before .before .before .x in
+    ap₂ _&&_ (c .before .term-fits .ensures) (c .term-fits2 .ensures) ∙ sym (ap (atomFits (start .args .v)) (x .given .1))
 
--- src/lib.rt:101:1
+-- src/lib.rt:153:1
 returns-2 : tie.Need-returns-2
 unfolding atomFits
-returns-2 c = ap₂ _&&_ (c .before .term-fits3 .ensures) (c .term-fits4 .ensures) ∙ sym (ap (atomFits (c .before .before .before .before .before .args .v)) (c .before .before .before .x2 .given .1))
+returns-2 c =
+    let start = c .before .before .before .before .before in
+    let x2 = c .before .before .before .x2 in
+    ap₂ _&&_ (c .before .term-fits3 .ensures) (c .term-fits4 .ensures) ∙ sym (ap (atomFits (start .args .v)) (x2 .given .1))
+
+-- src/lib.rt:153:1
+returns-3 : tie.Need-returns-3
+returns-3 c =
+    let x3 = c .before .before .before .x3 in
+    let known-told3 = c .before .before .known-told3 in
+    fits-window _ (x3 .given .1) (toZ-ofZ w32 _ (record { sfits = known-told3 .given .1 .0 .1 })) (c .before .term-fits5 .ensures) (c .window-fits .ensures)
 
 pub atom-fits-spec : {M : Type 1} → statement M
 atom-fits-spec =
@@ -52,5 +82,9 @@ atom-fits-spec =
     enum-known-x-2
     term-fits-requires-3
     term-fits-requires-4
+    enum-known-x-3
+    term-fits-requires-5
+    window-fits-requires
     returns
-    returns-2)
+    returns-2
+    returns-3)

@@ -1,3 +1,4 @@
+-- `labelling::label_part` meets its contract. Assumes nothing.
 use denote.Ref.{now}
 use Rattle.labelling.proofs.OnePart.{atom-there, atom-made, operator-there, operator-ready, operator-made}
 use native.Mathlib.Omega.{arith}
@@ -6,7 +7,7 @@ use Rattle.labelling.proofs.label_part.Statement.{statement}
 use Rattle.labelling.proofs.label_part.Tie as tie
 use Rattle.labelling.proofs.label_part.Reads as reads
 use Rattle.labelling.proofs.label_part.Lts as lts
-use Rattle.labelling.proofs.comparisons.label_atom.Reads as label-atom-reads
+use Rattle.labelling.proofs.atoms.label_atom.Reads as label-atom-reads
 use Rattle.labelling.proofs.operators.label_operator.Reads as label-operator-reads
 use Rattle.marks.proofs.closing.closes_made.Reads as closes-made-reads
 use Rattle.marks.proofs.refusals.closing_outcome.Reads as closing-outcome-reads

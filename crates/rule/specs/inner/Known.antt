@@ -6,6 +6,10 @@ use mathlib.Core.Bool.{true, false}
 use Rattle.rule.specs.Layout.{partCount, sizesFit}
 use Rattle.rule.specs.Kinds.{kindUnknown}
 
--- the sizes fit, and the kind bytes of the first n parts are all known
+-- the kind bytes of the first n parts are all known
+abbrev pub AllKnown : List ℕ → ℕ → Type 0
+AllKnown sheet n = (i : ℕ) → i < n → kindUnknown sheet i ≡ false
+
+-- the sizes fit, and the kind bytes of all parts are known
 unfoldable pub KindsKnown : List ℕ → ℕ → Type 0
-KindsKnown sheet n = (sizesFit sheet ≡ true) × (n ≡ partCount sheet) × ((i : ℕ) → i < n → kindUnknown sheet i ≡ false)
+KindsKnown sheet n = (sizesFit sheet ≡ true) × (n ≡ partCount sheet) × AllKnown sheet n

@@ -4,12 +4,13 @@ use mathlib.Core.Path.{_≡_}
 use mathlib.Core.Bool.{Bool, false, _&&_}
 use lib.Dec.{ltb}
 use Rattle.cltlb.specs.declared.Term.{Term}
+use Rattle.cltlb.specs.declared.Term.the-variants.{Constant, Reading}
 use Rattle.cltlb.specs.declared.Part.{Part}
-use Rattle.cltlb.specs.Fits.{termFits}
+use Rattle.cltlb.specs.Fits.{termFits, windowFits}
 use Rattle.rule.specs.declared.terms.TermRead.{TermRead}
 use Rattle.rule.specs.declared.terms.TermRead.the-variants as R
 use Rattle.rule.specs.declared.operands.Operand.{Operand}
-use Rattle.rule.specs.declared.operands.Operand.the-variants.{Terms, One, Two}
+use Rattle.rule.specs.declared.operands.Operand.the-variants.{Terms, One, Two, Window}
 use Rattle.rule.specs.declared.operands.OperandRead.{OperandRead}
 use Rattle.rule.specs.declared.operands.OperandRead.the-variants as O
 use Rattle.rule.specs.Kinds.{partOf}
@@ -19,11 +20,18 @@ unfoldable pub termSound : ℕ → TermRead → Bool
 termSound v (R.Term x) = termFits v x
 termSound v R.Broken = false
 
--- an operand of part n: its terms fit V channels, the parts that it names are lower
+-- a reading, and one that fits
+unfoldable pub readingSound : ℕ → TermRead → Bool
+readingSound v (R.Term (Constant z)) = false
+readingSound v (R.Term (Reading channel shift)) = termFits v (Reading channel shift)
+readingSound v R.Broken = false
+
+-- an operand of part n: its terms fit V channels, the parts that it names are lower, the ends of its window fit the week
 unfoldable pub operandFits : ℕ → ℕ → Operand → Bool
 operandFits v n (Terms x y) = termFits v x && termFits v y
 operandFits v n (One a) = ltb a n
 operandFits v n (Two a b) = ltb a n && ltb b n
+operandFits v n (Window channel shift from to) = termFits v (Reading channel shift) && windowFits from to
 
 -- an operand, and one that fits
 unfoldable pub operandSound : ℕ → ℕ → OperandRead → Bool

@@ -3,7 +3,7 @@ use Rattle.fields.specs.inner.Ranges.{SignedFits}
 use Rattle.cltlb.specs.declared.Term.{Term}
 use Rattle.cltlb.specs.declared.Term.the-variants.{Constant, Reading}
 use Rattle.rule.specs.declared.operands.Operand.{Operand}
-use Rattle.rule.specs.declared.operands.Operand.the-variants.{Terms, One, Two}
+use Rattle.rule.specs.declared.operands.Operand.the-variants.{Terms, One, Two, Window}
 
 unfoldable pub WordTerm : Term → Type 0
 WordTerm (Constant z) = SignedFits 4 z
@@ -13,3 +13,4 @@ unfoldable pub WordOperand : Operand → Type 0
 WordOperand (Terms x y) = WordTerm x × WordTerm y
 WordOperand (One a) = Unit {0}
 WordOperand (Two a b) = Unit {0}
+WordOperand (Window channel shift from to) = Unit {0}

@@ -3,9 +3,10 @@ use Prim.Native.Nat.{ℕ, suc, _+_, _*_}
 use mathlib.Core.Path.{_≡_}
 use mathlib.Core.Bool.{true}
 use lib.IntN.{ℤ, pos, negsuc}
-use Rattle.cltlb.specs.Fits.{termFits}
+use Rattle.cltlb.specs.Fits.{termFits, atomFits}
 use Rattle.cltlb.specs.declared.Term.{Term}
 use Rattle.cltlb.specs.declared.Term.the-variants.{Constant, Reading}
+use Rattle.cltlb.specs.declared.Atom.{Atom}
 use Rattle.plan.specs.declared.sizes.Sizes.{Sizes}
 use Rattle.verdict.specs.declared.Comparison.{Comparison}
 
@@ -17,6 +18,10 @@ back (negsuc n) = suc n
 unfoldable pub reach : Term → ℕ
 reach (Constant z) = 0
 reach (Reading channel shift) = back shift
+
+-- an atom fits some number of channels
+abbrev pub FitsSome : Atom → Type 0
+FitsSome x = (v : ℕ) × (atomFits v x ≡ true)
 
 -- both terms of a comparison fit the plan's channels
 abbrev pub TermsFit : Sizes → Comparison → Type 0

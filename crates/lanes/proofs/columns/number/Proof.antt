@@ -34,7 +34,7 @@ returns : tie.Need-returns
 returns c =
     let start = c .before .before .before .before in
     let if1 = c .before .before .if1 in
-    c .entry-at .ensures .0 ∙ sym (ap (λ (b : Bool). cond b (entry (now (start .args .values)) (start .args .column .from + start .args .k)) (signedOf 4 (start .args .column .pattern))) (if1 .taken))
+    (c .entry-at .ensures .0 ∙ sym (ap (λ (b : Bool). cond b (entry (now (start .args .values)) (start .args .column .from + start .args .k)) (signedOf 4 (start .args .column .pattern))) (if1 .taken)), c .entry-at .ensures .1)
 
 -- src/columns.rt:28:5
 biased-requires : tie.Need-biased-requires
@@ -45,7 +45,7 @@ returns-2 : tie.Need-returns-2
 returns-2 c =
     let start = c .before .before .before in
     let if1 = c .before .if1 in
-    c .biased .ensures .0 ∙ sym (ap (λ (b : Bool). cond b (entry (now (start .args .values)) (start .args .column .from + start .args .k)) (signedOf 4 (start .args .column .pattern))) (if1 .left))
+    (c .biased .ensures .0 ∙ sym (ap (λ (b : Bool). cond b (entry (now (start .args .values)) (start .args .column .from + start .args .k)) (signedOf 4 (start .args .column .pattern))) (if1 .left)), c .biased .ensures .1)
 
 pub number-spec : {M : Type 1} → statement M
 number-spec = tie.close (tie.spec add-entry-at entry-at-requires returns biased-requires returns-2)

@@ -174,7 +174,7 @@ loop-again c = (
       let row-of3 = c .before .before .before .row-of3 in
       let mark-at = c .before .before .mark-at in
       let numbers-compare = c .before .numbers-compare in
-      sweep-next _ _ (loop .inv .1) (law.landed-step (start .args .comparison .relation) (now (start .args .values)) (now (start .args .table)) (start .args .sizes) (start .args .i) (lane-of .result) (lane-of2 .result) (start .args .left) (start .args .right) _ (number .result) (number2 .result) (row-of .ensures) (number .ensures) (row-of2 .ensures) (number2 .ensures) (row-of3 .ensures) (mark-at .ensures) (numbers-compare .ensures) (c .agree .ensures)),
+      sweep-next _ _ (loop .inv .1) (law.landed-step (start .args .comparison .relation) (now (start .args .values)) (now (start .args .table)) (start .args .sizes) (start .args .i) (lane-of .result) (lane-of2 .result) (start .args .left) (start .args .right) _ (number .result) (number2 .result) (row-of .ensures) (number .ensures .0) (row-of2 .ensures) (number2 .ensures .0) (row-of3 .ensures) (mark-at .ensures) (numbers-compare .ensures) (c .agree .ensures)),
 )
 
 -- src/rows.rt:171:1

@@ -96,7 +96,7 @@ loop-again c =
     let drift = c .before .before .before .drift in
     let number2 = c .before .before .number2 in
     let drift2 = c .before .drift2 in
-    (omega arith, sweep-next _ _ (loop .inv .1) (c .less-agrees .ensures ∙ ap₂ (λ (p q : Line). verdictAgrees (judgeLess p q) (markIn (now (start .args .table)) (start .args .m + loop .k))) (line-is (number .result) (drift .result) (number .ensures) (drift .ensures)) (line-is (number2 .result) (drift2 .result) (number2 .ensures) (drift2 .ensures))))
+    (omega arith, sweep-next _ _ (loop .inv .1) (c .less-agrees .ensures ∙ ap₂ (λ (p q : Line). verdictAgrees (judgeLess p q) (markIn (now (start .args .table)) (start .args .m + loop .k))) (line-is (number .result) (drift .result) (number .ensures .0) (drift .ensures)) (line-is (number2 .result) (drift2 .result) (number2 .ensures .0) (drift2 .ensures))))
 
 -- src/sweeps.rt:88:1
 returns : tie.Need-returns Inv-loop μ-loop

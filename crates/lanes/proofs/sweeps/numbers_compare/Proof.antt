@@ -1,26 +1,51 @@
 -- `lanes::sweeps::numbers_compare` meets its contract. Assumes nothing.
-use Rattle.lanes.proofs.Comparing.{compare-below, compare-same}
+use Rattle.lanes.proofs.Comparing.{compare-below, compare-same, compare-within}
 use borrow.Author.Needs.{needs}
 use Rattle.lanes.proofs.sweeps.numbers_compare.Statement.{statement}
 use Rattle.lanes.proofs.sweeps.numbers_compare.Tie as tie
 use Rattle.lanes.proofs.sweeps.numbers_compare.Reads as reads
 use Rattle.lanes.proofs.sweeps.numbers_compare.Lts as lts
+use Rattle.verdict.proofs.weeks.minutes_after.Reads as minutes-after-reads
 
--- src/sweeps.rt:23:28
+-- src/sweeps.rt:26:28
 enum-told : tie.Need-enum-told
 enum-told c = search needs
 
--- src/sweeps.rt:24:27
+-- src/sweeps.rt:27:27
 enum-told-2 : tie.Need-enum-told-2
 enum-told-2 c = search needs
 
--- src/sweeps.rt:19:1
+-- src/sweeps.rt:28:26
+enum-known-relation : tie.Need-enum-known-relation
+enum-known-relation c = search needs
+
+-- src/sweeps.rt:28:38
+minutes-after-requires : tie.Need-minutes-after-requires
+minutes-after-requires c κs = search needs
+
+-- src/sweeps.rt:22:1
 returns : tie.Need-returns
 returns c = compare-below (c .before .before .args .a) (c .before .before .args .b) (c .enum-told .given .1)
 
--- src/sweeps.rt:19:1
+-- src/sweeps.rt:22:1
 returns-2 : tie.Need-returns-2
 returns-2 c = compare-same (c .before .before .args .a) (c .before .before .args .b) (c .enum-told2 .given .1)
 
+-- src/sweeps.rt:22:1
+returns-3 : tie.Need-returns-3
+returns-3 c =
+    let start = c .before .before .before .before in
+    let relation = c .before .before .relation in
+    compare-within (start .args .a) (start .args .b) (relation .given .1) (c .minutes-after .ensures)
+
 pub numbers-compare-spec : {M : Type 1} → statement M
-numbers-compare-spec = tie.close (tie.spec enum-told enum-told-2 returns returns-2)
+numbers-compare-spec =
+    tie.close
+    (tie.spec
+    enum-told
+    enum-told-2
+    enum-known-relation
+    minutes-after-requires
+    returns
+    returns-2
+    returns-3)

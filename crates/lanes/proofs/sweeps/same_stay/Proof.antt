@@ -68,7 +68,7 @@ returns c =
     let number2 = c .before .before .before .number2 in
     let drift2 = c .before .before .drift2 in
     let same-stays = c .before .same-stays in
-    sweep-stops _ _ _ (loop-test .taken) (same-stays .ensures ∙ ap₂ (λ (p q : Line). stays (judgeEqual p q)) (line-is (number .result) (drift .result) (number .ensures) (drift .ensures)) (line-is (number2 .result) (drift2 .result) (number2 .ensures) (drift2 .ensures))) (c .if1 .taken)
+    sweep-stops _ _ _ (loop-test .taken) (same-stays .ensures ∙ ap₂ (λ (p q : Line). stays (judgeEqual p q)) (line-is (number .result) (drift .result) (number .ensures .0) (drift .ensures)) (line-is (number2 .result) (drift2 .result) (number2 .ensures .0) (drift2 .ensures))) (c .if1 .taken)
 
 -- src/sweeps.rt:152:9
 add-k : tie.Need-add-k Inv-loop μ-loop
@@ -87,7 +87,7 @@ loop-again c =
     let number2 = c .before .before .before .number2 in
     let drift2 = c .before .before .drift2 in
     let same-stays = c .before .same-stays in
-    (omega arith, sweep-passes _ _ (loop .inv .1) (same-stays .ensures ∙ ap₂ (λ (p q : Line). stays (judgeEqual p q)) (line-is (number .result) (drift .result) (number .ensures) (drift .ensures)) (line-is (number2 .result) (drift2 .result) (number2 .ensures) (drift2 .ensures))) (c .if1 .left))
+    (omega arith, sweep-passes _ _ (loop .inv .1) (same-stays .ensures ∙ ap₂ (λ (p q : Line). stays (judgeEqual p q)) (line-is (number .result) (drift .result) (number .ensures .0) (drift .ensures)) (line-is (number2 .result) (drift2 .result) (number2 .ensures .0) (drift2 .ensures))) (c .if1 .left))
 
 -- src/sweeps.rt:138:1
 returns-2 : tie.Need-returns-2 Inv-loop μ-loop

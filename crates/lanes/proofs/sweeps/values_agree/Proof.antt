@@ -10,38 +10,61 @@ use Rattle.lanes.proofs.sweeps.values_agree.Reads as reads
 use Rattle.lanes.proofs.sweeps.values_agree.Lts as lts
 use Rattle.lanes.proofs.sweeps.less_values.Reads as less-values-reads
 use Rattle.lanes.proofs.sweeps.same_values.Reads as same-values-reads
+use Rattle.lanes.proofs.weeks.within_values.Reads as within-values-reads
 
--- src/sweeps.rt:171:28
+-- src/sweeps.rt:161:28
 enum-told : tie.Need-enum-told
 enum-told c = search needs
 
--- src/sweeps.rt:171:28
+-- src/sweeps.rt:161:28
 less-values-requires : tie.Need-less-values-requires
 less-values-requires c κs = search needs
 
--- src/sweeps.rt:172:27
+-- src/sweeps.rt:162:27
 enum-told-2 : tie.Need-enum-told-2
 enum-told-2 c = search needs
 
--- src/sweeps.rt:172:27
+-- src/sweeps.rt:162:27
 same-values-requires : tie.Need-same-values-requires
 same-values-requires c κs = search needs
 
--- src/sweeps.rt:158:1
+-- src/sweeps.rt:163:26
+enum-known-relation : tie.Need-enum-known-relation
+enum-known-relation c = search needs
+
+-- src/sweeps.rt:163:38
+within-values-requires : tie.Need-within-values-requires
+within-values-requires c κs = search needs
+
+-- src/sweeps.rt:148:1
 returns : tie.Need-returns
 returns c =
     let start = c .before .before .before .before .before in
-    let enum-told = c .before .enum-told in
-    law.values-by (now (start .args .values)) (start .args .x) (start .args .y) (λ (k : ℕ). markIn (now (start .args .table)) (start .args .m + k)) (start .args .count) (enum-told .given .1) (c .less-values .ensures)
+    law.values-by (now (start .args .values)) (start .args .x) (start .args .y) (λ (k : ℕ). markIn (now (start .args .table)) (start .args .m + k)) (start .args .count) (c .before .enum-told .given .1) (c .less-values .ensures)
 
--- src/sweeps.rt:158:1
+-- src/sweeps.rt:148:1
 returns-2 : tie.Need-returns-2
 returns-2 c =
     let start = c .before .before .before .before .before in
-    let enum-told2 = c .before .enum-told2 in
-    law.values-by (now (start .args .values)) (start .args .x) (start .args .y) (λ (k : ℕ). markIn (now (start .args .table)) (start .args .m + k)) (start .args .count) (enum-told2 .given .1) (c .same-values .ensures)
+    law.values-by (now (start .args .values)) (start .args .x) (start .args .y) (λ (k : ℕ). markIn (now (start .args .table)) (start .args .m + k)) (start .args .count) (c .before .enum-told2 .given .1) (c .same-values .ensures)
+
+-- src/sweeps.rt:148:1
+returns-3 : tie.Need-returns-3
+returns-3 c =
+    let start = c .before .before .before .before .before .before in
+    let relation = c .before .before .relation in
+    law.values-by (now (start .args .values)) (start .args .x) (start .args .y) (λ (k : ℕ). markIn (now (start .args .table)) (start .args .m + k)) (start .args .count) (relation .given .1) (c .within-values .ensures)
 
 pub values-agree-spec : {M : Type 1} → statement M
 values-agree-spec =
     tie.close
-    (tie.spec enum-told less-values-requires enum-told-2 same-values-requires returns returns-2)
+    (tie.spec
+    enum-told
+    less-values-requires
+    enum-told-2
+    same-values-requires
+    enum-known-relation
+    within-values-requires
+    returns
+    returns-2
+    returns-3)

@@ -17,7 +17,10 @@ enum-known-view c = search needs
 
 -- src/refusals.rt:71:70
 comparison-of-requires : tie.Need-comparison-of-requires
-comparison-of-requires c κs = search needs
+comparison-of-requires c κs =
+    let start = c .before .before .before .before .before .before .before in
+    let view = c .before .view in
+    (start .args .sizes .channels, law.atom-there (now (start .args .plan)) (now (start .args .table)) (start .pre .0 .fits) (start .args .i) _ (view .given .1) (start .args .n) (start .pre .0 .part-fits))
 
 -- src/refusals.rt:71:29
 verdicts-agree-requires : tie.Need-verdicts-agree-requires

@@ -1,3 +1,4 @@
+-- `rule::operands::name_sound` meets its contract. Assumes nothing.
 use denote.Ref.{now}
 use mathlib.Core.Path.{refl}
 use Rattle.rule.proofs.Padding as law
@@ -7,28 +8,24 @@ use Rattle.rule.proofs.operands.name_sound.Tie as tie
 use Rattle.rule.proofs.operands.name_sound.Reads as reads
 use Rattle.rule.proofs.operands.name_sound.Lts as lts
 use Rattle.fields.proofs.u16_at.Reads as u16-at-reads
-use Rattle.rule.proofs.operands.rest_zero.Reads as rest-zero-reads
 
--- src/operands.rt:54:6
+-- src/operands.rt:63:6
 u16-at-requires : tie.Need-u16-at-requires
 u16-at-requires c κs = search needs
 
--- src/operands.rt:54:55
+-- src/operands.rt:63:55
 add-u16-at : tie.Need-add-u16-at
 add-u16-at c = search needs
 
--- src/operands.rt:54:37
+-- src/operands.rt:63:37
 u16-at-requires-2 : tie.Need-u16-at-requires-2
 u16-at-requires-2 c κs = search needs
 
--- src/operands.rt:54:71
-rest-zero-requires : tie.Need-rest-zero-requires
-rest-zero-requires c κs = search needs
-
--- src/operands.rt:50:1
+-- src/operands.rt:59:1
 returns : tie.Need-returns
-returns c = rw (c .before .before .u16-at .ensures .0, law.more-zero (now (c .before .before .before .before .args .s)) (c .before .before .before .before .args .at) (c .before .before .before .before .pre) (c .before .u16-at2 .ensures .0) (c .rest-zero .ensures)) refl
+returns c =
+    let start = c .before .before .before in
+    rw (c .before .u16-at .ensures .0, law.more-zero (now (start .args .s)) (start .args .at) (start .pre .0) (c .u16-at2 .ensures .0) (start .pre .1)) refl
 
 pub name-sound-spec : {M : Type 1} → statement M
-name-sound-spec =
-    tie.close (tie.spec u16-at-requires add-u16-at u16-at-requires-2 rest-zero-requires returns)
+name-sound-spec = tie.close (tie.spec u16-at-requires add-u16-at u16-at-requires-2 returns)

@@ -1,3 +1,4 @@
+-- `rule::operands::names_sound` meets its contract. Assumes nothing.
 use mathlib.Core.Path.{refl}
 use borrow.Author.Needs.{needs}
 use Rattle.rule.proofs.operands.names_sound.Statement.{statement}
@@ -5,28 +6,22 @@ use Rattle.rule.proofs.operands.names_sound.Tie as tie
 use Rattle.rule.proofs.operands.names_sound.Reads as reads
 use Rattle.rule.proofs.operands.names_sound.Lts as lts
 use Rattle.fields.proofs.u16_at.Reads as u16-at-reads
-use Rattle.rule.proofs.operands.rest_zero.Reads as rest-zero-reads
 
--- src/operands.rt:62:7
+-- src/operands.rt:71:7
 u16-at-requires : tie.Need-u16-at-requires
 u16-at-requires c κs = search needs
 
--- src/operands.rt:62:55
+-- src/operands.rt:71:55
 add-u16-at : tie.Need-add-u16-at
 add-u16-at c = search needs
 
--- src/operands.rt:62:37
+-- src/operands.rt:71:37
 u16-at-requires-2 : tie.Need-u16-at-requires-2
 u16-at-requires-2 c κs = search needs
 
--- src/operands.rt:62:71
-rest-zero-requires : tie.Need-rest-zero-requires
-rest-zero-requires c κs = search needs
-
--- src/operands.rt:58:1
+-- src/operands.rt:67:1
 returns : tie.Need-returns
-returns c = rw (c .before .before .u16-at .ensures .0, c .before .u16-at2 .ensures .0, c .rest-zero .ensures) refl
+returns c = rw (c .before .u16-at .ensures .0, c .u16-at2 .ensures .0, c .before .before .before .pre .1) refl
 
 pub names-sound-spec : {M : Type 1} → statement M
-names-sound-spec =
-    tie.close (tie.spec u16-at-requires add-u16-at u16-at-requires-2 rest-zero-requires returns)
+names-sound-spec = tie.close (tie.spec u16-at-requires add-u16-at u16-at-requires-2 returns)

@@ -1,47 +1,89 @@
+-- `rule::operands::put_atom` meets its contract. Assumes nothing.
 use denote.Ref.{now}
 use mathlib.Core.Path.{sym, ap, _∙_, subst⁻¹}
+use mir.Syntax.{w32}
+use mir.ValLaws.{toZ-ofZ}
 use Rattle.cltlb.specs.declared.View.the-variants.{Atom}
 use Rattle.cltlb.specs.Fits.{atomFits}
 use Rattle.cltlb.proofs.Fits.{less-fits, equal-fits}
-use Rattle.rule.proofs.OperandsWritten.{OperandPut}
+use Rattle.rule.proofs.OperandsWritten.{OperandPut, window-asks, window-put}
 use borrow.Author.Needs.{needs}
 use Rattle.rule.proofs.operands.put_atom.Statement.{statement}
 use Rattle.rule.proofs.operands.put_atom.Tie as tie
 use Rattle.rule.proofs.operands.put_atom.Reads as reads
 use Rattle.rule.proofs.operands.put_atom.Lts as lts
 use Rattle.rule.proofs.operands.put_terms.Reads as put-terms-reads
+use Rattle.rule.proofs.operands.put_window.Reads as put-window-reads
 
--- src/operands.rt:139:20
+-- src/operands.rt:159:20
 enum-known-x : tie.Need-enum-known-x
 enum-known-x c = search needs
 
--- src/operands.rt:139:36
+-- src/operands.rt:159:36
 put-terms-requires : tie.Need-put-terms-requires
-put-terms-requires c κs = let f = less-fits 8 _ _ (sym (ap (atomFits 8) (c .before .before .x .given .1)) ∙ c .before .before .before .before .before .pre .1) in (c .before .before .before .before .before .pre .0, f .0, f .1)
+put-terms-requires c κs =
+    let start = c .before .before .before .before .before in
+    let x = c .before .before .x in
+    let f = less-fits 8 _ _ (sym (ap (atomFits 8) (x .given .1)) ∙ start .pre .1) in (start .pre .0, f .0, f .1)
 
--- src/operands.rt:140:21
+-- src/operands.rt:160:21
 enum-known-x-2 : tie.Need-enum-known-x-2
 enum-known-x-2 c = search needs
 
--- src/operands.rt:140:37
+-- src/operands.rt:160:37
 put-terms-requires-2 : tie.Need-put-terms-requires-2
-put-terms-requires-2 c κs = let f = equal-fits 8 _ _ (sym (ap (atomFits 8) (c .before .before .x2 .given .1)) ∙ c .before .before .before .before .before .pre .1) in (c .before .before .before .before .before .pre .0, f .0, f .1)
+put-terms-requires-2 c κs =
+    let start = c .before .before .before .before .before in
+    let x2 = c .before .before .x2 in
+    let f = equal-fits 8 _ _ (sym (ap (atomFits 8) (x2 .given .1)) ∙ start .pre .1) in (start .pre .0, f .0, f .1)
 
--- src/operands.rt:134:1
+-- src/operands.rt:162:13
+enum-known-x-3 : tie.Need-enum-known-x-3
+enum-known-x-3 c = search needs
+
+-- src/operands.rt:166:14
+put-window-requires : tie.Need-put-window-requires
+put-window-requires c κs =
+    let start = c .before .before .before .before .before in
+    let x3 = c .before .before .x3 in
+    let f = window-asks (x3 .given .1) (toZ-ofZ w32 _ (record { sfits = c .before .known-told3 .given .1 .0 .1 })) 8 (start .pre .1) in (start .pre .0, f .0, f .1)
+
+-- src/operands.rt:154:1
 same-length : tie.Need-same-length
 same-length c = search needs
 
--- src/operands.rt:134:1
+-- src/operands.rt:154:1
 returns : tie.Need-returns
-returns c = subst⁻¹ (OperandPut (now (c .before .before .before .before .before .before .before .before .args .t)) (c .before .before .put-terms .last .0)) (ap Atom (c .before .before .before .before .before .x .given .1)) (c .before .before .put-terms .ensures)
+returns c =
+    let start = c .before .before .before .before .before .before .before .before in
+    let x = c .before .before .before .before .before .x in
+    let put-terms = c .before .before .put-terms in
+    subst⁻¹ (OperandPut (now (start .args .t)) (put-terms .last .0)) (ap Atom (x .given .1)) (put-terms .ensures)
 
--- src/operands.rt:134:1
+-- src/operands.rt:154:1
 same-length-2 : tie.Need-same-length-2
 same-length-2 c = search needs
 
--- src/operands.rt:134:1
+-- src/operands.rt:154:1
 returns-2 : tie.Need-returns-2
-returns-2 c = subst⁻¹ (OperandPut (now (c .before .before .before .before .before .before .before .before .args .t)) (c .before .before .put-terms2 .last .0)) (ap Atom (c .before .before .before .before .before .x2 .given .1)) (c .before .before .put-terms2 .ensures)
+returns-2 c =
+    let start = c .before .before .before .before .before .before .before .before in
+    let x2 = c .before .before .before .before .before .x2 in
+    let put-terms2 = c .before .before .put-terms2 in
+    subst⁻¹ (OperandPut (now (start .args .t)) (put-terms2 .last .0)) (ap Atom (x2 .given .1)) (put-terms2 .ensures)
+
+-- src/operands.rt:154:1
+same-length-3 : tie.Need-same-length-3
+same-length-3 c = search needs
+
+-- src/operands.rt:154:1
+returns-3 : tie.Need-returns-3
+returns-3 c =
+    let start = c .before .before .before .before .before .before .before .before in
+    let x3 = c .before .before .before .before .before .x3 in
+    let known-told3 = c .before .before .before .before .known-told3 in
+    let put-window = c .before .before .put-window in
+    window-put (x3 .given .1) (toZ-ofZ w32 _ (record { sfits = known-told3 .given .1 .0 .1 })) (now (start .args .t)) (put-window .last .0) (put-window .ensures)
 
 pub put-atom-spec : {M : Type 1} → statement M
 put-atom-spec =
@@ -51,7 +93,11 @@ put-atom-spec =
     put-terms-requires
     enum-known-x-2
     put-terms-requires-2
+    enum-known-x-3
+    put-window-requires
     same-length
     returns
     same-length-2
-    returns-2)
+    returns-2
+    same-length-3
+    returns-3)

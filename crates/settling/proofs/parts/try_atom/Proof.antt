@@ -1,3 +1,4 @@
+-- `settling::parts::try_atom` meets its contract. Assumes nothing.
 use native.Mathlib.Omega.{arith}
 use mathlib.Core.Path.{ap}
 use denote.Ref.{now}
@@ -19,7 +20,7 @@ use Rattle.verdict.proofs.rows.comparison_of.Reads as comparison-of-reads
 
 -- src/parts.rt:36:9
 comparison-of-requires : tie.Need-comparison-of-requires
-comparison-of-requires c κs = search needs
+comparison-of-requires c κs = let start = c .before .before in (start .args .sizes .channels, start .pre .4)
 
 -- src/parts.rt:37:9
 laid-sizes-requires : tie.Need-laid-sizes-requires

@@ -1,7 +1,8 @@
+-- `settling::steady::next_passes` meets its contract. Assumes nothing.
 use native.Mathlib.Omega.{arith}
 use denote.Ref.{now}
 use Rattle.fields.proofs.ByteParts.{as-bytes}
-use Rattle.settling.proofs.Steadying.{none-over, part-terms, passed-over}
+use Rattle.settling.proofs.Steadying.{none-over, part-terms, part-atom-fits, passed-over}
 use borrow.Author.Needs.{needs}
 use Rattle.settling.proofs.steady.next_passes.Statement.{statement}
 use Rattle.settling.proofs.steady.next_passes.Tie as tie
@@ -58,7 +59,13 @@ returns-2 c =
 
 -- src/steady.rt:58:31
 comparison-of-requires : tie.Need-comparison-of-requires
-comparison-of-requires c κs = search needs
+comparison-of-requires c κs =
+    let start = c .before .before .before .before .before .before .before .before .before .before in
+    let shared-slice-known2 = c .before .before .before .before .before .before .before .before .shared-slice-known2 in
+    let take = c .before .before .before .before .before .before .before .take in
+    let taken = c .before .before .before .before .before .taken in
+    let view-of = c .before .before .before .view-of in
+    (start .args .sizes .channels, part-atom-fits (now (start .args .rule)) (now (start .args .plan)) (start .pre .0) (as-bytes (now (start .args .plan)) (λ i. omega (arith, shared-slice-known2 .given i))) (start .args .i) (start .pre .1) (take .ensures .isTake) (taken .given .1) (view-of .ensures) (c .before .atom .given .1))
 
 -- src/steady.rt:58:52
 add-steady-after : tie.Need-add-steady-after

@@ -1,6 +1,6 @@
+-- `verdict::rows::atom_at` meets its contract. Assumes nothing.
 use Rattle.verdict.specs.Rows.{atomAt}
 use Rattle.verdict.proofs.Values.{atom-fit}
-use borrow.Author.Needs.{needs}
 use Rattle.verdict.proofs.rows.atom_at.Statement.{statement}
 use Rattle.verdict.proofs.rows.atom_at.Tie as tie
 use Rattle.verdict.proofs.rows.atom_at.Reads as reads
@@ -10,11 +10,13 @@ use Rattle.verdict.proofs.rows.test_at.Reads as test-at-reads
 
 -- src/rows.rt:145:26
 comparison-of-requires : tie.Need-comparison-of-requires
-comparison-of-requires c κs = search needs
+comparison-of-requires c κs = (c .before .args .sizes .channels, c .before .pre .1)
 
 -- src/rows.rt:145:5
 test-at-requires : tie.Need-test-at-requires
-test-at-requires c κs = (c .before .before .pre .0, atom-fit (c .before .before .args .sizes) (c .before .before .args .atom) (c .before .before .pre .1) (c .comparison-of .ensures), c .before .before .pre .2)
+test-at-requires c κs =
+    let start = c .before .before in
+    (start .pre .0, atom-fit (start .args .sizes) (start .args .atom) (start .pre .1) (c .comparison-of .ensures), start .pre .2)
 
 -- src/rows.rt:141:1
 returns : tie.Need-returns

@@ -1,9 +1,10 @@
-// The marks of a comparison on all rows, by its verdicts, in a table of `n` parts. `i` is the part's number.
+// The marks of an atom on all rows, by its verdicts, in a table of `n` parts. `i` is the part's number.
 ghost use mathlib.Core.Path.{_≡_};
 ghost use mathlib.Core.Bool.{true};
 ghost use Prim.Native.Nat.{_<_};
 ghost use Rattle.cltlb.specs.Fits.{atomFits};
 ghost use Rattle.plan.specs.inner.Sizes.{allRows, Fitting};
+ghost use Rattle.verdict.specs.Comparisons.{comparisonOf};
 ghost use Rattle.verdict.specs.Rows.{atomAt};
 ghost use Rattle.table.specs.inner.Tables.{Sized};
 ghost use Rattle.marks.specs.Parts.{steadyOutcome};
@@ -15,6 +16,7 @@ use refusal::Outcome;
 use refusal::Refusal;
 use table::bytes::place;
 use table::fills::put_mark;
+use verdict::Comparison;
 use verdict::Verdict;
 use verdict::rows::comparison_of;
 use verdict::rows::judge_comparison;
@@ -29,7 +31,34 @@ fn is_true(verdict: Verdict) -> bool
     }
 }
 
-// The marks of a comparison, or the lowest cycle row on which it changes.
+// The marks of the comparison that an atom is, or the lowest cycle row on which it changes.
+fn label_rows(
+    plan: &[u8],
+    table: &mut [u8],
+    n: usize,
+    sizes: Sizes,
+    i: usize,
+    atom: Atom,
+    comparison: Comparison,
+) -> Outcome
+    requires { ⌜ (Fitting (now plan) sizes) × (Sized (now table) n (allRows sizes)) × (i < n) × (atomFits (sizes .channels) atom ≡ true) × (comparison ≡ comparisonOf atom) ⌝ }
+    ensures { λ r. ⌜ (r ≡ steadyOutcome (now (plan .entry)) atom i) × (RowsLabelled (now (table .entry)) (now (table .exit)) (allRows sizes) i r (atomAt (now (plan .entry)) atom)) ⌝ }
+{
+    let w = sizes.start + sizes.cycle;
+    let own = place(w, i, 0);
+    let mut row = 0;
+    while row < w {
+        let verdict = judge_comparison(plan, sizes, comparison, row);
+        if is_changes(verdict) {
+            return Outcome::Refused(Refusal::Closing { part: i, row: row });
+        }
+        put_mark(table, own + row, is_true(verdict));
+        row += 1;
+    }
+    Outcome::Clear
+}
+
+// The marks of an atom, or the lowest cycle row on which it changes.
 pub fn label_atom(
     plan: &[u8],
     table: &mut [u8],
@@ -41,17 +70,5 @@ pub fn label_atom(
     requires { ⌜ (Fitting (now plan) sizes) × (Sized (now table) n (allRows sizes)) × (i < n) × (atomFits (sizes .channels) atom ≡ true) ⌝ }
     ensures { λ r. ⌜ (r ≡ steadyOutcome (now (plan .entry)) atom i) × (RowsLabelled (now (table .entry)) (now (table .exit)) (allRows sizes) i r (atomAt (now (plan .entry)) atom)) ⌝ }
 {
-    let w = sizes.start + sizes.cycle;
-    let own = place(w, i, 0);
-    let comparison = comparison_of(atom);
-    let mut row = 0;
-    while row < w {
-        let verdict = judge_comparison(plan, sizes, comparison, row);
-        if is_changes(verdict) {
-            return Outcome::Refused(Refusal::Closing { part: i, row: row });
-        }
-        put_mark(table, own + row, is_true(verdict));
-        row += 1;
-    }
-    Outcome::Clear
+    label_rows(plan, table, n, sizes, i, atom, comparison_of(atom))
 }
