@@ -5,26 +5,29 @@
  * The check is timed beside C written for speed (plain_check.c, plain_sweeps.c), the
  * maker beside plain C (plain_make.c), and the settler beside both: C written for speed
  * (fast_settle.c), and plain C that begins anew with each number of passes
- * (plain_settle.c). All tables are accepted ones: acceptance is the slowest answer, as
- * nothing is left out. The makers make that same table. The settlers have cases of their
- * own: two of full size that settle only when nearly 256 rows are laid out, one by its
- * last part and one by each part in turn, and a small one.
+ * (plain_settle.c). On windows the check is timed beside a second C as well, the first one
+ * but for its windows: plain C that goes through their rows one by one, with a remainder for
+ * each window and row, as the exported check has too (plain_window_rows.c), where C written
+ * for speed lays out the remainders of a channel once for all its windows. All tables are accepted ones:
+ * acceptance is the slowest answer, as nothing is left out. The makers make that same
+ * table. The settlers have cases of their own: of full size, that settle only when nearly
+ * 256 rows are laid out, two by their last part and one by each part in turn, and a small
+ * one.
  *
- * The first figures are of eight cases of full size, 64 parts on 256 rows of 8
- * channels, the last of them with 4 lead-in rows. The others show how the time of the
- * check grows with the rows and with the parts, on rules of one mix throughout: where
- * it grows as parts times rows and no faster, the time for each part and row does not
- * rise. At small sizes it is larger by what is done once for each part or once for the
- * plan.
+ * The first figures are of nine cases of full size, 64 parts on 256 rows of 8 channels,
+ * one of them with 4 lead-in rows. The others show how the time of the check grows with
+ * the rows and with the parts, on rules of one mix throughout: where it grows as parts
+ * times rows and no faster, the time for each part and row does not rise. At small sizes
+ * it is larger by what is done once for each part or once for the plan.
  *
  * The two functions of a pair are called on the same bytes, in turn, many times in
  * each round, and all pairs that are shown together have their turn in each round.
  * The times shown are the medians of the rounds. The ratio is the median of the
  * rounds' ratios: what slows the machine down for a while slows both, and leaves
- * their ratio as it is. Before that both checks must give the answer of the second
+ * their ratio as it is. Before that the three checks must give the answer of the second
  * evaluator, and they must have accepted; both makers must give that answer and make
  * the second evaluator's table, byte for byte; and so with the three settlers' answers
- * and all bytes of both buffers. Both checks must also give the second evaluator's answer
+ * and all bytes of both buffers. The checks must also give the second evaluator's answer
  * on tables that are refused, which are not timed: of each kind that can fail to close, a
  * part that does not and that has a wrong mark too.
  *
@@ -51,7 +54,7 @@ enum { ROUNDS = 251, ROUND_NS = 500000 };
 static struct sheet made;
 static uint8_t laid_out[ENDLESS_RUN_LAID_OUT_LENGTH], scratch[ENDLESS_RUN_SETTLE_SCRATCH_LENGTH];
 
-/* ---- The seven functions ---- */
+/* ---- The eight functions ---- */
 
 typedef uint64_t work(const struct sheets *s);
 
@@ -59,6 +62,12 @@ static uint64_t check_in_c(const struct sheets *s)
 {
     return plain_check(s->rule.at, s->rule.len, s->plan.at, s->plan.len, s->marks.at,
                        s->marks.len);
+}
+
+static uint64_t check_in_c_by_rows(const struct sheets *s)
+{
+    return plain_check_by_rows(s->rule.at, s->rule.len, s->plan.at, s->plan.len, s->marks.at,
+                               s->marks.len);
 }
 
 static uint64_t check(const struct sheets *s)
@@ -191,7 +200,14 @@ static uint64_t answer_if_made(work *maker, const struct sheets *s)
     return memcmp(made.at, s->marks.at, s->marks.len) == 0 ? answer : UINT64_MAX;
 }
 
-/* Both checks accept the table, and both makers make it, with the verdict of the
+static bool checks_give(uint64_t due, const char *name, const struct sheets *s)
+{
+    return answer_is(due, name, "check, fast C", check_in_c(s)) &&
+           answer_is(due, name, "check, row by row C", check_in_c_by_rows(s)) &&
+           answer_is(due, name, "check, exported", check(s));
+}
+
+/* All checks accept the table, and both makers make it, with the verdict of the
    second evaluator. */
 static bool all_agree(const char *name, const struct sheets *s)
 {
@@ -200,14 +216,13 @@ static bool all_agree(const char *name, const struct sheets *s)
         printf("%s: refused\n", name);
         return false;
     }
-    return answer_is(due, name, "check, fast C", check_in_c(s)) &&
-           answer_is(due, name, "check, exported", check(s)) &&
+    return checks_give(due, name, s) &&
            answer_is(due, name, "make, plain C", answer_if_made(make_in_c, s)) &&
            answer_is(due, name, "make, exported", answer_if_made(make, s));
 }
 
-/* Both checks refuse the table with 10, as the second evaluator does. */
-static bool both_refuse(enum kind kind)
+/* All checks refuse the table with 10, as the second evaluator does. */
+static bool all_refuse(enum kind kind)
 {
     static struct sheets s;
     char name[64];
@@ -218,16 +233,16 @@ static bool both_refuse(enum kind kind)
         printf("%s: not refused with 10\n", name);
         return false;
     }
-    return answer_is(due, name, "check, fast C", check_in_c(&s)) &&
-           answer_is(due, name, "check, exported", check(&s));
+    return checks_give(due, name, &s);
 }
 
 static bool refusals_agree(void)
 {
-    static const enum kind kinds[] = { LESS, EQUAL, YESTERDAY, WEAK_YESTERDAY, SINCE, TRIGGER };
+    static const enum kind kinds[] = { LESS,           EQUAL, WINDOW, YESTERDAY,
+                                       WEAK_YESTERDAY, SINCE, TRIGGER };
     bool right = true;
     for (size_t i = 0; i < sizeof kinds / sizeof kinds[0]; i++)
-        right &= both_refuse(kinds[i]);
+        right &= all_refuse(kinds[i]);
     return right;
 }
 
@@ -313,7 +328,26 @@ static bool run_cases(void)
     right &= run_case("f  255 start rows", many_start_rows);
     right &= run_case("g  all kinds", all_kinds);
     right &= run_case("h  all shifts, 4 lead-in rows", after_lead_in);
+    right &= run_case("m  windows of drifting clocks", drifting_clocks);
     return right;
+}
+
+/* The check of case m beside the second C. */
+static bool run_window_rows(void)
+{
+    static struct sheets sheets;
+    static struct pair pair;
+    const char *name = "m  windows of drifting clocks";
+    build_case(&sheets, drifting_clocks, 64, 256);
+    if (!all_agree(name, &sheets))
+        return false;
+    start_pair(&pair, &sheets, check_in_c_by_rows, check);
+    time_pairs(&pair, 1);
+    printf("\nWindows of drifting clocks: check, against C that goes through the rows\n");
+    printf("%-33s %12s %9s %7s\n%-36s", "", "row by row C", "exported", "ratio", name);
+    print_times(&pair);
+    printf("\n");
+    return true;
 }
 
 /* The exported settler is timed in both pairs. The time shown is that beside fast C. */
@@ -345,6 +379,7 @@ static bool run_late_cases(void)
     right &= run_late_case("j  64 parts, Y of Y of .., 60 deep", yesterdays_deep);
     right &= run_late_case("k  64 comparisons, crossing in turn", crossing_in_turn);
     right &= run_late_case("l  20 parts of all kinds, 16 rows", settling_soon);
+    right &= run_late_case("n  windows, the last part crosses", clocks_late);
     return right;
 }
 
@@ -391,6 +426,7 @@ int main(void)
 {
     bool right = refusals_agree();
     right &= run_cases();
+    right &= run_window_rows();
     right &= run_late_cases();
     right &= run_growth("Comparisons with all shifts", mixed_comparisons);
     right &= run_growth("Comparisons and operators in turn", mixed_parts);

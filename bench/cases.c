@@ -68,6 +68,34 @@ static void passing_plan(int rows, int start)
         }
 }
 
+/* Minutes of the week, each channel with one drift on all but a few rows: none, of whole
+   weeks, or of some hours or days. What such a drift shares with the week is in apart;
+   there every minute lies in the first half of a stretch of so many. */
+static const int32_t clock_drifts[CHANNELS] = { 0, WEEK, 1440, -5040, -2 * WEEK, 360, 2880, 0 };
+static const int apart[CHANNELS] = { WEEK, WEEK, 1440, 5040, WEEK, 360, 1440, WEEK };
+
+static int32_t some_minute(int channel)
+{
+    int half = apart[channel] == WEEK ? WEEK : apart[channel] / 2;
+    return apart[channel] * below(WEEK / apart[channel]) + below(half) + WEEK * (below(100) - 50);
+}
+
+/* The start rows are as the last rows of the cycle, for what looks back. */
+static void clock_plan(int rows, int start)
+{
+    start_plan(&plan, CHANNELS, start, rows - start);
+    for (int row = start; row < rows; row++)
+        for (int channel = 0; channel < CHANNELS; channel++) {
+            int before = row - (rows - start);
+            int32_t minute = some_minute(channel);
+            write_reading(&plan, row, channel, minute);
+            bool other = (row + 11 * channel) % 97 == 0;
+            write_drift(&plan, row, channel, other ? WEEK : clock_drifts[channel]);
+            if (before >= 0)
+                write_reading(&plan, before, channel, minute);
+        }
+}
+
 /* ---- Parts ---- */
 
 static void begin_rule(int parts)
@@ -97,6 +125,19 @@ static void write_two_channels(int part, enum kind kind, int left_shift, int rig
 static void write_shifted(int part, enum kind kind)
 {
     write_two_channels(part, kind, part % 9 - 4, part / 9 % 9 - 4);
+}
+
+/* A window, or all but it. On a channel whose drift shares less than the week with it, the
+   window lies in the second half of a stretch. */
+static void write_clock(int part, int channel)
+{
+    int half = apart[channel] / 2, stretches = WEEK / apart[channel];
+    int from = apart[channel] == WEEK ? below(WEEK) : apart[channel] * below(stretches) + half;
+    int to = (from + 1 + below(half)) % WEEK;
+    struct formula f = { .kind = WINDOW, .left = reading(channel, part % 9 - 4) };
+    f.from = part % 2 ? from : to;
+    f.to = part % 2 ? to : from;
+    try_formula(part, f);
 }
 
 /* An operator over two lower parts that closes: of this kind if such are found. */
@@ -194,6 +235,17 @@ void after_lead_in(int parts, int rows)
         write_shifted(part, part % 2 ? EQUAL : LESS);
 }
 
+void drifting_clocks(int parts, int rows)
+{
+    clock_plan(rows, 16);
+    begin_rule(parts);
+    for (int part = 0; part < parts; part++)
+        if (part % 8 != 7)
+            write_clock(part, (part + part / 8) % CHANNELS);
+        else
+            write_closing_operator(part, (enum kind)(NOT + part / 8 % 10));
+}
+
 /* The shifts of the two sides in another order: nine parts have all of each, and so
    have nine of every other part. */
 static void write_mixed_shifts(int part, enum kind kind)
@@ -238,7 +290,7 @@ void build_case(struct sheets *sheets, builder *build, int parts, int rows)
 void build_open_case(struct sheets *sheets, enum kind kind)
 {
     enum { PARTS = 3, START = 16, ROWS = 256, RISING = 200 };
-    struct formula open = { .kind = kind, .a = 0, .b = 1 };
+    struct formula open = { .kind = kind, .a = 0, .b = 1, .from = 5, .to = 6 };
     open.left = reading(2, 0);
     open.right = constant(5);
     start_plan(&plan, CHANNELS, START, ROWS - START);
@@ -275,6 +327,22 @@ void crossing_late(void)
         } else {
             write_closing_operator(part, (enum kind)(NOT + part / 2 % 10));
         }
+    write_comparison(&rule, PARTS - 1, LESS, reading(RISING, 0), constant(LIMIT));
+}
+
+/* The same with windows. The channel that rises is read by the last part alone. */
+void clocks_late(void)
+{
+    enum { PARTS = 64, START = 4, RISING = CHANNELS - 1, LIMIT = 250 };
+    clock_plan(START + 1, START);
+    write_reading(&plan, START, RISING, 0);
+    write_drift(&plan, START, RISING, 1);
+    begin_rule(PARTS);
+    for (int part = 0; part < PARTS - 1; part++)
+        if (part < 8 || part % 2 == 0)
+            write_clock(part, part % RISING);
+        else
+            write_closing_operator(part, (enum kind)(NOT + part / 2 % 10));
     write_comparison(&rule, PARTS - 1, LESS, reading(RISING, 0), constant(LIMIT));
 }
 

@@ -6,14 +6,15 @@
  * right. A part that closes does so with more passes too, so the parts are gone through
  * once, the lowest first: one that is open has passes laid out, one by one, until it
  * closes. The parts below go on as their last cycle, and are marked on the new rows when
- * they are next read. A comparison is marked once it closes. The marks stand in the
- * scratch. Nothing of it is proved. It is the measure in bench.c.
+ * they are next read. An atom is marked once it closes. The marks stand in the scratch.
+ * Nothing of it is proved. It is the measure in bench.c.
  */
 #include "fast_settle.h"
 
 #include "plain.h"
 #include "plain_layout.h"
 #include "plain_operators.h"
+#include "plain_windows.h"
 
 enum { MOST_PARTS = 64 };
 
@@ -150,6 +151,47 @@ static bool settle_comparison(struct search *s, int kind, const uint8_t *operand
     return true;
 }
 
+/* ---- Windows ---- */
+
+/* Lay out passes until no later pass of a cycle row has its reading before row P. What
+   then comes and goes does so for ever. */
+static bool settle_window_row(struct search *s, const struct window *w, struct turn *turn, int row)
+{
+    const struct plan *plan = s->plan;
+    int lines_from = plan->start + reach_of(w);
+    int position = row + s->passes * plan->cycle;
+    for (; position < lines_from; position += plan->cycle) {
+        if (judge_early_window(plan, w, position) != CHANGES)
+            return true;
+        if (!lay_out_pass(s))
+            return false;
+    }
+    struct line line = line_at(plan, &w->term, position);
+    turn_by(w, turn, (int32_t)line.step);
+    return judge_turn(w, turn, (int32_t)(line.number % WEEK)) != CHANGES;
+}
+
+/* From position P + back on each is as it is a pass before. */
+static void mark_window(const struct search *s, const struct window *w, uint8_t *m)
+{
+    int cycle = s->plan->cycle, once = s->plan->start + reach_of(w) + cycle, row = 0;
+    for (; row < once && row < s->rows; row++)
+        m[row] = window_at(s->plan, w, row);
+    for (; row < s->rows; row++)
+        m[row] = m[row - cycle];
+}
+
+static bool settle_window(struct search *s, const uint8_t *operand, uint8_t *m)
+{
+    struct window w = get_window(operand);
+    struct turn turn = no_turn(&w);
+    for (int row = s->plan->start; row < s->plan->rows; row++)
+        if (!settle_window_row(s, &w, &turn, row))
+            return false;
+    mark_window(s, &w, m);
+    return true;
+}
+
 /* ---- Operators ---- */
 
 /* The marks of a part that closes, on all rows there are now. */
@@ -194,9 +236,10 @@ static bool settle_parts(struct search *s, const uint8_t *rule)
     const uint8_t *kinds = rule + 4, *operands = kinds + parts;
     for (size_t i = 0; i < parts; i++) {
         uint8_t *m = s->marks + MOST_ROWS * i;
-        bool settled = is_comparison(kinds[i])
-                           ? settle_comparison(s, kinds[i], operands + 12 * i, m)
-                           : settle_operator(s, kinds[i], operands + 12 * i, m);
+        const uint8_t *operand = operands + 12 * i;
+        bool settled = is_comparison(kinds[i]) ? settle_comparison(s, kinds[i], operand, m)
+                       : kinds[i] == WINDOW    ? settle_window(s, operand, m)
+                                               : settle_operator(s, kinds[i], operand, m);
         if (!settled)
             return false;
         s->marked[i] = s->rows;

@@ -1,6 +1,6 @@
 /*
  * plain.h: what the check, the maker and the settlers in C share: fields, refusals 1
- * to 6, and comparisons row by row.
+ * to 6, and comparisons row by row. Windows are in plain_windows.h.
  *
  * The lead-in rows are rows -L to -1, as are their positions: both arrays of a plan
  * are looked at from row 0 on, and the lead-in rows lie before.
@@ -21,9 +21,11 @@
 #include <stdint.h>
 
 enum {
-    LESS = 1, EQUAL, NOT, AND, OR, NEXT, UNTIL, RELEASE, YESTERDAY, WEAK_YESTERDAY, SINCE, TRIGGER
+    LESS = 1, EQUAL, NOT, AND, OR, NEXT, UNTIL, RELEASE, YESTERDAY, WEAK_YESTERDAY, SINCE,
+    TRIGGER, WINDOW
 };
 enum { MOST_CHANNELS = 8, MOST_ROWS = 256, MOST_LEAD = 4, MOST_SHIFT = 4, NO_WITNESS = 65535 };
+enum { WEEK = 10080 }; /* minutes */
 enum { ALWAYS_FALSE, ALWAYS_TRUE, CHANGES };
 
 struct term {
@@ -71,6 +73,11 @@ static inline bool is_comparison(int kind)
     return kind == LESS || kind == EQUAL;
 }
 
+static inline bool is_atom(int kind)
+{
+    return is_comparison(kind) || kind == WINDOW;
+}
+
 static inline bool is_unary(int kind)
 {
     return kind == NOT || kind == NEXT || kind == YESTERDAY || kind == WEAK_YESTERDAY;
@@ -83,10 +90,19 @@ static inline bool term_is_right(const uint8_t *at, unsigned channels)
     return at[0] == 1 && at[1] <= 8 && (uint32_t)get32(at + 2) < channels;
 }
 
+static inline bool window_is_right(const uint8_t *at, unsigned channels)
+{
+    unsigned from = get16(at + 6), to = get16(at + 8);
+    return at[0] == 1 && term_is_right(at, channels) && from < WEEK && to < WEEK && from != to &&
+           get16(at + 10) == 0;
+}
+
 static inline bool operand_is_right(int kind, const uint8_t *at, unsigned user, unsigned channels)
 {
     if (is_comparison(kind))
         return term_is_right(at, channels) && term_is_right(at + 6, channels);
+    if (kind == WINDOW)
+        return window_is_right(at, channels);
     /* Where one part is named, the second field is padding too. */
     uint32_t padding = (uint32_t)get32(at + 4) | (uint32_t)get32(at + 8);
     return get16(at) < user && get16(at + 2) < (is_unary(kind) ? 1 : user) && padding == 0;
@@ -101,7 +117,7 @@ static inline uint64_t check_rule(const uint8_t *rule, size_t len)
         return refuse(1, 0, 0);
     const uint8_t *kinds = rule + 4, *operands = kinds + parts;
     for (unsigned i = 0; i < parts; i++)
-        if (kinds[i] < 1 || kinds[i] > 12)
+        if (kinds[i] < 1 || kinds[i] > WINDOW)
             return refuse(2, i, 0);
     for (unsigned i = 0; i < parts; i++)
         if (!operand_is_right(kinds[i], operands + 12 * i, i, channels))

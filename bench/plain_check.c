@@ -4,13 +4,17 @@
  * A part is first held against its marks as a whole, by the sweeps of
  * plain_sweeps.c. Only where they say no are its rows gone through one by one: first
  * whether it closes by its truth, whatever its marks, then for the lowest mark that is
- * wrong. Nothing of it is proved. It is the measure in bench.c.
+ * wrong. A second check differs in its windows alone: they have no sweep, and are held
+ * against their marks row by row (plain_window_rows.c). Nothing of it is proved. It is the
+ * measure in bench.c.
  */
 #include "plain_check.h"
 
 #include "plain.h"
 #include "plain_operators.h"
 #include "plain_sweeps.h"
+#include "plain_window_rows.h"
+#include "plain_windows.h"
 
 /* ---- Comparisons, row by row ---- */
 
@@ -33,6 +37,30 @@ static uint64_t search_comparison(const struct plan *plan, int kind, const struc
             return refuse(10, part, (size_t)row);
     for (int row = 0; row < plan->rows; row++)
         if (m[row] != truth_at(plan, kind, left, right, row))
+            return refuse(9, part, (size_t)row);
+    return 0;
+}
+
+/* ---- Windows, row by row ---- */
+
+static int judge_window_row(const struct plan *plan, const struct window *w, int row)
+{
+    if (row < plan->start)
+        return window_at(plan, w, row);
+    if (row < plan->start + reach_of(w))
+        return judge_early_window(plan, w, row);
+    return judge_window_line(w, line_at(plan, &w->term, row));
+}
+
+/* Refusals 10 and 9 for a window. */
+static uint64_t search_window(const struct plan *plan, const struct window *w, const uint8_t *m,
+                              size_t part)
+{
+    for (int row = plan->start; row < plan->rows; row++)
+        if (judge_window_row(plan, w, row) == CHANGES)
+            return refuse(10, part, (size_t)row);
+    for (int row = 0; row < plan->rows; row++)
+        if (m[row] != window_at(plan, w, row))
             return refuse(9, part, (size_t)row);
     return 0;
 }
@@ -112,6 +140,7 @@ static uint64_t check_mark_bytes(const uint8_t *marks, size_t parts, size_t rows
 struct part {
     int kind;
     struct term left, right;
+    struct window window;
     const uint8_t *m, *a, *b;
     unsigned witness;
 };
@@ -125,6 +154,8 @@ static struct part get_part(const uint8_t *rule, const uint8_t *marks, size_t ro
     if (is_comparison(part.kind)) {
         part.left = get_term(operand);
         part.right = get_term(operand + 6);
+    } else if (part.kind == WINDOW) {
+        part.window = get_window(operand);
     } else {
         /* Where one part is named the second field is 0, and b is not used. */
         part.a = marks + get16(operand) * rows;
@@ -133,12 +164,19 @@ static struct part get_part(const uint8_t *rule, const uint8_t *marks, size_t ro
     return part;
 }
 
-/* No refusal 10 or 9, by the sweeps, and no refusal 11. */
-static bool part_is_clear(struct lanes *lanes, const struct part *part)
+/* How windows are held against their marks. */
+enum windows { SWEPT, ROW_BY_ROW };
+
+/* No refusal 10 or 9, by the sweeps or by the rows of a window, and no refusal 11. */
+static bool part_is_clear(struct lanes *lanes, enum windows windows, const struct part *part)
 {
     if (is_comparison(part->kind))
         return part->witness == NO_WITNESS &&
                comparison_is_clear(lanes, part->kind, &part->left, &part->right, part->m);
+    if (part->kind == WINDOW)
+        return part->witness == NO_WITNESS &&
+               (windows == SWEPT ? window_is_clear(lanes, &part->window, part->m)
+                                 : window_rows_are_clear(lanes->plan, &part->window, part->m));
     return operator_is_clear(lanes->plan, part->kind, part->m, part->a, part->b) &&
            witness_is_right(lanes->plan, part->kind, part->witness, part->m, part->b);
 }
@@ -149,6 +187,8 @@ static uint64_t search_part(const struct plan *plan, const struct part *part, si
     uint64_t refused =
         is_comparison(part->kind)
             ? search_comparison(plan, part->kind, &part->left, &part->right, part->m, number)
+        : part->kind == WINDOW
+            ? search_window(plan, &part->window, part->m, number)
         : is_past(part->kind)
             ? search_past(plan, part->kind, part->m, part->a, part->b, number)
             : search_closed(plan, part->kind, part->m, part->a, part->b, number);
@@ -160,7 +200,8 @@ static uint64_t search_part(const struct plan *plan, const struct part *part, si
 /* Refusals 8 to 11. A part that is clear over parts with marks of 0 and 1 alone has
    no other marks either: so the mark bytes need to be looked at for refusal 8 only
    when a part is met that is not clear. */
-static uint64_t check_parts(const struct plan *plan, const uint8_t *rule, const uint8_t *marks)
+static uint64_t check_parts(const struct plan *plan, const uint8_t *rule, const uint8_t *marks,
+                            enum windows windows)
 {
     struct lanes lanes;
     size_t parts = get16(rule), rows = (size_t)plan->rows;
@@ -168,7 +209,7 @@ static uint64_t check_parts(const struct plan *plan, const uint8_t *rule, const 
     start_lanes(&lanes, plan);
     for (size_t i = 0; i < parts; i++) {
         struct part part = get_part(rule, marks, rows, i);
-        if (part_is_clear(&lanes, &part))
+        if (part_is_clear(&lanes, windows, &part))
             continue;
         uint64_t refused = bytes_are_marks ? 0 : check_mark_bytes(marks, parts, rows);
         if (!refused)
@@ -182,8 +223,8 @@ static uint64_t check_parts(const struct plan *plan, const uint8_t *rule, const 
 
 /* ---- Check and judge ---- */
 
-uint64_t plain_check(const uint8_t *rule, size_t rule_len, const uint8_t *plan, size_t plan_len,
-                     const uint8_t *marks, size_t marks_len)
+static uint64_t check(const uint8_t *rule, size_t rule_len, const uint8_t *plan, size_t plan_len,
+                      const uint8_t *marks, size_t marks_len, enum windows windows)
 {
     struct plan p;
     uint64_t refused = check_inputs(rule, rule_len, plan, plan_len, &p);
@@ -194,8 +235,20 @@ uint64_t plain_check(const uint8_t *rule, size_t rule_len, const uint8_t *plan, 
     if (marks_len < 4 || get16(marks) != parts || get16(marks + 2) != rows ||
         marks_len != 4 + parts * rows + 2 * parts)
         return refuse(7, 0, 0);
-    refused = check_parts(&p, rule, marks + 4);
+    refused = check_parts(&p, rule, marks + 4, windows);
     return refused ? refused : marks[4 + (parts - 1) * rows];
+}
+
+uint64_t plain_check(const uint8_t *rule, size_t rule_len, const uint8_t *plan, size_t plan_len,
+                     const uint8_t *marks, size_t marks_len)
+{
+    return check(rule, rule_len, plan, plan_len, marks, marks_len, SWEPT);
+}
+
+uint64_t plain_check_by_rows(const uint8_t *rule, size_t rule_len, const uint8_t *plan,
+                             size_t plan_len, const uint8_t *marks, size_t marks_len)
+{
+    return check(rule, rule_len, plan, plan_len, marks, marks_len, ROW_BY_ROW);
 }
 
 uint64_t plain_judge(const uint8_t *rule, size_t rule_len, const uint8_t *plan, size_t plan_len,
@@ -206,9 +259,13 @@ uint64_t plain_judge(const uint8_t *rule, size_t rule_len, const uint8_t *plan, 
     if (refused)
         return refused;
     size_t parts = get16(rule);
-    if (part >= parts || row >= (uint64_t)p.rows || !is_comparison(rule[4 + part]))
+    if (part >= parts || row >= (uint64_t)p.rows || !is_atom(rule[4 + part]))
         return refuse(12, 0, 0);
     const uint8_t *operand = rule + 4 + parts + 12 * part;
+    if (rule[4 + part] == WINDOW) {
+        struct window w = get_window(operand);
+        return (uint64_t)judge_window_row(&p, &w, (int)row);
+    }
     struct term left = get_term(operand), right = get_term(operand + 6);
     return (uint64_t)judge_row(&p, rule[4 + part], &left, &right, (int)row);
 }

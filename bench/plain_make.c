@@ -11,6 +11,7 @@
 
 #include "plain.h"
 #include "plain_operators.h"
+#include "plain_windows.h"
 
 /* ---- Comparisons ---- */
 
@@ -54,6 +55,37 @@ static int make_comparison(const struct plan *plan, int kind, const uint8_t *ope
     return plan->rows;
 }
 
+/* ---- Windows ---- */
+
+/* The marks of a window. Gives the lowest cycle row on which it changes; W if there is
+   none. From row P + back on what is judged is the mark too, and by g a reading is on
+   every pass what it is on its row. */
+static int make_window(const struct plan *plan, const uint8_t *operand, uint8_t *m)
+{
+    struct window w = get_window(operand);
+    struct turn turn = no_turn(&w);
+    int row = 0, early = plan->start + reach_of(&w);
+    for (; row < plan->start; row++)
+        m[row] = window_at(plan, &w, row);
+    for (; row < early && row < plan->rows; row++) {
+        int judged = judge_early_window(plan, &w, row);
+        if (judged == CHANGES)
+            return row;
+        m[row] = (uint8_t)judged;
+    }
+    for (int read = row + w.term.shift; row < plan->rows; row++, read++) {
+        while (read >= plan->rows)
+            read -= plan->cycle;
+        ptrdiff_t at = cell_of(plan, read, w.term.channel);
+        turn_by(&w, &turn, get32(plan->drifts + at));
+        int judged = judge_turn(&w, &turn, get32(plan->readings + at));
+        if (judged == CHANGES)
+            return row;
+        m[row] = (uint8_t)judged;
+    }
+    return plan->rows;
+}
+
 /* ---- Witnesses ---- */
 
 /* The lowest cycle row that serves, or none. */
@@ -90,6 +122,8 @@ uint64_t plain_make(const uint8_t *rule, size_t rule_len, const uint8_t *plan, s
         int open;
         if (is_comparison(kinds[i])) {
             open = make_comparison(&p, kinds[i], operand, m);
+        } else if (kinds[i] == WINDOW) {
+            open = make_window(&p, operand, m);
         } else {
             /* Of a part that names one the second field is 0: b is not used. */
             const uint8_t *a = cells + get16(operand) * rows;

@@ -80,6 +80,7 @@ static inline void make_yesterday(uint8_t at_0, uint8_t *m, const uint8_t *a, in
     memcpy(m + first + 1, a + first, (size_t)(rows - first) - 1);
 }
 
+/* Of an operator. */
 static inline bool is_past(int kind)
 {
     return kind >= YESTERDAY;

@@ -13,6 +13,7 @@
 #include "plain.h"
 #include "plain_layout.h"
 #include "plain_operators.h"
+#include "plain_windows.h"
 
 /* The plan with some passes laid out. */
 struct layout {
@@ -84,6 +85,42 @@ static bool make_comparison(const struct layout *layout, int kind, const uint8_t
     return true;
 }
 
+/* ---- Windows ---- */
+
+/* The marks of a window. Gives whether it closes. From position P + back on, of the plan
+   as it is, what is judged is the mark too, and by g a reading is on every pass what it is
+   on its row. */
+static bool make_window(const struct layout *layout, const uint8_t *operand, uint8_t *m)
+{
+    const struct plan *plan = layout->plan;
+    struct window w = get_window(operand);
+    struct turn turn = no_turn(&w);
+    struct line lines[MOST_ROWS];
+    int early = plan->start + reach_of(&w), seen = first_in_sight(plan, &w), row = 0;
+    for (; row < seen && row < layout->start; row++)
+        m[row] = 0;
+    get_lines(plan, &w.term, row, layout->start, lines);
+    for (; row < layout->start; row++)
+        m[row] = is_inside(&w, lines[row].number);
+    for (; row < early && row < layout->rows; row++) {
+        int judged = judge_early_window(plan, &w, row);
+        if (judged == CHANGES)
+            return false;
+        m[row] = (uint8_t)judged;
+    }
+    for (int read = row + w.term.shift; row < layout->rows; row++, read++) {
+        while (read >= plan->rows)
+            read -= plan->cycle;
+        ptrdiff_t at = cell_of(plan, read, w.term.channel);
+        turn_by(&w, &turn, get32(plan->drifts + at));
+        int judged = judge_turn(&w, &turn, get32(plan->readings + at));
+        if (judged == CHANGES)
+            return false;
+        m[row] = (uint8_t)judged;
+    }
+    return true;
+}
+
 /* ---- The settler ---- */
 
 /* Whether every part closes with so many passes laid out. */
@@ -99,6 +136,8 @@ static bool passes_settle(const uint8_t *rule, const struct plan *plan, int pass
         bool closes;
         if (is_comparison(kinds[i])) {
             closes = make_comparison(&layout, kinds[i], operand, m);
+        } else if (kinds[i] == WINDOW) {
+            closes = make_window(&layout, operand, m);
         } else {
             /* Of a part that names one the second field is 0: b is not used. */
             const uint8_t *a = marks + MOST_ROWS * get16(operand);

@@ -8,6 +8,10 @@
  * comes once: there the truth must be the mark too, and no later pass may change it.
  * All of this is 32-bit arithmetic, as the lanes hold the positions after row W - 1 as
  * well.
+ *
+ * A window is looked at on the same positions. What it reads is laid out once for all
+ * windows of the channel, as remainders by g (plain_windows.h). The same on every pass,
+ * they leave no remainder to be found by the part.
  */
 #include "plain_sweeps.h"
 
@@ -47,7 +51,7 @@ void start_lanes(struct lanes *lanes, const struct plan *plan)
     lanes->still = all_bytes_are(0, plan->drifts + row_bytes * (size_t)plan->start,
                                  row_bytes * (size_t)plan->cycle);
     for (int channel = 0; channel < plan->channels; channel++)
-        lanes->of[channel].laid_out = false;
+        lanes->of[channel].laid_out = lanes->minutes[channel].laid_out = false;
 }
 
 /* Lay out the numbers of a channel from a row on. Four are read before the first of
@@ -251,6 +255,125 @@ bool comparison_is_clear(struct lanes *lanes, int kind, const struct term *left,
            all_bytes_are(0, m, (size_t)seen) &&
            rows_are_clear(lanes, kind, &x, &y, m, seen, back) &&
            rows_after_are_clear(lanes, kind, &x, &y, m, back);
+}
+
+/* ---- Windows ---- */
+
+/* The remainders of the readings of a channel on some rows, by g, which divides the week.
+   A minute is below 2^14, and so the multiplication gives its quotient by g. */
+static void lay_out_remainders(const struct plan *plan, int channel, int row, int end, int g,
+                               int16_t *to)
+{
+    size_t stride = 4 * (size_t)plan->channels;
+    const uint8_t *at = plan->readings + cell_of(plan, row, channel);
+    uint64_t inverse = ((uint64_t)1 << 32) / (unsigned)g + 1;
+    for (; row < end; row++, at += stride) {
+        uint32_t minute = (uint32_t)rest(get32(at), WEEK);
+        to[row] = (int16_t)(minute - (uint32_t)(minute * inverse >> 32) * (uint32_t)g);
+    }
+}
+
+/* One stretch more, or a longer one. */
+static void add_stretch(struct minutes *minutes, int end, int g)
+{
+    struct stretch_of_g *last = &minutes->stretch[minutes->stretches - 1];
+    if (last->g != g)
+        last = &minutes->stretch[minutes->stretches++];
+    *last = (struct stretch_of_g){ end, (int16_t)g };
+}
+
+static void lay_out_minutes(const struct lanes *lanes, int channel, struct minutes *minutes)
+{
+    const struct plan *plan = lanes->plan;
+    size_t stride = 4 * (size_t)plan->channels;
+    int16_t *to = minutes->at + MOST_LEAD;
+    int first = lanes->still ? plan->rows : plan->start;
+    minutes->laid_out = true;
+    minutes->stretches = 1;
+    minutes->stretch[0] = (struct stretch_of_g){ first, WEEK };
+    lay_out_remainders(plan, channel, -plan->lead, first, WEEK, to);
+    while (first < plan->rows) {
+        const uint8_t *at = plan->drifts + cell_of(plan, first, channel);
+        int32_t drift = get32(at);
+        int end = first + 1, g = common_divisor(drift);
+        while (end < plan->rows && get32(at += stride) == drift)
+            end++;
+        lay_out_remainders(plan, channel, first, end, g, to);
+        add_stretch(minutes, end, g);
+        first = end;
+    }
+    for (int k = 0; k < ROWS_AFTER; k++) {
+        int row = plan->start + k % plan->cycle;
+        int32_t drift = get32(plan->drifts + cell_of(plan, row, channel));
+        add_stretch(minutes, plan->rows + k + 1, common_divisor(drift));
+        to[plan->rows + k] = to[row];
+    }
+}
+
+static const struct minutes *get_minutes(struct lanes *lanes, int channel)
+{
+    struct minutes *minutes = &lanes->minutes[channel];
+    if (!minutes->laid_out)
+        lay_out_minutes(lanes, channel, minutes);
+    return minutes;
+}
+
+/* 0 if a remainder by g is inside on every pass and marked 1, or on none and marked 0. In
+   16 bits at each step, so that eight rows are taken at a time. */
+static inline int16_t fault_of_window(int16_t at, int16_t from, int16_t g, int16_t inside,
+                                      int16_t length, int16_t mark)
+{
+    int16_t s = (int16_t)(at - from);
+    s = (int16_t)(s + (int16_t)(-(s < 0) & g));
+    int16_t always = (int16_t)-(s < inside), once = (int16_t)-(s < length);
+    return (int16_t)((int16_t)(mark + always) | (int16_t)(mark + once));
+}
+
+/* Positions of one g in a row. */
+static bool stretch_is_as_marked(const struct window *w, int16_t g, const int16_t *at,
+                                 const uint8_t *m, size_t count)
+{
+    int16_t from = (int16_t)(w->from % g), length = (int16_t)w->length;
+    int16_t outside = (int16_t)(WEEK - g);
+    int16_t inside = (int16_t)(length > outside ? length - outside : 0);
+    ALL_ZERO(int16_t, count, fault_of_window(at[k], from, g, inside, length, m[k]));
+}
+
+/* The positions from the first to the end, with their marks in a row. */
+static bool positions_are_clear(const struct minutes *minutes, const struct window *w,
+                                const uint8_t *m, int first, int end)
+{
+    int shift = w->term.shift;
+    const struct stretch_of_g *stretch = minutes->stretch;
+    while (first < end) {
+        while (stretch->end <= first + shift)
+            stretch++;
+        int next = stretch->end - shift < end ? stretch->end - shift : end;
+        if (!stretch_is_as_marked(w, stretch->g, minutes->at + MOST_LEAD + first + shift, m,
+                                  (size_t)(next - first)))
+            return false;
+        m += next - first;
+        first = next;
+    }
+    return true;
+}
+
+/* Start rows that read a cycle row ahead are held to all its passes too: where one of them
+   differs, the window does not close. */
+bool window_is_clear(struct lanes *lanes, const struct window *w, const uint8_t *m)
+{
+    const struct plan *plan = lanes->plan;
+    const struct minutes *minutes = get_minutes(lanes, w->term.channel);
+    int back = reach_of(w), seen = first_in_sight(plan, w);
+    if (seen > plan->rows || !all_bytes_are(0, m, (size_t)seen) ||
+        !positions_are_clear(minutes, w, m + seen, seen, plan->rows))
+        return false;
+    for (int k = 0, row = plan->start; k < back; k++) {
+        if (!positions_are_clear(minutes, w, m + row, plan->rows + k, plan->rows + k + 1))
+            return false;
+        row = row + 1 < plan->rows ? row + 1 : plan->start;
+    }
+    return true;
 }
 
 /* ---- Operators ---- */

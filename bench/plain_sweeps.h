@@ -1,7 +1,7 @@
 /*
  * plain_sweeps.h: whole parts held against their marks at once.
  *
- * Both questions below are answered by loops that go over all rows and leave none
+ * The questions below are answered by loops that go over all rows and leave none
  * early, so that the compiler takes many rows at a time. "Clear" means that the part
  * has no refusal 10 and no refusal 9. "Not clear" names no row, and where a number
  * is too large for the loops it says nothing: then the rows are to be looked at one
@@ -13,10 +13,10 @@
 #ifndef PLAIN_SWEEPS_H
 #define PLAIN_SWEEPS_H
 
-#include "plain.h"
+#include "plain_windows.h"
 
-/* A comparison is looked at on some positions after row W - 1, and reads ahead of
-   them: so many in all. */
+/* An atom is looked at on some positions after row W - 1, and reads ahead of them: so
+   many in all. */
 enum { ROWS_AFTER = 2 * MOST_SHIFT, LANE_LONGEST = MOST_LEAD + MOST_ROWS + ROWS_AFTER };
 
 /* The readings of one channel from row -L on, and its drifts from row P on, in the
@@ -27,17 +27,36 @@ struct lane {
     int32_t readings[LANE_LONGEST], drifts[LANE_LONGEST];
 };
 
-/* A plan channel by channel. A lane is laid out when it is first read. */
+/* Positions up to an end with the same greatest common divisor of drift and week. */
+struct stretch_of_g {
+    int end;
+    int16_t g;
+};
+
+/* The readings of one channel for windows, at the same places: each as its remainder by
+   the g of its row, from 0 upward. Before row P nothing drifts, and g is 10080. */
+struct minutes {
+    bool laid_out;
+    int stretches;
+    struct stretch_of_g stretch[LANE_LONGEST];
+    int16_t at[LANE_LONGEST];
+};
+
+/* A plan channel by channel. A lane is laid out when it is first read, and so are its
+   minutes. */
 struct lanes {
     const struct plan *plan;
     bool still; /* no drift in the cycle: the drifts are not laid out */
     struct lane of[MOST_CHANNELS];
+    struct minutes minutes[MOST_CHANNELS];
 };
 
 void start_lanes(struct lanes *lanes, const struct plan *plan);
 
 bool comparison_is_clear(struct lanes *lanes, int kind, const struct term *left,
                          const struct term *right, const uint8_t *m);
+
+bool window_is_clear(struct lanes *lanes, const struct window *w, const uint8_t *m);
 
 bool operator_is_clear(const struct plan *plan, int kind, const uint8_t *m, const uint8_t *a,
                        const uint8_t *b);

@@ -3,17 +3,19 @@
  *
  * The checker answers questions about a rule and a plan. A rule is a formula
  * of linear temporal logic over comparisons of readings (CLTLB over the
- * integers with < and =). A plan is a finite description of an endless run:
- * start rows, then cycle rows that come again for ever, where each coming
- * again ("pass") adds a drift to every reading. It may have lead-in rows as
- * well: readings taken before the run begins, for comparisons that look back.
+ * integers with < and =) and over windows of the week, in which a reading in
+ * minutes lies or does not. Comparisons and windows are the atoms of a rule:
+ * the parts whose truth is read off the run. A plan is a finite description of
+ * an endless run: start rows, then cycle rows that come again for ever, where
+ * each coming again ("pass") adds a drift to every reading. It may have lead-in
+ * rows as well: readings taken before the run begins, for atoms that look back.
  * A mark table claims the truth of every part of the rule on every row of the
  * plan, from the run's beginning on.
  *
  * endless_run_check() tells whether a mark table is right, on the whole of the
- * endless run. endless_run_judge() tells whether one comparison of the rule
- * has the same truth on every pass of one row. endless_run_make() makes the
- * mark table of a rule and a plan, for whoever has no marks of their own.
+ * endless run. endless_run_judge() tells whether one atom of the rule has the
+ * same truth on every pass of one row. endless_run_make() makes the mark table
+ * of a rule and a plan, for whoever has no marks of their own.
  * endless_run_settle() turns a plan for which none can be made into one of the
  * same run for which one can, by laying out passes of the cycle as start rows.
  *
@@ -24,7 +26,7 @@
  * little-endian, and signed ones are two's complement.
  *
  *   rule   N, V             2 bytes each: parts (1 to 64), channels (1 to 8)
- *          kinds            N bytes, each 1 to 12
+ *          kinds            N bytes, each 1 to 13
  *          operands         N times 12 bytes
  *          length           4 + 13 * N
  *
@@ -78,8 +80,8 @@
  *
  * Time. Every call returns. The time is bounded by the sizes N, V, L and W, for
  * endless_run_settle() with 256 for W. It does not grow with the pass on which
- * a comparison changes; settle tries at most as many passes as it lays out, or
- * as there is room for.
+ * an atom changes; settle tries at most as many passes as it lays out, or as
+ * there is room for.
  *
  * Platform. The library is compiled for x86-64 Linux, with the usual calling
  * convention of C there.
@@ -109,12 +111,13 @@ extern "C" {
  * declared here. It is raised by 1 with each change of a layout, of the meaning
  * of an answer or of the interface that a caller could notice. In version 5
  * refusal 10 of endless_run_check() comes before 9 of the same part; what is
- * accepted is as in version 4.
+ * accepted is as in version 4. In version 6 a part may be of kind 13, a window
+ * of the week; a rule without such a part is answered as in version 5.
  */
-#define ENDLESS_RUN_VERSION 5
+#define ENDLESS_RUN_VERSION 6
 
 /* The kind byte of a part. The comments give its operand: two terms, one part,
-   or two parts a and b in this order. */
+   two parts a and b in this order, or a term and two minutes of the week. */
 enum endless_run_kind {
     ENDLESS_RUN_KIND_LESS = 1,            /* two terms: left < right */
     ENDLESS_RUN_KIND_EQUAL = 2,           /* two terms: left = right */
@@ -127,7 +130,8 @@ enum endless_run_kind {
     ENDLESS_RUN_KIND_YESTERDAY = 9,       /* one part: Y a */
     ENDLESS_RUN_KIND_WEAK_YESTERDAY = 10, /* one part: Z a */
     ENDLESS_RUN_KIND_SINCE = 11,          /* two parts: a S b */
-    ENDLESS_RUN_KIND_TRIGGER = 12         /* two parts: a T b */
+    ENDLESS_RUN_KIND_TRIGGER = 12,        /* two parts: a T b */
+    ENDLESS_RUN_KIND_WINDOW = 13          /* a term, from and to */
 };
 
 /* The form byte of a term. */
@@ -139,6 +143,14 @@ enum endless_run_form {
 /* The shift code of a reading at its own position, and of every constant. The
    code of a shift is ENDLESS_RUN_NO_SHIFT + shift, for -4 to 4 positions. */
 #define ENDLESS_RUN_NO_SHIFT 4
+
+/* The minutes of a week. The operand of a window is a term of 6 bytes, which
+   must be a reading, then from and to of 2 bytes each, 0 to 10079 and not the
+   same, and 2 zero bytes. The window is true where the remainder of the reading
+   by 10080, taken from 0 upward also for negative readings, lies in it: from
+   belongs to it and to does not. Where from is above to, it runs over the end
+   of the week. */
+#define ENDLESS_RUN_WEEK 10080
 
 /* The witness of a part that is asked for none. */
 #define ENDLESS_RUN_NO_WITNESS 65535
@@ -189,12 +201,13 @@ enum endless_run_refusal {
        length is not the one that its sizes give. */
     ENDLESS_RUN_RULE_SIZES = 1,
 
-    /* A kind byte is not 1 to 12. Part: the lowest such part. */
+    /* A kind byte is not 1 to 13. Part: the lowest such part. */
     ENDLESS_RUN_KIND = 2,
 
     /* An operand breaks the layout: a form, a shift code, a channel, a part
-       that is not lower than its user, or a padding byte other than 0. Part:
-       the lowest such part. */
+       that is not lower than its user, a padding byte other than 0, or in a
+       window a constant for its term, a from or to above 10079, or a from that
+       is the same as to. Part: the lowest such part. */
     ENDLESS_RUN_OPERAND = 3,
 
     /* The plan has fewer than 8 bytes, V, C, L or W is outside its range, or
@@ -217,21 +230,21 @@ enum endless_run_refusal {
        lowest such row of that part. */
     ENDLESS_RUN_MARK_BYTE = 8,
 
-    /* A mark of a part that closes breaks its equation. The equation of a
-       comparison is its truth at pass 0; that of any other part ties the mark
-       to the marks of the parts that it names, on this row or on the row
-       beside it, and for U, R, S and T also to the part's own mark on the row
-       beside it. Part; row: the lowest row on which mark and equation differ.
-       That mark is false, but for U and R the false one may instead be the
-       part's own mark on the row after. */
+    /* A mark of a part that closes breaks its equation. The equation of an
+       atom is its truth at pass 0; that of any other part ties the mark to the
+       marks of the parts that it names, on this row or on the row beside it,
+       and for U, R, S and T also to the part's own mark on the row beside it.
+       Part; row: the lowest row on which mark and equation differ. That mark
+       is false, but for U and R the false one may instead be the part's own
+       mark on the row after. */
     ENDLESS_RUN_EQUATION = 9,
 
     /* A part does not close: its truth on the rows does not carry over to the
        following passes, whatever its own marks say. The plan or the rule is at
        fault, and no marks can help: with a buffer of the right length
        endless_run_make() answers 14 for the same part and row. Part; row: for
-       a comparison the lowest cycle row on which it changes, for every other
-       part row P. */
+       an atom the lowest cycle row on which it changes, for every other part
+       row P. */
     ENDLESS_RUN_CLOSING = 10,
 
     /* A witness is not as it should be: an "until" marked 1 on row W - 1 names
@@ -241,7 +254,7 @@ enum endless_run_refusal {
     ENDLESS_RUN_WITNESS = 11,
 
     /* The part or the row that the caller of endless_run_judge() named is
-       absent, or that part is no comparison. */
+       absent, or that part is no atom: neither a comparison nor a window. */
     ENDLESS_RUN_ABSENT = 12,
 
     /* The length of the buffer lent to endless_run_make() is not the one that
@@ -298,11 +311,11 @@ uint64_t endless_run_check(const uint8_t *rule, size_t rule_len,
                            const uint8_t *marks, size_t marks_len);
 
 /*
- * Judge one comparison on one row, over all passes.
+ * Judge one atom, a comparison or a window, on one row, over all passes.
  *
  *   rule, rule_len      the rule
  *   plan, plan_len      the plan
- *   part                the number of the comparison in the rule
+ *   part                the number of the atom in the rule
  *   row                 the number of the row in the plan
  *
  * Every value of part and row is allowed; one that is absent is refused.
@@ -317,9 +330,9 @@ uint64_t endless_run_check(const uint8_t *rule, size_t rule_len,
  * A start row comes once, so there the answer is never "changes". Readings are
  * whole numbers without limit: they never wrap, on however late a pass. Where
  * a shifted reading lies before position 0 it is that of a lead-in row, and
- * where it lies before position -L, before all lead-in rows, the comparison is
- * false. A lead-in row cannot be judged: row W and every row above is absent,
- * however many lead-in rows the plan has.
+ * where it lies before position -L, before all lead-in rows, the comparison or
+ * window is false. A lead-in row cannot be judged: row W and every row above is
+ * absent, however many lead-in rows the plan has.
  */
 uint64_t endless_run_judge(const uint8_t *rule, size_t rule_len,
                            const uint8_t *plan, size_t plan_len,
@@ -403,11 +416,13 @@ uint64_t endless_run_make(const uint8_t *rule, size_t rule_len,
  * A part closes when it has on each cycle row the same truth on all passes.
  * Every part counts, also one that nobody names. So for the new plan
  * endless_run_make() makes a table, and with fewer passes laid out it would
- * answer 14. Where all drifts are 0, the answer is at most 4 plus the deepest
- * nesting of Y, Z, S and T in any part, if there is room for as many passes.
- * Once refusals 1 to 6 and 13 are cleared, the answer is refusal 15 exactly
- * when no number n works with which the new plan has 256 rows or fewer and all
- * its readings fit 4 bytes, also those of channels that the rule never reads.
+ * answer 14. A window that a drift takes a reading into and out of comes and
+ * goes for ever, and closes with no number of passes laid out. Where all drifts
+ * are 0, the answer is at most 4 plus the deepest nesting of Y, Z, S and T in
+ * any part, if there is room for as many passes. Once refusals 1 to 6 and 13
+ * are cleared, the answer is refusal 15 exactly when no number n works with
+ * which the new plan has 256 rows or fewer and all its readings fit 4 bytes,
+ * also those of channels that the rule never reads.
  */
 uint64_t endless_run_settle(const uint8_t *rule, size_t rule_len,
                             const uint8_t *plan, size_t plan_len,
@@ -484,7 +499,7 @@ static inline const char *endless_run_refusal_message(unsigned number)
     case ENDLESS_RUN_RULE_SIZES:
         return "the rule's sizes or its length are wrong";
     case ENDLESS_RUN_KIND:
-        return "a kind byte of the rule is not 1 to 12";
+        return "a kind byte of the rule is not 1 to 13";
     case ENDLESS_RUN_OPERAND:
         return "an operand of the rule breaks the layout";
     case ENDLESS_RUN_PLAN_SIZES:
@@ -504,7 +519,7 @@ static inline const char *endless_run_refusal_message(unsigned number)
     case ENDLESS_RUN_WITNESS:
         return "a witness is not in order";
     case ENDLESS_RUN_ABSENT:
-        return "there is no such part or row, or the part is no comparison";
+        return "there is no such part or row, or the part is no comparison and no window";
     case ENDLESS_RUN_BUFFER_LENGTH:
         return "a buffer's length is not the one it has to have";
     case ENDLESS_RUN_NO_TABLE:

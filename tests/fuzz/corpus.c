@@ -5,14 +5,16 @@
  *
  * One input for each worked example. For each kind of part and some sizes of plan,
  * with and without lead-in rows, the true table of a rule with all kinds up to that
- * one. For Y, Z, S and T the true table on each plan of three rows of 0 and 1, whether
- * it closes or not, and the same with a part above that does not name it; and each with
- * a wrong mark, in that part or in one below. Less and equal that change, with a wrong
- * mark. For each L and each shift back the true table of comparisons that look back, on
- * a lead-in that goes on as the cycle does, on one that does not, and on one that has a
- * drift; and plans with a wrong L. Rules and plans that settle after some passes, by Y,
- * Z, S and T over one another or by a drift, or for which there is no room; and lengths
- * of the buffers of settle.
+ * one, windows last. For Y, Z, S and T the true table on each plan of three rows of 0 and
+ * 1, whether it closes or not, and the same with a part above that does not name it; and
+ * each with a wrong mark, in that part or in one below. Less, equal and windows that
+ * change, with a wrong mark. For each L and each shift back the true table of comparisons
+ * that look back, on a lead-in that goes on as the cycle does, on one that does not, and
+ * on one that has a drift; and plans with a wrong L. Rules and plans that settle after
+ * some passes, by Y, Z, S and T over one another or by a drift, or for which there is no
+ * room; and lengths of the buffers of settle. Windows by both ends and over the end of the
+ * week, with readings below 0 and at the ends of 32 bits, with drifts that share some
+ * divisor with the week, and with faults in their operands.
  */
 #include "../support/examples.h"
 
@@ -66,7 +68,9 @@ static void all_kinds(enum kind last)
     write_comparison(&rule, 0, LESS, reading(1, 0), constant(25));
     for (int kind = EQUAL; kind <= (int)last; kind++) {
         int part = kind - 1;
-        if (kind == EQUAL)
+        if (kind == WINDOW)
+            write_window(&rule, part, reading(0, -1), 5, 6);
+        else if (kind == EQUAL)
             write_comparison(&rule, part, EQUAL, reading(0, -1), constant(6));
         else if (names_two_parts((enum kind)kind))
             write_binary(&rule, part, (enum kind)kind, kind % 2, part - 1);
@@ -94,13 +98,13 @@ static void write_kinds(void)
                                     { 0, 7, 1 }, { 0, 1, 5 }, { 1, 0, 2 }, { 2, 1, 3 },
                                     { 3, 2, 2 }, { 4, 0, 1 } };
     char name[64];
-    for (int kind = LESS; kind <= TRIGGER; kind++)
+    for (int kind = LESS; kind <= WINDOW; kind++)
         for (int i = 0; i < 10; i++) {
             all_kinds((enum kind)kind);
             steady_plan(sizes[i][0], sizes[i][1], sizes[i][2]);
             write_true_marks_of(&marks, &space, &rule, &plan);
             snprintf(name, sizeof name, "kinds-%d-plan-%d", kind, i);
-            write_input(name, (unsigned)kind % 2, (unsigned)sizes[i][1]);
+            write_input(name, kind == WINDOW ? 12 : (unsigned)kind % 2, (unsigned)sizes[i][1]);
         }
 }
 
@@ -156,12 +160,14 @@ static void write_wrong_marks(const char *name, int part)
     }
 }
 
-/* x < 1 or x = 1 on three rows, one of which rises from 0. */
+/* x < 1 or x = 1, or the window of minute 1, on three rows, one of which rises from 0. */
 static void write_changing(enum kind kind, int start, int rising)
 {
+    struct formula f = { .kind = kind, .left = reading(0, 0), .right = constant(1), .from = 1,
+                         .to = 2 };
     char name[64];
     start_rule(&rule, 2, 1);
-    write_comparison(&rule, 0, kind, reading(0, 0), constant(1));
+    write_formula(&rule, 0, &f);
     write_unary(&rule, 1, NOT, 0);
     start_plan(&plan, 1, start, 3 - start);
     write_drift(&plan, rising, 0, 1);
@@ -248,6 +254,54 @@ static void write_all_late(void)
         write_crossing(passes, 300, 0, 1);
 }
 
+/* Windows of a clock, looked at now and two positions back, and an operator over them. */
+static void write_clock(const char *name, int32_t read, int32_t drift, int from, int to)
+{
+    start_rule(&rule, 3, 1);
+    write_window(&rule, 0, reading(0, 0), from, to);
+    write_window(&rule, 1, reading(0, -2), to, from);
+    write_binary(&rule, 2, SINCE, 0, 1);
+    start_plan_with_lead(&plan, 1, 1, 1, 2);
+    for (int row = -1; row < 3; row++)
+        write_reading(&plan, row, 0, read);
+    write_drift(&plan, 1, 0, drift);
+    write_drift(&plan, 2, 0, drift);
+    write_true_marks_of(&marks, &space, &rule, &plan);
+    write_input(name, 0, 1);
+}
+
+static void write_clocks(void)
+{
+    static const int32_t reads[] = { 0, -1, 480, 1019, WEEK - 1, -WEEK, INT32_MIN, INT32_MAX };
+    static const int32_t drifts[] = { 0, 1, -1440, 5040, WEEK, 17 };
+    static const int windows[][2] = { { 480, 1020 }, { 1020, 480 }, { 10079, 0 }, { 0, 10079 },
+                                      { 1, 1440 } };
+    char name[64];
+    for (int i = 0; i < 8; i++)
+        for (int k = 0; k < 6; k++)
+            for (int n = 0; n < 5; n++) {
+                snprintf(name, sizeof name, "clock-%d-drift-%d-window-%d", i, k, n);
+                write_clock(name, reads[i], drifts[k], windows[n][0], windows[n][1]);
+            }
+}
+
+/* Another byte at each place of a window's operand. */
+static void write_wrong_windows(void)
+{
+    char name[64];
+    for (int i = 0; i < 12; i++) {
+        write_clock("clock", 480, WEEK, 480, 1020);
+        operand_bytes(&rule, 0)[i] ^= i == 0 ? 1 : 0x80;
+        snprintf(name, sizeof name, "clock-operand-%d", i);
+        write_input(name, 0, 1);
+    }
+    write_clock("clock", 480, WEEK, 480, 1020);
+    write_window(&rule, 1, reading(0, 0), 480, 480);
+    write_input("clock-from-is-to", 1, 1);
+    *kind_byte(&rule, 1) = 14;
+    write_input("clock-kind-14", 1, 1);
+}
+
 int main(int argc, char **argv)
 {
     if (argc != 2) {
@@ -263,10 +317,13 @@ int main(int argc, char **argv)
                 write_looking_back(lead, start, shift);
     write_wrong_leads();
     write_all_late();
+    write_clocks();
+    write_wrong_windows();
     for (int start = 0; start < 3; start++)
         for (int rising = start; rising < 3; rising++) {
             write_changing(LESS, start, rising);
             write_changing(EQUAL, start, rising);
+            write_changing(WINDOW, start, rising);
         }
     for (int kind = YESTERDAY; kind <= TRIGGER; kind++)
         for (int start = 0; start < 3; start++)

@@ -7,8 +7,8 @@
 
 struct sheet case_rule, case_plan, case_marks;
 struct truth case_truth;
-const char *const kind_names[TRIGGER + 1] = { "",  "less", "equal", "not", "and", "or", "X",
-                                              "U", "R",    "Y",     "Z",   "S",   "T" };
+const char *const kind_names[WINDOW + 1] = { "",  "less", "equal", "not", "and", "or", "X",
+                                             "U", "R",    "Y",     "Z",   "S",   "T",  "window" };
 
 static int32_t clamp(int64_t n)
 {
@@ -17,9 +17,9 @@ static int32_t clamp(int64_t n)
 
 /* ---- Plans ---- */
 
-enum plan_style { STEADY, STILL, ONE_DRIFT, CHANNEL_DRIFTS, CELL_DRIFTS, APART, EXTREME };
+enum plan_style { STEADY, STILL, ONE_DRIFT, CHANNEL_DRIFTS, CELL_DRIFTS, APART, EXTREME, WEEKLY };
 
-static int32_t extreme_number(void)
+int32_t extreme_number(void)
 {
     static const int32_t ends[] = { INT32_MIN, INT32_MAX, 0, 1 << 30, -(1 << 30) };
     return clamp((int64_t)ends[below(5)] + between(-3, 3));
@@ -40,6 +40,8 @@ static int32_t some_reading(enum plan_style style, int channel)
         return channel % 2 ? between(-20, -5) : between(5, 20);
     case EXTREME:
         return extreme_number();
+    case WEEKLY:
+        return weekly_reading();
     default:
         return between(-10, 10);
     }
@@ -59,6 +61,8 @@ static int32_t some_drift(enum plan_style style, int channel, int32_t of_plan, i
         return channel % 2 ? between(-4, 0) : between(0, 4);
     case EXTREME:
         return chance(60) ? of_channel : extreme_drift();
+    case WEEKLY:
+        return chance(70) ? of_channel : weekly_drift();
     default:
         return between(-3, 3);
     }
@@ -93,12 +97,19 @@ static void write_rows_before(enum before_style style)
     }
 }
 
+static int32_t some_channel_drift(enum plan_style style)
+{
+    if (style == WEEKLY)
+        return weekly_drift();
+    return style == EXTREME ? extreme_drift() : between(-3, 3);
+}
+
 static void make_plan(enum plan_style style, int channels, int lead, int start, int cycle)
 {
     int32_t of_plan = between(-3, 3);
     start_plan_with_lead(&case_plan, channels, lead, start, cycle);
     for (int channel = 0; channel < channels; channel++) {
-        int32_t of_channel = style == EXTREME ? extreme_drift() : between(-3, 3);
+        int32_t of_channel = some_channel_drift(style);
         for (int row = -lead; row < start + cycle; row++) {
             write_reading(&case_plan, row, channel, some_reading(style, channel));
             if (row >= start)
@@ -146,7 +157,7 @@ static struct term some_term(int shifted_percent)
     return reading(channel, chance(shifted_percent) ? between(least, most) : 0);
 }
 
-struct formula some_comparison(void)
+static struct formula some_comparison(void)
 {
     struct formula f = { .kind = chance(50) ? LESS : EQUAL };
     int shifted_percent = chance(case_truth.plan.lead > 0 ? 30 : 50) ? 0 : 70;
@@ -161,6 +172,11 @@ struct formula some_comparison(void)
         f.right = left;
     }
     return f;
+}
+
+struct formula some_atom(void)
+{
+    return chance(25) ? some_window() : some_comparison();
 }
 
 /* Has the part this truth on all cycle rows? */
@@ -203,10 +219,10 @@ static struct formula some_operator(int part, bool closes_surely)
     return f;
 }
 
-static struct formula some_formula(int part, int comparisons_percent)
+static struct formula some_formula(int part, int atoms_percent)
 {
-    if (part == 0 || chance(comparisons_percent))
-        return some_comparison();
+    if (part == 0 || chance(atoms_percent))
+        return some_atom();
     return some_operator(part, false);
 }
 
@@ -222,26 +238,26 @@ static void take_formula(int part, struct formula f)
     find_truth(&case_truth, part);
 }
 
-static void take_closing_formula(int part, int comparisons_percent)
+static void take_closing_formula(int part, int atoms_percent)
 {
     for (int tries = 0; tries < 6; tries++) {
-        take_formula(part, some_formula(part, comparisons_percent));
+        take_formula(part, some_formula(part, atoms_percent));
         if (is_row_periodic(&case_truth, part))
             return;
     }
     take_formula(part, formula_that_closes(part));
 }
 
-/* A comparison, Y, Z, S or T that does not close, if one is met. S and T seldom
-   fail to, so one of them is chosen first and then its parts. */
+/* An atom, Y, Z, S or T that does not close, if one is met. S and T seldom fail to, so
+   one of them is chosen first and then its parts. */
 static void take_open_formula(int part)
 {
     static const enum kind past[] = { YESTERDAY, WEAK_YESTERDAY, SINCE, SINCE, TRIGGER, TRIGGER };
     struct formula f = { .kind = past[below(6)] };
-    bool comparison = part == 0 || chance(20);
+    bool atom = part == 0 || chance(20);
     for (int tries = 0; tries < 60; tries++) {
-        if (comparison)
-            f = some_comparison();
+        if (atom)
+            f = some_atom();
         f.a = below(part + (part == 0));
         f.b = below(part + (part == 0));
         take_formula(part, f);
@@ -254,17 +270,17 @@ static void take_open_formula(int part)
    that can be had; the others are as they come. */
 static void make_rule(int parts, int open)
 {
-    int comparisons_percent = chance(10) ? 100 : between(15, 50);
+    int atoms_percent = chance(10) ? 100 : between(15, 50);
     case_truth.rule.parts = parts;
     case_truth.rule.channels = case_truth.plan.channels;
     start_rule(&case_rule, parts, case_truth.plan.channels);
     for (int part = 0; part < parts; part++) {
         if (part < open)
-            take_closing_formula(part, comparisons_percent);
+            take_closing_formula(part, atoms_percent);
         else if (part == open)
             take_open_formula(part);
         else
-            take_formula(part, some_formula(part, comparisons_percent));
+            take_formula(part, some_formula(part, atoms_percent));
         write_formula(&case_rule, part, &case_truth.rule.part[part]);
     }
 }
@@ -302,10 +318,10 @@ void make_case(void)
         start = chance(50) ? 255 : between(0, 255);
         cycle = 256 - start;
     }
-    enum plan_style style = (enum plan_style)between(STEADY, EXTREME);
+    enum plan_style style = (enum plan_style)between(STEADY, WEEKLY);
     int open = chance(60) ? parts : chance(20) ? -1 : between(parts / 2, parts - 1);
     if (open >= 2 && open < parts && chance(70))
-        style = STILL; /* where comparisons close, and S and T over them may not */
+        style = STILL; /* where atoms close, and S and T over them may not */
     make_plan(style, channels, lead, start, cycle);
     make_rule(parts, open);
     make_table();

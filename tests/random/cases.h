@@ -17,7 +17,7 @@ extern struct sheet case_rule, case_plan, case_marks;
 extern struct truth case_truth;
 
 /* The name of a kind, for a count. */
-extern const char *const kind_names[TRIGGER + 1];
+extern const char *const kind_names[WINDOW + 1];
 
 /* Make a case with the dice as they are. */
 void make_case(void);
@@ -26,11 +26,20 @@ void make_case(void);
    laid out, or never (late_cases.c). */
 void make_late_case(void);
 
-/* A comparison that suits the plan of the case, whether it closes or not. */
-struct formula some_comparison(void);
+/* An atom that suits the plan of the case, whether it closes or not. */
+struct formula some_atom(void);
+
+/* A reading or a drift near one of the ends of 32 bits, or near 0. */
+int32_t extreme_number(void);
 
 /* A drift, mostly a large one. */
 int32_t extreme_drift(void);
+
+/* A window that suits the plan of the case, and readings and drifts that go round the
+   week in one way or another (window_cases.c). */
+struct formula some_window(void);
+int32_t weekly_reading(void);
+int32_t weekly_drift(void);
 
 /* A plan for the case with readings of some channels and no drift. */
 void make_still_plan(int channels);

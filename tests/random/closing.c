@@ -2,9 +2,9 @@
  * closing.c: parts that do not close, and wrong marks beside that.
  *
  * A part closes or not by its truth, whatever its own marks say, and within one part
- * refusal 10 comes before 9 and 11. Less, equal, Y, Z, S and T can fail to close. Each
- * is tried with marks written by hand, with faults in other parts as well, and on plans
- * of up to three rows with all marks that a part can have.
+ * refusal 10 comes before 9 and 11. Less, equal, windows, Y, Z, S and T can fail to close.
+ * Each is tried with marks written by hand, with faults in other parts as well, and on
+ * plans of up to three rows with all marks that a part can have.
  */
 #include "expect.h"
 
@@ -17,7 +17,8 @@ static struct sheet rule, plan, marks;
 enum { A, B, TRIED, WHOLE, PARTS };
 enum { CHANNELS = 3, ROWS = 3 };
 
-static const enum kind open_kinds[] = { LESS, EQUAL, YESTERDAY, WEAK_YESTERDAY, SINCE, TRIGGER };
+static const enum kind open_kinds[] = { LESS,           EQUAL, WINDOW, YESTERDAY,
+                                        WEAK_YESTERDAY, SINCE, TRIGGER };
 enum { OPEN_KINDS = sizeof open_kinds / sizeof open_kinds[0] };
 
 /* Bit r stands for row r. */
@@ -34,20 +35,20 @@ static unsigned rows_of(const char *of_rows)
     return rows;
 }
 
-/* z < 1 or z = 1 holds on the row on pass 0 or does not, and is the other thing on pass 1
-   if it changes there. */
+/* z < 1 or z = 1, or the window of minute 1, holds on the row on pass 0 or does not, and is
+   the other thing on pass 1 if it changes there. */
 static void write_changing(enum kind kind, int row, bool holds, bool changes)
 {
-    int on_pass_0 = kind == EQUAL ? holds : !holds;
+    int on_pass_0 = kind == LESS ? !holds : holds;
     write_reading(&plan, row, 2, on_pass_0);
-    write_drift(&plan, row, 2, !changes ? 0 : on_pass_0 == 0 || kind == EQUAL ? 1 : -1);
+    write_drift(&plan, row, 2, !changes ? 0 : on_pass_0 == 0 || kind != LESS ? 1 : -1);
 }
 
-/* x = 1 and y = 1; of the kind a part over these two, or a comparison of z with 1; and
-   "not" the first. */
+/* x = 1 and y = 1; of the kind a part over these two, or an atom of z and 1; and "not" the
+   first. */
 static void write_rule(enum kind kind)
 {
-    struct formula tried = { .kind = kind, .a = A, .b = B };
+    struct formula tried = { .kind = kind, .a = A, .b = B, .from = 1, .to = 2 };
     tried.left = reading(2, 0);
     tried.right = constant(1);
     start_rule(&rule, PARTS, CHANNELS);
@@ -57,8 +58,8 @@ static void write_rule(enum kind kind)
     write_unary(&rule, WHOLE, NOT, A);
 }
 
-/* Parts A and B are true on the rows a and b. The part tried is over them; or a comparison
-   that is true on the rows a, and changes on the rows b. The table is the true one. */
+/* Parts A and B are true on the rows a and b. The part tried is over them; or an atom that
+   is true on the rows a, and changes on the rows b. The table is the true one. */
 static void write_tried(enum kind kind, int start, int rows, unsigned a, unsigned b)
 {
     write_rule(kind);
@@ -66,7 +67,7 @@ static void write_tried(enum kind kind, int start, int rows, unsigned a, unsigne
     for (int row = 0; row < rows; row++) {
         write_reading(&plan, row, 0, on_row(a, row));
         write_reading(&plan, row, 1, on_row(b, row));
-        if (is_comparison(kind))
+        if (is_atom(kind))
             write_changing(kind, row, on_row(a, row), on_row(b, row));
     }
     write_true_marks_of(&marks, &truth_space, &rule, &plan);
@@ -101,6 +102,7 @@ enum { START = 1 };
 static const struct tried both_faults[OPEN_KINDS] = {
     { "less, both faults", LESS, "110", "001", "010", 10, 2 },
     { "equal, both faults", EQUAL, "110", "001", "111", 10, 2 },
+    { "window, both faults", WINDOW, "110", "001", "111", 10, 2 },
     { "Y, its marks close", YESTERDAY, "100", "000", "000", 10, 1 },
     { "Z, its marks close", WEAK_YESTERDAY, "100", "000", "100", 10, 1 },
     { "S, its marks close", SINCE, "110", "100", "111", 10, 1 },
@@ -110,10 +112,13 @@ static const struct tried both_faults[OPEN_KINDS] = {
 static const struct tried others[] = {
     { "less, two rows change", LESS, "010", "011", "001", 10, 1 },
     { "equal, two rows change", EQUAL, "010", "011", "001", 10, 1 },
+    { "window, two rows change", WINDOW, "010", "011", "001", 10, 1 },
     { "less changes, true marks", LESS, "110", "001", "110", 10, 2 },
     { "equal changes, true marks", EQUAL, "110", "001", "110", 10, 2 },
+    { "window changes, true marks", WINDOW, "110", "001", "110", 10, 2 },
     { "less closes", LESS, "110", "000", "111", 9, 2 },
     { "equal closes", EQUAL, "110", "000", "010", 9, 0 },
+    { "window closes", WINDOW, "110", "000", "010", 9, 0 },
 
     /* Neither the truth nor the marks close. */
     { "Y open both ways", YESTERDAY, "100", "000", "110", 10, 1 },
@@ -231,7 +236,7 @@ static int lowest_row(unsigned rows)
 
 static void all_own_marks(enum kind kind, int start, int rows, unsigned a, unsigned b)
 {
-    int open_row = is_comparison(kind) ? lowest_row(b) : start;
+    int open_row = is_atom(kind) ? lowest_row(b) : start;
     for (unsigned own = 0; own < 1u << rows; own++) {
         write_tried(kind, start, rows, a, b);
         write_own(rows, own);
@@ -239,12 +244,12 @@ static void all_own_marks(enum kind kind, int start, int rows, unsigned a, unsig
     }
 }
 
-/* A comparison changes on cycle rows alone. */
+/* An atom changes on cycle rows alone. */
 static void all_marks_on(enum kind kind, int start, int rows)
 {
     for (unsigned a = 0; a < 1u << rows; a++)
         for (unsigned b = 0; b < 1u << rows; b++)
-            if (!is_comparison(kind) || b % (1u << start) == 0)
+            if (!is_atom(kind) || b % (1u << start) == 0)
                 all_own_marks(kind, start, rows, a, b);
 }
 

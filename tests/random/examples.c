@@ -29,7 +29,7 @@ static void no_witness_serves(void)
     expect("E10 every witness is refused", all_refused);
 }
 
-/* A comparison on the one row of its plan is marked as it is judged, unless it
+/* An atom on the one row of its plan is marked as it is judged, unless it
    changes. */
 static void make_judged(const struct example *e)
 {

@@ -226,12 +226,12 @@ int deepest_nesting(const struct rule *rule)
     for (int part = 0; part < rule->parts; part++) {
         const struct formula *f = &rule->part[part];
         nesting[part] = 0;
-        if (is_comparison(f->kind))
+        if (is_atom(f->kind))
             continue;
         nesting[part] = nesting[f->a];
         if (names_two_parts(f->kind) && nesting[f->b] > nesting[part])
             nesting[part] = nesting[f->b];
-        nesting[part] += f->kind >= YESTERDAY;
+        nesting[part] += is_past(f->kind);
         deepest = nesting[part] > deepest ? nesting[part] : deepest;
     }
     return deepest;

@@ -78,6 +78,8 @@ void test_examples(void);
 void test_neighbours(void);
 void test_closing(void);
 void test_lead_in(void);
+void test_windows(void);
+void test_window_rows(void);
 void test_making(void);
 void test_settling(void);
 void test_vectors(void);

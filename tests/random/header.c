@@ -115,6 +115,40 @@ static void kinds(void)
     }
 }
 
+/* Windows by the header's constants: of y, which is 7 or 0, and of x, which is 9 or 1. */
+static void windows(void)
+{
+    static const struct {
+        const char *name, *marks;
+        int channel, from, to;
+    } of_week[] = {
+        { "window over the end", "011001", 1, ENDLESS_RUN_WEEK - 1, 7 },
+        { "window of the last minute", "000000", 1, ENDLESS_RUN_WEEK - 1, 0 },
+        { "window of all but the last", "111111", 1, 0, ENDLESS_RUN_WEEK - 1 },
+        { "window of one minute", "001011", 0, 1, 2 },
+        { "window of all but one", "110100", 0, 2, 1 },
+    };
+    put_readings();
+    for (int i = 0; i < 5; i++) {
+        uint64_t verdict = of_week[i].marks[0] == '1';
+        start_rule(&rule, 1, CHANNELS);
+        *kind_byte(&rule, 0) = ENDLESS_RUN_KIND_WINDOW;
+        memset(operand_bytes(&rule, 0), 0, 12);
+        put_term(operand_bytes(&rule, 0), ENDLESS_RUN_FORM_READING, 0, of_week[i].channel);
+        put2(operand_bytes(&rule, 0) + 6, (unsigned)of_week[i].from);
+        put2(operand_bytes(&rule, 0) + 8, (unsigned)of_week[i].to);
+        start_marks(&marks, 1, ROWS);
+        put_marks(0, of_week[i].marks, ENDLESS_RUN_NO_WITNESS);
+        expect_check(of_week[i].name, &rule, &plan, &marks, verdict);
+        expect_made(of_week[i].name, &rule, &plan, &marks, verdict);
+        put2(operand_bytes(&rule, 0) + 8, ENDLESS_RUN_WEEK);
+        expect_check("no minute of the week", &rule, &plan, &marks, refusal(3, 0, 0));
+        *kind_byte(&rule, 0) = ENDLESS_RUN_KIND_WINDOW + 1;
+        expect_check("no kind", &rule, &plan, &marks, refusal(2, 0, 0));
+    }
+    expect("version", ENDLESS_RUN_VERSION == 6 && ENDLESS_RUN_WEEK == 7 * 24 * 60);
+}
+
 /* ---- Shifts and findings ---- */
 
 static int finding_on(int row)
@@ -291,8 +325,8 @@ static void settler(void)
 /* A word of each refusal's text. */
 enum { REFUSALS = 15 };
 static const char *const words[REFUSALS + 1] = {
-    "",           "rule's",    "kind",     "operand", "plan's",  "channels",   "lead-in or start",
-    "mark table", "mark byte", "equation", "passes",  "witness", "comparison", "buffer",
+    "",           "rule's",    "1 to 13",  "operand", "plan's",  "channels",   "lead-in or start",
+    "mark table", "mark byte", "equation", "passes",  "witness", "no window",  "buffer",
     "no mark table", "no number of passes",
 };
 
@@ -367,6 +401,7 @@ static void messages(void)
 void test_header(void)
 {
     kinds();
+    windows();
     shifts();
     sizes();
     maker();

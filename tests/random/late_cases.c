@@ -8,7 +8,7 @@
 
 /* ---- Plans ---- */
 
-enum late_style { STILL, CROSSING, AT_THE_EDGE };
+enum late_style { STILL, CROSSING, AT_THE_EDGE, WEEKLY };
 
 /* Mostly few rows, so that many passes have room; now and then so many that few have. */
 static void some_late_rows(int *start, int *cycle)
@@ -41,13 +41,15 @@ static void write_late_cell(enum late_style style, int row, int channel, bool in
         write_drift(&case_plan, row, channel, between(-3, 3));
     if (in_cycle && style == AT_THE_EDGE && chance(30))
         write_at_the_edge(row, channel);
+    if (in_cycle && style == WEEKLY)
+        write_drift(&case_plan, row, channel, chance(70) ? WEEK : weekly_drift());
 }
 
 static void make_late_plan(void)
 {
     int start, cycle, channels = chance(95) ? between(1, 3) : between(1, 8);
     int lead = chance(50) ? 0 : between(1, MOST_LEAD);
-    enum late_style style = chance(50) ? STILL : chance(60) ? CROSSING : AT_THE_EDGE;
+    enum late_style style = chance(50) ? STILL : (enum late_style)between(CROSSING, WEEKLY);
     some_late_rows(&start, &cycle);
     start_plan_with_lead(&case_plan, channels, lead, start, cycle);
     for (int row = -lead; row < start + cycle; row++)
@@ -58,9 +60,18 @@ static void make_late_plan(void)
 
 /* ---- Rules ---- */
 
+/* The window of the one minute that a reading lies in. */
+static struct formula window_of(struct term term, int64_t number)
+{
+    int minute = (int)(number % WEEK);
+    minute += minute < 0 ? WEEK : 0;
+    return (struct formula){ .kind = WINDOW, .left = term, .from = minute,
+                             .to = (minute + 1) % WEEK };
+}
+
 /* A reading, mostly one some positions back, is that of a cycle row: mostly of its
    first pass. */
-static struct formula comparison_back(void)
+static struct formula atom_back(void)
 {
     const struct plan *p = &case_truth.plan;
     int channel = chance(60) ? 0 : below(p->channels), row = between(p->start, p->rows - 1);
@@ -69,7 +80,7 @@ static struct formula comparison_back(void)
     struct formula f = { .kind = chance(80) ? EQUAL : LESS };
     f.left = reading(channel, chance(50) ? -4 : -below(5));
     f.right = constant(number == (int32_t)number ? (int32_t)number : p->reading[row][channel]);
-    return f;
+    return chance(25) ? window_of(f.left, number) : f;
 }
 
 /* Mostly one that looks back, and mostly over the part just below. */
@@ -90,27 +101,27 @@ static struct formula link_of_chain(int part)
     return (struct formula){ .kind = kinds[below(5)], .a = part - 1 };
 }
 
-static struct formula some_late_formula(int part, bool is_chain, int comparisons_percent)
+static struct formula some_late_formula(int part, bool is_chain, int atoms_percent)
 {
     if (part == 0 && is_chain)
-        return comparison_back();
+        return atom_back();
     if (is_chain)
         return link_of_chain(part);
-    if (part == 0 || chance(comparisons_percent))
-        return chance(60) ? comparison_back() : some_comparison();
+    if (part == 0 || chance(atoms_percent))
+        return chance(60) ? atom_back() : some_atom();
     return operator_back(part);
 }
 
 static void make_late_rule(void)
 {
-    int size = below(100), comparisons_percent = between(10, 50);
+    int size = below(100), atoms_percent = between(10, 50);
     int parts = size < 70 ? between(1, 6) : size < 97 ? between(1, 14) : between(1, MOST_PARTS);
     bool is_chain = chance(25);
     case_truth.rule.parts = parts;
     case_truth.rule.channels = case_truth.plan.channels;
     start_rule(&case_rule, parts, case_truth.plan.channels);
     for (int part = 0; part < parts; part++) {
-        case_truth.rule.part[part] = some_late_formula(part, is_chain, comparisons_percent);
+        case_truth.rule.part[part] = some_late_formula(part, is_chain, atoms_percent);
         write_formula(&case_rule, part, &case_truth.rule.part[part]);
     }
 }

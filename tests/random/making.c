@@ -176,6 +176,7 @@ static void fixpoints(void)
 static const struct formula open_parts[] = {
     { .kind = LESS, .left = { true, -1, 0 }, .right = { false, 0, 1 } },
     { .kind = EQUAL, .left = { false, 0, 0 }, .right = { true, -1, 0 } },
+    { .kind = WINDOW, .left = { true, -1, 0 }, .from = 1, .to = 2 },
     { .kind = YESTERDAY, .a = X_IS_1 },
     { .kind = WEAK_YESTERDAY, .a = X_IS_1 },
     { .kind = SINCE, .a = Y_IS_1, .b = X_IS_1 },

@@ -15,7 +15,9 @@ static struct sheet rule, plan, marks;
 
 /* ---- The base ---- */
 
-static const char *const base_marks[12] = {
+enum { PARTS = 13 };
+
+static const char *const base_marks[PARTS] = {
     "1101", /*  0  y < 25 */
     "0010", /*  1  Y x = 6, a term that reaches before the run on row 0 */
     "1101", /*  2  not 1 */
@@ -28,11 +30,12 @@ static const char *const base_marks[12] = {
     "1110", /*  9  Z 0 */
     "0011", /* 10  0 S 1 */
     "1101", /* 11  4 T 0 */
+    "1010", /* 12  x from minute 5 to minute 6 */
 };
 
 static void write_base_rule(void)
 {
-    start_rule(&rule, 12, 2);
+    start_rule(&rule, PARTS, 2);
     write_comparison(&rule, 0, LESS, reading(1, 0), constant(25));
     write_comparison(&rule, 1, EQUAL, reading(0, -1), constant(6));
     write_unary(&rule, 2, NOT, 1);
@@ -45,6 +48,7 @@ static void write_base_rule(void)
     write_unary(&rule, 9, WEAK_YESTERDAY, 0);
     write_binary(&rule, 10, SINCE, 0, 1);
     write_binary(&rule, 11, TRIGGER, 4, 0);
+    write_window(&rule, 12, reading(0, 0), 5, 6);
 }
 
 static void write_base_plan(void)
@@ -59,8 +63,8 @@ static void write_base_plan(void)
 
 static void write_base_marks(void)
 {
-    start_marks(&marks, 12, 4);
-    for (int part = 0; part < 12; part++)
+    start_marks(&marks, PARTS, 4);
+    for (int part = 0; part < PARTS; part++)
         for (int row = 0; row < 4; row++)
             *mark_byte(&marks, part, row) = base_marks[part][row] == '1';
     put2(witness_bytes(&marks, 6), 2);
@@ -162,17 +166,17 @@ static void rule_sizes(void)
 
 static void kinds(void)
 {
-    static const uint8_t wrong[] = { 0, 13, 14, 128, 255 };
+    static const uint8_t wrong[] = { 0, 14, 15, 128, 255 };
     for (size_t i = 0; i < sizeof wrong; i++)
-        for (int part = 0; part < 12; part++) {
+        for (int part = 0; part < PARTS; part++) {
             *kind_byte(&rule, part) = wrong[i];
             refuse_all("kind byte", refusal(2, part, 0));
         }
     *kind_byte(&rule, 9) = 0;
-    *kind_byte(&rule, 4) = 13;
+    *kind_byte(&rule, 4) = 14;
     refuse_all("lowest wrong kind", refusal(2, 4, 0));
     operand_bytes(&rule, 0)[0] = 2;
-    *kind_byte(&rule, 11) = 13;
+    *kind_byte(&rule, 11) = 14;
     refuse_all("a kind before a lower operand", refusal(2, 11, 0));
 }
 
@@ -248,6 +252,36 @@ static void named_parts(int part)
     }
 }
 
+/* Every byte of the window's operand, with the high bit turned round or another value:
+   5 and 6 for from and to are the only fields with neighbours that are in order. */
+static void window_bytes(void)
+{
+    enum { WINDOW_PART = 12, CODE = 1, FROM = 6, TO = 8 };
+    for (int i = 0; i < 12; i++) {
+        operand_bytes(&rule, WINDOW_PART)[i] ^= 128;
+        if (i == FROM || i == TO)
+            accept_with_true_marks("another minute of a window");
+        else
+            refuse_all("a byte of a window, high bit", refusal(3, WINDOW_PART, 0));
+    }
+    operand_bytes(&rule, WINDOW_PART)[FROM] = 6;
+    refuse_all("a window from a minute to itself", refusal(3, WINDOW_PART, 0));
+    operand_bytes(&rule, WINDOW_PART)[TO] = 5;
+    refuse_all("a window from a minute to itself", refusal(3, WINDOW_PART, 0));
+    operand_bytes(&rule, WINDOW_PART)[0] = 0;
+    refuse_all("a window of a constant", refusal(3, WINDOW_PART, 0));
+    operand_bytes(&rule, WINDOW_PART)[CODE] = 9;
+    refuse_all("a window, shift code 9", refusal(3, WINDOW_PART, 0));
+    operand_bytes(&rule, WINDOW_PART)[2] = 2;
+    refuse_all("a window of an absent channel", refusal(3, WINDOW_PART, 0));
+    operand_bytes(&rule, WINDOW_PART)[10] = 1;
+    put2(operand_bytes(&rule, 9), 9);
+    refuse_all("an operand below a window's", refusal(3, 9, 0));
+    operand_bytes(&rule, WINDOW_PART)[11] = 1;
+    resize(&plan, 0);
+    refuse_all("a window before the plan", refusal(3, WINDOW_PART, 0));
+}
+
 static void operands(void)
 {
     terms_of(LESS, true);
@@ -264,6 +298,7 @@ static void operands(void)
     put2(operand_bytes(&rule, 9), 9);
     put2(operand_bytes(&rule, 5), 5);
     refuse_all("lowest wrong operand", refusal(3, 5, 0));
+    window_bytes();
     put2(operand_bytes(&rule, 9), 9);
     resize(&plan, 0);
     refuse_all("an operand before the plan", refusal(3, 9, 0));
@@ -392,7 +427,7 @@ static void lead_sizes(void)
     start_plan_with_lead(&plan, 2, 1, 1, 2);
     check("three rows and a lead-in row, table of four rows", refusal(7, 0, 0));
     start_plan_with_lead(&plan, 2, 1, 2, 2);
-    start_marks(&marks, 12, 5);
+    start_marks(&marks, PARTS, 5);
     check("four rows and a lead-in row, table of five rows", refusal(7, 0, 0));
 }
 
@@ -504,9 +539,9 @@ static void lead_drifts(void)
 
 static void mark_sizes(void)
 {
-    static const int sizes[][2] = { { 11, 4 }, { 13, 4 }, { 12, 3 },  { 12, 5 },
-                                    { 0, 4 },  { 12, 0 }, { 4, 12 },  { 268, 4 },
-                                    { 12, 260 } };
+    static const int sizes[][2] = { { 12, 4 }, { 14, 4 }, { 13, 3 },  { 13, 5 },
+                                    { 0, 4 },  { 13, 0 }, { 4, 13 },  { 269, 4 },
+                                    { 13, 260 } };
     for (size_t len = 0; len < 4; len++) {
         resize(&marks, len);
         check("table of fewer than 4 bytes", refusal(7, 0, 0));
@@ -532,11 +567,12 @@ static void mark_sizes(void)
 static void mark_bytes(void)
 {
     static const uint8_t wrong[] = { 2, 3, 128, 129, 254, 255 };
-    for (int part = 0; part < 12; part++)
-        for (int row = 0; row < 4; row++) {
-            *mark_byte(&marks, part, row) = wrong[(part + row) % 6];
-            check("mark byte above 1", refusal(8, part, row));
-        }
+    for (int part = 0; part < PARTS; part++)
+        for (int row = 0; row < 4; row++)
+            for (int i = 0; i < 6; i++) {
+                *mark_byte(&marks, part, row) = wrong[i];
+                check("mark byte above 1", refusal(8, part, row));
+            }
     *mark_byte(&marks, 3, 0) = 2;
     *mark_byte(&marks, 2, 3) = 2;
     *mark_byte(&marks, 2, 1) = 2;
@@ -550,7 +586,7 @@ static void mark_bytes(void)
 
 static void equations(void)
 {
-    for (int part = 0; part < 12; part++)
+    for (int part = 0; part < PARTS; part++)
         for (int row = 0; row < 4; row++) {
             *mark_byte(&marks, part, row) ^= 1;
             uint64_t answer = second_check(slice_of(&rule), slice_of(&plan), slice_of(&marks));
@@ -639,7 +675,7 @@ static void witnesses(void)
             check("witness that does not serve", refusal(11, part, 0));
         }
     }
-    for (int part = 0; part < 12; part++)
+    for (int part = 0; part < PARTS; part++)
         for (int witness = 0; part != 6 && part != 7 && witness < 6; witness++) {
             put2(witness_bytes(&marks, part), witness == 5 ? 65534 : (unsigned)witness);
             check("witness where none is due", refusal(11, part, 0));
@@ -681,7 +717,7 @@ static void witnesses(void)
 
 static void absent(void)
 {
-    static const uint64_t no_part[] = { 12, 13, 63, 64, 65, 255, 256, 65536, (uint64_t)1 << 32,
+    static const uint64_t no_part[] = { PARTS, 14, 63, 64, 65, 255, 256, 65536, (uint64_t)1 << 32,
                                         (uint64_t)1 << 63, UINT64_MAX };
     static const uint64_t no_row[] = { 4, 5, 255, 256, 65536, (uint64_t)1 << 32, (uint64_t)1 << 63,
                                        UINT64_MAX };
@@ -693,12 +729,14 @@ static void absent(void)
     for (size_t i = 0; i < sizeof no_row / sizeof no_row[0]; i++)
         judge("absent row", 0, no_row[i], twelve);
     for (uint64_t part = 2; part < 12; part++)
-        judge("part that is no comparison", part, 0, twelve);
+        judge("part that is no atom", part, 0, twelve);
     judge("part 0, row 0", 0, 0, ALWAYS_TRUE);
     judge("part 0, row P", 0, 2, ALWAYS_FALSE);
     judge("part 0, row W - 1", 0, 3, ALWAYS_TRUE);
     judge("part 1, row 0, before the run", 1, 0, ALWAYS_FALSE);
     judge("part 1, row P", 1, 2, ALWAYS_TRUE);
+    judge("part 12, row 0", 12, 0, ALWAYS_TRUE);
+    judge("part 12, row W - 1", 12, 3, ALWAYS_FALSE);
 
     write_drift(&plan, 1, 0, 1);
     judge("a start drift before an absent part", 64, 0, refusal(6, 0, 1));

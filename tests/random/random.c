@@ -20,9 +20,10 @@ static struct {
     unsigned long accepted[2], refused[13], judged[3];
     unsigned long false_fixpoints; /* refused 11 where no witness would serve */
     unsigned long full_size;       /* accepted with 64 parts and 256 rows */
-    unsigned long kinds[13];       /* accepted with a part of the kind */
+    unsigned long kinds[14];       /* accepted with a part of the kind */
+    unsigned long window_operands; /* refused 3 for a window */
     unsigned long lead[5];         /* accepted with so many lead-in rows */
-    unsigned long led;             /* accepted, a comparison true by a lead-in row */
+    unsigned long led;             /* accepted, an atom true by a lead-in row */
     unsigned long unseen;          /* accepted, one that reaches before all lead-in rows */
     unsigned long led_always;      /* judged 1 on a cycle row, pass 0 reads a lead-in row */
     unsigned long led_once;        /* judged 2 on one, only pass 0 differs */
@@ -36,7 +37,7 @@ enum { LATE_PASS = 1000 };
 
 /* ---- Lead-in rows ---- */
 
-/* The earliest position that a comparison reads from. */
+/* The earliest position that an atom reads from. */
 static int earliest_read(const struct formula *f, int position)
 {
     int left = f->left.is_reading ? f->left.shift : 0;
@@ -55,9 +56,9 @@ static void count_lead(const struct rule *r, const struct plan *p)
 {
     bool led = false, unseen = false;
     for (int part = 0; part < r->parts; part++)
-        for (int row = 0; is_comparison(r->part[part].kind) && row < p->rows; row++) {
+        for (int row = 0; is_atom(r->part[part].kind) && row < p->rows; row++) {
             const struct formula *f = &r->part[part];
-            led |= reads_lead_in(p, f, row) && comparison_holds(p, f, row);
+            led |= reads_lead_in(p, f, row) && atom_holds(p, f, row);
             unseen |= p->lead > 0 && earliest_read(f, row) < -p->lead;
         }
     counts.lead[p->lead]++;
@@ -90,13 +91,13 @@ static void count_drifts(void)
 
 static void count_accepted(uint64_t verdict)
 {
-    bool seen[13] = { false };
+    bool seen[14] = { false };
     counts.accepted[verdict]++;
     count_lead(&case_truth.rule, &case_truth.plan);
     counts.full_size += case_truth.rule.parts == 64 && case_truth.plan.rows == 256;
     for (int part = 0; part < case_truth.rule.parts; part++)
         seen[case_truth.rule.part[part].kind] = true;
-    for (int kind = LESS; kind <= TRIGGER; kind++)
+    for (int kind = LESS; kind <= WINDOW; kind++)
         counts.kinds[kind] += seen[kind];
 }
 
@@ -108,6 +109,9 @@ static void count_check(uint64_t answer)
         return;
     }
     counts.refused[number]++;
+    if (number == ENDLESS_RUN_OPERAND)
+        counts.window_operands +=
+            *kind_byte(&case_rule, (int)endless_run_part(answer)) == WINDOW;
     if (number == ENDLESS_RUN_START_DRIFT)
         count_drifts();
     struct rule r;
@@ -126,9 +130,9 @@ static void count_check(uint64_t answer)
 
 static bool changes_late(const struct plan *p, const struct formula *f, int row)
 {
-    bool first = comparison_holds(p, f, row);
+    bool first = atom_holds(p, f, row);
     for (int64_t pass = 1; pass < LATE_PASS; pass++)
-        if (comparison_holds(p, f, position_of(p, row, pass)) != first)
+        if (atom_holds(p, f, position_of(p, row, pass)) != first)
             return false;
     return true;
 }
@@ -149,7 +153,9 @@ static void count_judge(uint64_t answer, uint64_t part, uint64_t row)
         counts.led_always += answer == ALWAYS_TRUE;
         counts.led_once += answer == CHANGES && !changes_from(&p, f, (int)row, 1);
     }
-    if (answer == CHANGES)
+    if (f->kind == WINDOW)
+        count_window(&p, f, (int)row, answer);
+    else if (answer == CHANGES)
         counts.late += changes_late(&p, f, (int)row);
     else if (f->kind == EQUAL && row >= (uint64_t)p.start)
         counts.stepped_over += settled_pass(&p, f, (int)row) > LINES_FROM + 1;
@@ -167,6 +173,7 @@ static void print_counts(unsigned long cases)
         snprintf(name, sizeof name, "refused %d", number);
         hold_to_floor(name, counts.refused[number], cases, refusal_floors[number]);
     }
+    hold_to_floor("refused 3 for a window", counts.window_operands, cases, 10);
     hold_each("judged", counts.judged, 3, cases, 500);
     hold_to_floor("judged 2, alike on the first 1000 passes", counts.late, cases, 20);
     hold_to_floor("judged 0, an equality stepped over", counts.stepped_over, cases, 50);
@@ -179,7 +186,7 @@ static void print_counts(unsigned long cases)
     hold_to_floor("judged 2, other by a lead-in row alone", counts.led_once, cases, 20);
     hold_to_floor("refused 6 for a lead-in row", counts.lead_drifts, cases, 10);
     hold_to_floor("refused 6, a later start row has a drift too", counts.both_drifts, cases, 2);
-    for (int kind = LESS; kind <= TRIGGER; kind++) {
+    for (int kind = LESS; kind <= WINDOW; kind++) {
         snprintf(name, sizeof name, "accepted with a part of kind %s", kind_names[kind]);
         hold_to_floor(name, counts.kinds[kind], cases, 200);
     }
@@ -231,11 +238,11 @@ static void ask_about_part(const char *name, uint64_t part)
 static bool is_operator(uint64_t part)
 {
     const struct rule *r = &case_truth.rule;
-    return part < (uint64_t)r->parts && !is_comparison(r->part[part].kind);
+    return part < (uint64_t)r->parts && !is_atom(r->part[part].kind);
 }
 
-/* A part of the rule, mostly a comparison. */
-static void ask_about_comparison(const char *name)
+/* A part of the rule, mostly an atom. */
+static void ask_about_atom(const char *name)
 {
     uint64_t part = some_index(case_truth.rule.parts);
     for (int tries = 0; tries < 4 && is_operator(part); tries++)
@@ -243,10 +250,10 @@ static void ask_about_comparison(const char *name)
     ask_about_part(name, part);
 }
 
-/* A comparison that was not chosen so that it closes. */
-static void ask_about_new_comparison(const char *name)
+/* An atom that was not chosen so that it closes. */
+static void ask_about_new_atom(const char *name)
 {
-    struct formula f = some_comparison();
+    struct formula f = some_atom();
     start_rule(&case_rule, 1, case_truth.plan.channels);
     write_formula(&case_rule, 0, &f);
     ask_about_part(name, 0);
@@ -263,10 +270,10 @@ void test_random(uint64_t seed, unsigned long cases)
         ask_about_table(name);
         if (make_spoiled_table())
             ask_about_table(name);
-        ask_about_comparison(name);
+        ask_about_atom(name);
         ask_for_table(name);
         ask_to_settle(name);
-        ask_about_new_comparison(name);
+        ask_about_new_atom(name);
         ask_for_table(name);
         make_late_case();
         ask_to_settle(name);
@@ -275,4 +282,5 @@ void test_random(uint64_t seed, unsigned long cases)
     print_closing_counts(cases);
     print_make_counts(cases);
     print_settle_counts(cases);
+    print_window_counts(cases);
 }

@@ -17,10 +17,10 @@
 /* ---- Counts ---- */
 
 static struct {
-    unsigned long open[13];        /* refused 10 for a part of the kind */
-    unsigned long both[13];        /* the same, and a mark of it is wrong */
-    unsigned long marks_close[13]; /* the same, and its own marks close */
-    unsigned long marks_open[13];  /* refused 9, its truth closes, and its own marks do not */
+    unsigned long open[14];        /* refused 10 for a part of the kind */
+    unsigned long both[14];        /* the same, and a mark of it is wrong */
+    unsigned long marks_close[14]; /* the same, and its own marks close */
+    unsigned long marks_open[14];  /* refused 9, its truth closes, and its own marks do not */
     unsigned long below_open[12];  /* refused 9 or 11, and a higher part does not close */
 } counts;
 
@@ -66,7 +66,7 @@ static void count_open(const struct plan *p, const struct formula *f, int part)
     bool wrong = has_wrong_mark(part);
     counts.open[f->kind]++;
     counts.both[f->kind] += wrong;
-    counts.marks_close[f->kind] += wrong && f->kind >= YESTERDAY && own_marks_close(p, f, part);
+    counts.marks_close[f->kind] += wrong && is_past(f->kind) && own_marks_close(p, f, part);
 }
 
 /* The answer is 9, 10 or 11. */
@@ -83,8 +83,8 @@ static void count_refused(uint64_t answer)
         count_open(&p, f, part);
         return;
     }
-    counts.marks_open[f->kind] += number == ENDLESS_RUN_EQUATION && f->kind >= YESTERDAY &&
-                                  !own_marks_close(&p, f, part);
+    counts.marks_open[f->kind] +=
+        number == ENDLESS_RUN_EQUATION && is_past(f->kind) && !own_marks_close(&p, f, part);
     counts.below_open[number] += some_part_is_open(&r, &p);
 }
 
@@ -98,9 +98,9 @@ static void hold_kind(const char *name, enum kind kind, const unsigned long *of_
 
 void print_closing_counts(unsigned long cases)
 {
-    for (enum kind kind = LESS; kind <= TRIGGER; kind++)
-        if (kind <= EQUAL || kind >= YESTERDAY) {
-            unsigned long in_10000 = kind <= EQUAL ? 150 : 20;
+    for (enum kind kind = LESS; kind <= WINDOW; kind++)
+        if (is_atom(kind) || is_past(kind)) {
+            unsigned long in_10000 = is_atom(kind) ? 150 : 20;
             hold_kind("refused 10 for kind", kind, counts.open, cases, 2 * in_10000);
             hold_kind("refused 10, a wrong mark too, kind", kind, counts.both, cases, in_10000);
         }

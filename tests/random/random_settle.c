@@ -27,12 +27,12 @@ static struct {
     unsigned long deep;      /* the same, nested 3 deep or more */
     unsigned long drifting;  /* settled by a pass or more, some drifts */
     unsigned long led[5];    /* settled by a pass or more, with so many lead-in rows */
-    unsigned long open[13];  /* settled, and with a pass fewer a part of the kind is open */
+    unsigned long open[14];  /* settled, and with a pass fewer a part of the kind is open */
     unsigned long unnamed;   /* settled, and with a pass fewer only unreached ones are */
     unsigned long rows;      /* refused 15 for the rows */
     unsigned long too_large; /* refused 15 for a reading above 32 bits */
     unsigned long too_small; /* refused 15 for one below */
-    unsigned long unread;    /* refused 15 for a channel that no comparison reads */
+    unsigned long unread;    /* refused 15 for a channel that no atom reads */
     unsigned long both[2];   /* refused 13 where the right lengths settle, and give 15 */
 } counts;
 
@@ -45,7 +45,7 @@ static void find_reached(const struct rule *r, bool *reached)
         reached[part] = part == r->parts - 1;
     for (int part = r->parts - 1; part >= 0; part--) {
         const struct formula *f = &r->part[part];
-        if (!reached[part] || is_comparison(f->kind))
+        if (!reached[part] || is_atom(f->kind))
             continue;
         reached[f->a] = true;
         if (names_two_parts(f->kind))
@@ -118,8 +118,8 @@ static bool is_read(const struct rule *r, int channel)
 {
     for (int part = 0; part < r->parts; part++) {
         const struct formula *f = &r->part[part];
-        if (is_comparison(f->kind) && ((f->left.is_reading && f->left.number == channel) ||
-                                       (f->right.is_reading && f->right.number == channel)))
+        if (is_atom(f->kind) && ((f->left.is_reading && f->left.number == channel) ||
+                                 (f->right.is_reading && f->right.number == channel)))
             return true;
     }
     return false;
@@ -174,8 +174,8 @@ static void hold_settled(unsigned long cases)
     hold_to_floor("settled by a pass, some drifts", counts.drifting, cases, 100);
     hold_each("settled by a pass, L", counts.led, MOST_LEAD + 1, cases, 100);
     hold_to_floor("settled for parts that are not reached", counts.unnamed, cases, 50);
-    for (int kind = LESS; kind <= TRIGGER; kind++)
-        if (kind <= EQUAL || kind >= YESTERDAY) {
+    for (enum kind kind = LESS; kind <= WINDOW; kind++)
+        if (is_atom(kind) || is_past(kind)) {
             snprintf(name, sizeof name, "settled for kind %s", kind_names[kind]);
             hold_to_floor(name, counts.open[kind], cases, 30);
         }

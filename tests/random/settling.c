@@ -488,7 +488,7 @@ static void order(void)
     resize(&plan, 7);
     settle_in(name, 0, 0, refusal(1, 0, 0));
     rule = right_rule;
-    *kind_byte(&rule, 1) = 13;
+    *kind_byte(&rule, 1) = 14;
     operand_bytes(&rule, 0)[0] = 2;
     settle_in(name, 0, 0, refusal(2, 1, 0));
     *kind_byte(&rule, 1) = YESTERDAY;

@@ -93,12 +93,12 @@ static void mark_by_equations(void)
 {
     for (int part = chance(50) ? 0 : some_part(); part < case_truth.rule.parts; part++) {
         enum kind kind = case_truth.rule.part[part].kind;
-        if (is_comparison(kind))
+        if (is_atom(kind))
             continue;
         if (may_have_witness(part)) {
             sweep_back(part, (kind == UNTIL) == chance(70));
             write_serving_witness(part, case_truth.plan.start);
-        } else if (kind >= YESTERDAY) {
+        } else if (is_past(kind)) {
             sweep_forward(part);
         } else {
             mark_row_by_row(part);
@@ -185,10 +185,10 @@ static void damage_rule(void)
     uint8_t *operand = operand_bytes(&case_rule, part), *kind = kind_byte(&case_rule, part);
     switch (below(5)) {
     case 0:
-        *kind = chance(50) ? 0 : (uint8_t)between(13, 255);
+        *kind = chance(50) ? 0 : (uint8_t)between(14, 255);
         break;
     case 1:
-        *kind = (uint8_t)between(1, 12);
+        *kind = (uint8_t)between(1, 13);
         break;
     case 2:
         put2(case_rule.at + 2 * size, (unsigned)between(0, 70));

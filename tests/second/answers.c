@@ -1,8 +1,8 @@
 /*
  * answers.c: the answers of check and judge, and whether a table is accepted.
  *
- * Two ways lead to acceptance here, and they share the layouts, comparisons and
- * the witness paragraph only:
+ * Two ways lead to acceptance here, and they share the layouts, atoms and the
+ * witness paragraph only:
  *
  *   second_check       goes through the list of refusals, within one part 10, 9
  *                      and 11. A part closes or not by its truth, which the
@@ -69,7 +69,8 @@ static bool equation(const struct table *table, int part, int row)
     switch (f->kind) {
     case LESS:
     case EQUAL:
-        return comparison_holds(&table->plan, f, row);
+    case WINDOW:
+        return atom_holds(&table->plan, f, row);
     case NOT:
         return !m->mark[f->a][row];
     case AND:
@@ -102,11 +103,6 @@ static uint64_t refuse_equation(const struct table *table, int part)
 
 /* ---- Closing (refusal 10) ---- */
 
-static bool is_past(enum kind kind)
-{
-    return kind == YESTERDAY || kind == WEAK_YESTERDAY || kind == SINCE || kind == TRIGGER;
-}
-
 /* The truth of Y, Z, S or T on a row of the first pass, from row 0 on. */
 static bool running_truth(const struct marks *m, const struct formula *f, int row)
 {
@@ -129,7 +125,7 @@ static uint64_t refuse_closing(const struct table *table, int part)
 {
     const struct formula *f = &table->rule.part[part];
     const struct plan *plan = &table->plan;
-    if (is_comparison(f->kind))
+    if (is_atom(f->kind))
         for (int row = plan->start; row < plan->rows; row++)
             if (judge_by_passes(plan, f, row) == CHANGES)
                 return refusal(10, part, row);
@@ -180,7 +176,7 @@ uint64_t second_judge(struct slice rule, struct slice plan, uint64_t part, uint6
         refused = decode_plan(plan, r.channels, &p);
     if (refused)
         return refused;
-    if (part >= (uint64_t)r.parts || row >= (uint64_t)p.rows || !is_comparison(r.part[part].kind))
+    if (part >= (uint64_t)r.parts || row >= (uint64_t)p.rows || !is_atom(r.part[part].kind))
         return refusal(12, 0, 0);
     return judge_by_passes(&p, &r.part[part], (int)row);
 }

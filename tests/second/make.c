@@ -58,7 +58,7 @@ static bool differs_between_passes(const struct truth *truth, int part, int row)
 {
     const struct plan *plan = &truth->plan;
     const struct formula *f = &truth->rule.part[part];
-    if (is_comparison(f->kind))
+    if (is_atom(f->kind))
         return judge_by_passes(plan, f, row) == CHANGES;
     int64_t end = truth->part[part].settled + 2 * plan->cycle;
     for (int64_t t = row; t < end; t += plan->cycle)
@@ -68,7 +68,7 @@ static bool differs_between_passes(const struct truth *truth, int part, int row)
 }
 
 /* The lowest cycle row on which a part that is not row-periodic differs. A part
-   is late only above a comparison that changes, which is refused before it. */
+   is late only above an atom that changes, which is refused before it. */
 static int lowest_differing_row(const struct truth *truth, int part)
 {
     int row = truth->plan.start;

@@ -4,11 +4,11 @@
  * It gives the answers of check, judge, make and settle by another way than the
  * checker and shares no code with it. Truth is found from the published sentences by
  * going through the positions of the run ("b at some j from t on, and a from t
- * to j - 1"), and a comparison is judged by looking at its passes. It is made to
- * be believed, not to be fast.
+ * to j - 1"), and an atom, a comparison or a window, is judged by looking at its
+ * passes. It is made to be believed, not to be fast.
  *
  *   sheets.c    the three byte layouts, refusals 1 to 8
- *   run.c       readings and comparisons at a position, judging by passes
+ *   run.c       readings and atoms at a position, judging by passes
  *   truth.c     the published truth of every part at every position
  *   answers.c   the answers of check and judge: refusal by refusal, and from
  *               the truth alone
@@ -27,7 +27,8 @@ enum {
     MOST_CHANNELS = 8,
     MOST_LEAD = 4,
     MOST_ROWS = 256,
-    NO_WITNESS = 65535
+    NO_WITNESS = 65535,
+    WEEK = 10080 /* minutes */
 };
 
 /* Bytes lent by the caller. */
@@ -50,7 +51,8 @@ enum kind {
     YESTERDAY = 9,
     WEAK_YESTERDAY = 10,
     SINCE = 11,
-    TRIGGER = 12
+    TRIGGER = 12,
+    WINDOW = 13
 };
 
 /* A constant, or a channel read at a shifted position. */
@@ -60,11 +62,13 @@ struct term {
     int32_t number; /* the constant, or the channel */
 };
 
-/* A part of the rule: a comparison of two terms, or an operator over the
-   formulas of one or two lower parts. */
+/* A part of the rule: a comparison of two terms; a window of the week, from a minute
+   up to another, in which the left term lies or does not, and whose right term is the
+   constant 0; or an operator over the formulas of one or two lower parts. */
 struct formula {
     enum kind kind;
     struct term left, right;
+    int from, to;
     int a, b;
 };
 
@@ -88,8 +92,13 @@ struct marks {
     int witness[MOST_PARTS];
 };
 
-bool is_comparison(enum kind kind);
+/* A part whose truth is read off the run: a comparison or a window. */
+bool is_atom(enum kind kind);
+
 bool names_two_parts(enum kind kind);
+
+/* Y, Z, S or T. */
+bool is_past(enum kind kind);
 
 /* A refusal as a number: number * 2^32 + part * 2^16 + row. */
 uint64_t refusal(int number, int part, int row);
@@ -105,8 +114,8 @@ uint64_t decode_marks(struct slice bytes, int parts, int rows, struct marks *mar
 
 enum judged { ALWAYS_FALSE = 0, ALWAYS_TRUE = 1, CHANGES = 2 };
 
-/* Does the comparison hold at this position? */
-bool comparison_holds(const struct plan *plan, const struct formula *f, int64_t position);
+/* Does the atom hold at this position? */
+bool atom_holds(const struct plan *plan, const struct formula *f, int64_t position);
 
 /* Have both runs the same reading of every channel at this position, or neither one
    any? The plans have as many channels. */
@@ -115,8 +124,11 @@ bool runs_agree(const struct plan *a, const struct plan *b, int64_t position);
 /* The position of a cycle row on a pass. */
 int64_t position_of(const struct plan *plan, int row, int64_t pass);
 
-/* A pass from which on the comparison has one and the same truth on a cycle
-   row. It may be as late as 2^37. */
+/* A window on a cycle row that comes and goes for ever. */
+#define NEVER_SETTLED INT64_MAX
+
+/* A pass from which on the atom has one and the same truth on a cycle row, or
+   NEVER_SETTLED. Of a comparison it may be as late as 2^37. */
 int64_t settled_pass(const struct plan *plan, const struct formula *f, int row);
 
 /* From this pass on no shift reaches a start row, a lead-in row or what lies before
@@ -126,7 +138,7 @@ enum { LINES_FROM = 4 };
 /* Do two passes of a cycle row, from this pass on, differ? */
 bool changes_from(const struct plan *plan, const struct formula *f, int row, int64_t pass);
 
-/* The comparison's truth on a row, over all passes. */
+/* The atom's truth on a row, over all passes. */
 enum judged judge_by_passes(const struct plan *plan, const struct formula *f, int row);
 
 /* ---- The published truth (truth.c) ---- */
@@ -135,7 +147,7 @@ enum judged judge_by_passes(const struct plan *plan, const struct formula *f, in
    and from there on that of C positions before. */
 enum { COURSE_LONGEST = 32768 };
 struct course {
-    bool late; /* rests on a comparison that changes later than was followed */
+    bool late; /* rests on an atom that changes later than was followed, or for ever */
     int64_t settled;
     uint8_t at[COURSE_LONGEST];
 };

@@ -6,7 +6,8 @@
  * them as it is one pass later: each reading with its drift added. The run stays the
  * same. 0, 1, 2 passes and on are tried in turn, and on each plan the truth of the
  * parts is found anew. Once a pass cannot be laid out no more are tried, as every
- * plan with more passes has the rows and readings of that one too.
+ * plan with more passes has the rows and readings of that one too. Nor are more tried
+ * where a window comes and goes for ever, as it does so on the later passes too.
  */
 #include "second.h"
 
@@ -97,6 +98,17 @@ static bool every_part_closes(struct truth *space)
     return true;
 }
 
+static bool some_window_never_settles(const struct truth *space)
+{
+    const struct plan *plan = &space->plan;
+    for (int part = 0; part < space->rule.parts; part++)
+        for (int row = plan->start; row < plan->rows; row++)
+            if (space->rule.part[part].kind == WINDOW &&
+                settled_pass(plan, &space->rule.part[part], row) == NEVER_SETTLED)
+                return true;
+    return false;
+}
+
 uint64_t second_settle(struct truth *space, struct slice rule, struct slice plan,
                        uint8_t *laid_out, size_t laid_out_len, uint8_t *scratch,
                        size_t scratch_len)
@@ -110,8 +122,9 @@ uint64_t second_settle(struct truth *space, struct slice rule, struct slice plan
         return refusal(13, 0, 0);
     memset(scratch, 0, scratch_len);
     uint64_t passes = 0;
+    bool never = some_window_never_settles(space);
     while (!every_part_closes(space)) {
-        if (!lay_out_pass(&space->plan))
+        if (never || !lay_out_pass(&space->plan))
             return refusal(15, 0, 0);
         passes++;
     }

@@ -32,15 +32,25 @@ uint64_t refusal(int number, int part, int row)
 
 /* ---- The rule sheet ---- */
 
-bool is_comparison(enum kind kind)
+static bool is_comparison(enum kind kind)
 {
     return kind == LESS || kind == EQUAL;
+}
+
+bool is_atom(enum kind kind)
+{
+    return is_comparison(kind) || kind == WINDOW;
 }
 
 bool names_two_parts(enum kind kind)
 {
     return kind == AND || kind == OR || kind == UNTIL || kind == RELEASE || kind == SINCE ||
            kind == TRIGGER;
+}
+
+bool is_past(enum kind kind)
+{
+    return kind == YESTERDAY || kind == WEAK_YESTERDAY || kind == SINCE || kind == TRIGGER;
 }
 
 /* Form, shift code, number. A constant has shift code 4; a reading has shift
@@ -56,12 +66,23 @@ static bool decode_term(const uint8_t *at, int channels, struct term *term)
     return form == 1 && shift_code <= 8 && term->number >= 0 && term->number < channels;
 }
 
-/* Two terms; or one part and 10 zero bytes; or two parts and 8 zero bytes. A
-   named part has a lower number than its user. */
+/* A term that is a reading, two minutes of the week that differ, and 2 zero bytes. */
+static bool decode_window(const uint8_t *at, int channels, struct formula *f)
+{
+    f->from = field2(at + 6);
+    f->to = field2(at + 8);
+    return decode_term(at, channels, &f->left) && f->left.is_reading && f->from < WEEK &&
+           f->to < WEEK && f->from != f->to && all_zero(at + 10, 2);
+}
+
+/* Two terms; or a window's fields; or one part and 10 zero bytes; or two parts and 8
+   zero bytes. A named part has a lower number than its user. */
 static bool decode_operand(const uint8_t *at, int user, int channels, struct formula *f)
 {
     if (is_comparison(f->kind))
         return decode_term(at, channels, &f->left) && decode_term(at + 6, channels, &f->right);
+    if (f->kind == WINDOW)
+        return decode_window(at, channels, f);
     f->a = field2(at);
     f->b = field2(at + 2);
     if (names_two_parts(f->kind))
@@ -84,7 +105,7 @@ uint64_t decode_rule(struct slice bytes, struct rule *rule)
 
     const uint8_t *kinds = bytes.at + 4, *operands = kinds + rule->parts;
     for (int i = 0; i < rule->parts; i++) {
-        if (kinds[i] < 1 || kinds[i] > 12)
+        if (kinds[i] < 1 || kinds[i] > 13)
             return refusal(2, i, 0);
         rule->part[i] = (struct formula){ .kind = (enum kind)kinds[i] };
     }

@@ -6,11 +6,11 @@
  * from some position on, called settled here. So it is enough to find it below
  * settled + C. Why a part settles, and by when:
  *
- *   Comparisons  settle on each cycle row by the pass that run.c finds, hence
+ *   Atoms        settle on each cycle row by the pass that run.c finds, hence
  *                by the latest of these passes. A comparison that changes only
- *                after very many passes is called late. It is not followed to
- *                the end, nor are the parts above it: that it changes is known,
- *                and no more is asked of it.
+ *                after very many passes, and a window that changes for ever, is
+ *                called late. It is not followed to the end, nor are the parts
+ *                above it: that it changes is known, and no more is asked of it.
  *   not and or   settle where the parts that they name have settled.
  *   X U R        likewise, since truth at t depends on positions from t on only.
  *   Y Z          settle one position later.
@@ -30,7 +30,7 @@ static int64_t max(int64_t a, int64_t b)
     return a > b ? a : b;
 }
 
-/* How many passes of a comparison are followed. */
+/* How many passes of an atom are followed. */
 static int64_t passes_followed(const struct plan *plan)
 {
     return 8 + 400 / plan->cycle;
@@ -104,7 +104,8 @@ static bool by_sentence(const struct truth *truth, const struct formula *f, int6
     switch (f->kind) {
     case LESS:
     case EQUAL:
-        return comparison_holds(&truth->plan, f, t);
+    case WINDOW:
+        return atom_holds(&truth->plan, f, t);
     case NOT:
         return !holds(truth, f->a, t);
     case AND:
@@ -131,9 +132,9 @@ static bool by_sentence(const struct truth *truth, const struct formula *f, int6
 
 /* ---- When a part has settled ---- */
 
-/* The position by which a comparison has settled, or up to which it is
-   followed if it is late. */
-static int64_t comparison_bound(const struct plan *plan, const struct formula *f, bool *late)
+/* The position by which an atom has settled, or up to which it is followed if it is
+   late. */
+static int64_t atom_bound(const struct plan *plan, const struct formula *f, bool *late)
 {
     int64_t latest = LINES_FROM;
     *late = false;
@@ -149,8 +150,8 @@ static int64_t comparison_bound(const struct plan *plan, const struct formula *f
 
 static int64_t bound_of(const struct truth *truth, const struct formula *f, bool *late)
 {
-    if (is_comparison(f->kind))
-        return comparison_bound(&truth->plan, f, late);
+    if (is_atom(f->kind))
+        return atom_bound(&truth->plan, f, late);
     const struct course *a = &truth->part[f->a];
     const struct course *b = names_two_parts(f->kind) ? &truth->part[f->b] : a;
     int64_t bound = max(a->settled, b->settled);

@@ -1,7 +1,7 @@
 /*
  * examples.c: the worked examples E1 to E11, E8 also with a lead-in row, the plan of
- * docs/FORMATS.md with two lead-in rows, and its worked tables in its order. E12 is
- * about full sizes, and is tried where sizes are (neighbours.c).
+ * docs/FORMATS.md with two lead-in rows, and its worked tables in its order; and windows of
+ * the week. E12 is about full sizes, and is tried where sizes are (neighbours.c).
  */
 #include "examples.h"
 
@@ -55,6 +55,13 @@
     "06 00 01 00 01 01 01 09 02 0B " YESTERDAY_X X TWO_BEFORE_X X X THREE_BEFORE_X NAMES_0 X C_20  \
         NAMES_0_4
 
+/* Windows: a term, from, to, and 2 zero bytes. */
+#define ON_MONDAY ONE_PART "0D " X "E0 01 FC 03 00 00 "              /* from 480 to 1020 */
+#define BUT_ON_MONDAY ONE_PART "0D " X "FC 03 E0 01 00 00 "          /* from 1020 to 480 */
+#define LAST_MINUTE ONE_PART "0D " X "5F 27 00 00 00 00 "            /* from 10079 to 0 */
+#define ALL_BUT_THE_LAST ONE_PART "0D " X "00 00 5F 27 00 00 "       /* from 0 to 10079 */
+#define LAST_TIME_ON_MONDAY ONE_PART "0D " YESTERDAY_X "E0 01 FC 03 00 00 "
+
 /* ---- Plans: V, P, C, L, readings, drifts ---- */
 
 #define PLAN_A                                                                                     \
@@ -80,6 +87,8 @@
 #define FROM_0_BY_3 ONE_ROW "00 00 00 00 03 00 00 00"
 #define ALWAYS_5 ONE_ROW "05 00 00 00 00 00 00 00"
 #define FROM_TOP_BY_1 ONE_ROW "FF FF FF 7F 01 00 00 00"
+#define BY_A_DAY "A0 05 00 00"
+#define BY_A_WEEK "60 27 00 00"
 
 #define REFUSED(number, part, row) ((uint64_t)(number) << 32 | (part) << 16 | (row))
 #define NONE "FF FF "
@@ -203,6 +212,37 @@ const struct example examples[] = {
       PLAN_D_BY("FB FF FF FF"),
       "05 00 05 00 01 01 00 01 01 01 01 00 01 00 01 01 00 01 01 00 01 01 00 01 01 01 00 00 00 " NO_2
       "01 00 " NONE "02 00", 0, REFUSED(10, 0, 4) },
+
+    { "window at 479", ON_MONDAY, ONE_ROW "DF 01 00 00 " STILL_1, 0, 0, ALWAYS_FALSE },
+    { "window at 480", ON_MONDAY, ONE_ROW "E0 01 00 00 " STILL_1, 0, 0, ALWAYS_TRUE },
+    { "window at 1019", ON_MONDAY, ONE_ROW "FB 03 00 00 " STILL_1, 0, 0, ALWAYS_TRUE },
+    { "window at 1020", ON_MONDAY, ONE_ROW "FC 03 00 00 " STILL_1, 0, 0, ALWAYS_FALSE },
+    { "window by a week", ON_MONDAY, ONE_ROW "E0 01 00 00 " BY_A_WEEK, 0, 0, ALWAYS_TRUE },
+    { "window by a week, checked", ON_MONDAY, ONE_ROW "E0 01 00 00 " BY_A_WEEK,
+      "01 00 01 00 01 " NONE, 0, 1 },
+    { "window by a day", ON_MONDAY, ONE_ROW "E0 01 00 00 " BY_A_DAY, 0, 0, CHANGES },
+    { "window by a day, checked", ON_MONDAY, ONE_ROW "E0 01 00 00 " BY_A_DAY,
+      "01 00 01 00 01 " NONE, 0, REFUSED(10, 0, 0) },
+    { "window by a day, never", ON_MONDAY, ONE_ROW "FC 03 00 00 " BY_A_DAY, 0, 0, ALWAYS_FALSE },
+    { "window by a day, always", BUT_ON_MONDAY, ONE_ROW "FC 03 00 00 " BY_A_DAY, 0, 0,
+      ALWAYS_TRUE },
+    { "window at -1", LAST_MINUTE, ONE_ROW "FF FF FF FF " STILL_1, 0, 0, ALWAYS_TRUE },
+    { "window at -10081", LAST_MINUTE, ONE_ROW "9F D8 FF FF " STILL_1, 0, 0, ALWAYS_TRUE },
+    { "window at -10080", LAST_MINUTE, ONE_ROW "A0 D8 FF FF " STILL_1, 0, 0, ALWAYS_FALSE },
+    { "window but at -1", ALL_BUT_THE_LAST, ONE_ROW "FF FF FF FF " STILL_1, 0, 0, ALWAYS_FALSE },
+    { "window but at 10078", ALL_BUT_THE_LAST, ONE_ROW "5E 27 00 00 " STILL_1, 0, 0, ALWAYS_TRUE },
+    { "window before the run", LAST_TIME_ON_MONDAY, ONE_ROW "E0 01 00 00 " STILL_1, 0, 0, CHANGES },
+    { "window after a lead-in", LAST_TIME_ON_MONDAY,
+      "01 00 00 00 01 00 01 00 E0 01 00 00 E0 01 00 00 " STILL_2, 0, 0, ALWAYS_TRUE },
+    { "window of a constant", ONE_PART "0D " C_10 "E0 01 FC 03 00 00 ", ALWAYS_5, 0, 0,
+      REFUSED(3, 0, 0) },
+    { "window from 10080", ONE_PART "0D " X "60 27 FC 03 00 00 ", ALWAYS_5, 0, 0,
+      REFUSED(3, 0, 0) },
+    { "window from 480 to 480", ONE_PART "0D " X "E0 01 E0 01 00 00 ", ALWAYS_5, 0, 0,
+      REFUSED(3, 0, 0) },
+    { "window, padding", ONE_PART "0D " X "E0 01 FC 03 00 01 ", ALWAYS_5, 0, 0,
+      REFUSED(3, 0, 0) },
+    { "kind 14", ONE_PART "0E " X "E0 01 FC 03 00 00 ", ALWAYS_5, 0, 0, REFUSED(2, 0, 0) },
 };
 const size_t example_count = sizeof examples / sizeof examples[0];
 

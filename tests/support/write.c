@@ -99,6 +99,14 @@ void write_comparison(struct sheet *rule, int part, enum kind kind, struct term 
     write_term(operand + 6, right);
 }
 
+void write_window(struct sheet *rule, int part, struct term term, int from, int to)
+{
+    uint8_t *operand = start_operand(rule, part, WINDOW);
+    write_term(operand, term);
+    put2(operand + 6, (unsigned)from);
+    put2(operand + 8, (unsigned)to);
+}
+
 void write_unary(struct sheet *rule, int part, enum kind kind, int a)
 {
     put2(start_operand(rule, part, kind), (unsigned)a);
@@ -113,7 +121,9 @@ void write_binary(struct sheet *rule, int part, enum kind kind, int a, int b)
 
 void write_formula(struct sheet *rule, int part, const struct formula *f)
 {
-    if (is_comparison(f->kind))
+    if (f->kind == WINDOW)
+        write_window(rule, part, f->left, f->from, f->to);
+    else if (is_atom(f->kind))
         write_comparison(rule, part, f->kind, f->left, f->right);
     else if (names_two_parts(f->kind))
         write_binary(rule, part, f->kind, f->a, f->b);

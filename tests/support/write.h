@@ -40,6 +40,7 @@ struct term reading(int channel, int shift);
 void start_rule(struct sheet *rule, int parts, int channels);
 void write_comparison(struct sheet *rule, int part, enum kind kind, struct term left,
                       struct term right);
+void write_window(struct sheet *rule, int part, struct term term, int from, int to);
 void write_unary(struct sheet *rule, int part, enum kind kind, int a);
 void write_binary(struct sheet *rule, int part, enum kind kind, int a, int b);
 void write_formula(struct sheet *rule, int part, const struct formula *f);
