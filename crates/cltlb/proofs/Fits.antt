@@ -12,7 +12,7 @@ use Rattle.cltlb.specs.Fits.{shiftFits, termFits, windowFits, atomFits, 
 use Rattle.cltlb.specs.declared.Term.{Term}
 use Rattle.cltlb.specs.declared.Term.the-variants.{Constant, Reading}
 use Rattle.cltlb.specs.declared.Atom.{Atom}
-use Rattle.cltlb.specs.declared.Atom.the-variants.{Less, Equal, Window}
+use Rattle.cltlb.specs.declared.Atom.the-variants.{Less, Equal, Window, Pinned}
 use Rattle.cltlb.specs.declared.Unary.{Unary}
 use Rattle.cltlb.specs.declared.Binary.{Binary}
 use Rattle.cltlb.specs.declared.Operator.{Operator}
@@ -48,6 +48,10 @@ module _ (v : ℕ) where
       → (termFits v (Reading c s) ≡ true) × (windowFits from to ≡ true)
   unfolding atomFits
   window-fits c s from to h = and-eq-true-iff (termFits v (Reading c s)) (windowFits from to) .0 h
+
+  pub pinned-fits : (c : ℕ) (s : ℤ) → atomFits v (Pinned c s) ≡ true → termFits v (Reading c s) ≡ true
+  unfolding atomFits
+  pinned-fits c s h = h
 
   module _ (n : ℕ) where
     pub atom-fits : (x : Atom) → viewFits v n (view.Atom x) ≡ true → atomFits v x ≡ true
@@ -95,6 +99,7 @@ module _ (v u : ℕ) (h : v ≤ u) where
   atom-more (Less x y) e = let p = less-fits v x y e in simp (term-more x (p .0), term-more y (p .1))
   atom-more (Equal x y) e = let p = equal-fits v x y e in simp (term-more x (p .0), term-more y (p .1))
   atom-more (Window c s from to) e = let p = window-fits v c s from to e in simp (term-more (Reading c s) (p .0), p .1)
+  atom-more (Pinned c s) e = term-more (Reading c s) (pinned-fits v c s e)
 
   pub view-more : (m n : ℕ) → m ≤ n → (x : View) → viewFits v m x ≡ true → viewFits u n x ≡ true
   unfolding viewFits namesLower
@@ -125,9 +130,13 @@ module _ (v : ℕ) {x : Term} {k : ℕ} {d : ℤ} (e : x ≡ Reading k d) where
   unfolding termFits shiftFits
   fits-high h l = simp (e, lt-ltb _ _ h, l)
 
--- ---- a window by the tests that the code makes
+-- ---- a window and a pinned reading by the tests that the code makes
 
 pub fits-window : (v : ℕ) {x : Atom} {c from to : ℕ} {s u : ℤ} {a b : Bool} → x ≡ Window c s from to → u ≡ s
     → a ≡ termFits v (Reading c u) → b ≡ windowFits from to → (a && b) ≡ atomFits v x
 unfolding atomFits
 fits-window v h e f g = rw (h, f, g, e) refl
+
+pub fits-pinned : (v : ℕ) {x : Atom} {c : ℕ} {s u : ℤ} {a : Bool} → x ≡ Pinned c s → u ≡ s → a ≡ termFits v (Reading c u) → a ≡ atomFits v x
+unfolding atomFits
+fits-pinned v h e f = rw (h, f, e) refl

@@ -3,6 +3,7 @@ pub mod Duals
 pub mod Repeats
 pub mod Fits
 pub mod Week
+pub mod Pinned
 pub mod Views
 pub mod SameRun
 pub mod Depth

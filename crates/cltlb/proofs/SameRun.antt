@@ -8,18 +8,18 @@ use native.Mathlib.Nat.{not-suc-le-zero}
 use native.Mathlib.Omega.{arith}
 use lib.IntN.{ℤ, pos, _+ℤ_}
 use lib.Signed.{_<ℤ_}
-use Rattle.cltlb.specs.Run.{Run}
+use Rattle.cltlb.specs.Run.{Seen, pinned, Run}
 use Rattle.cltlb.specs.Truth.{Formula, valueAt, Compared, Within, AtomHolds, UnaryHolds, BinaryHolds, Holds}
 use Rattle.cltlb.specs.Fits.{termFits, atomFits, viewFits}
 use Rattle.cltlb.specs.Parts.{formulaFrom, formulaTo, formulaOf}
 use Rattle.cltlb.specs.declared.Term.{Term}
 use Rattle.cltlb.specs.declared.Term.the-variants.{Constant, Reading}
 use Rattle.cltlb.specs.declared.Atom.{Atom}
-use Rattle.cltlb.specs.declared.Atom.the-variants.{Less, Equal, Window}
+use Rattle.cltlb.specs.declared.Atom.the-variants.{Less, Equal, Window, Pinned}
 use Rattle.cltlb.specs.declared.Operator.the-variants.{One, Two}
 use Rattle.cltlb.specs.declared.View.{View}
 use Rattle.cltlb.specs.declared.View.the-variants as view
-use Rattle.cltlb.proofs.Fits.{reading-fits, less-fits, equal-fits, window-fits, atom-fits, operator-fits, one-lower, two-lower}
+use Rattle.cltlb.proofs.Fits.{reading-fits, less-fits, equal-fits, window-fits, pinned-fits, atom-fits, operator-fits, one-lower, two-lower}
 
 module _ (r q : Run) (v : ℕ) (same : (c : ℕ) → c < v → (z : ℤ) → r c z ≡ q c z) where
   -- A term that fits is seen alike.
@@ -35,6 +35,7 @@ module _ (r q : Run) (v : ℕ) (same : (c : ℕ) → c < v → (z : ℤ) → r c
   atom-same (Equal x y) h t =
       let p = equal-fits v x y h in ap₂ {C = Type 0} (Compared _≡_) (value-same x (p .0) t) (value-same y (p .1) t)
   atom-same (Window c s from to) h t = ap {B = Type 0} (Within from to) (value-same (Reading c s) (window-fits v c s from to h .0) t)
+  atom-same (Pinned c s) h t = ap {B = Type 0} (λ (x : Seen). x ≡ pinned) (value-same (Reading c s) (pinned-fits v c s h) t)
 
   -- The truth of a part whose named parts have the same truth on both runs.
   from-same : (n : ℕ) (p : View) → viewFits v n p ≡ true → (f : ℕ → Formula) → ((a : ℕ) → a < n → Holds r (f a) ≡ Holds q (f a))

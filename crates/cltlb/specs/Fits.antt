@@ -9,7 +9,7 @@ use Rattle.cltlb.specs.Week.{week}
 use Rattle.cltlb.specs.declared.Term.{Term}
 use Rattle.cltlb.specs.declared.Term.the-variants.{Constant, Reading}
 use Rattle.cltlb.specs.declared.Atom.{Atom}
-use Rattle.cltlb.specs.declared.Atom.the-variants.{Less, Equal, Window}
+use Rattle.cltlb.specs.declared.Atom.the-variants.{Less, Equal, Window, Pinned}
 use Rattle.cltlb.specs.declared.Operator.{Operator}
 use Rattle.cltlb.specs.declared.Operator.the-variants.{One, Two}
 use Rattle.cltlb.specs.declared.View.{View}
@@ -32,6 +32,7 @@ unfoldable pub atomFits : ℕ → Atom → Bool
 atomFits v (Less x y) = termFits v x && termFits v y
 atomFits v (Equal x y) = termFits v x && termFits v y
 atomFits v (Window channel shift from to) = termFits v (Reading channel shift) && windowFits from to
+atomFits v (Pinned channel shift) = termFits v (Reading channel shift)
 
 -- A named part has a lower number than its user, which is part n.
 unfoldable pub namesLower : ℕ → Operator → Bool

@@ -2,7 +2,7 @@
 use Prim.Native.Nat.{ℕ}
 use mathlib.Core.Bool.{Bool, true, false}
 use Rattle.cltlb.specs.declared.Part.{Part}
-use Rattle.cltlb.specs.declared.Part.the-variants.{Less, Equal, Not, And, Or, Next, Until, Release, Yesterday, WeakYesterday, Since, Trigger, Window}
+use Rattle.cltlb.specs.declared.Part.the-variants.{Less, Equal, Not, And, Or, Next, Until, Release, Yesterday, WeakYesterday, Since, Trigger, Window, Pinned}
 use Rattle.cltlb.specs.declared.Atom.the-variants as atom
 use Rattle.cltlb.specs.declared.Unary.{Unary}
 use Rattle.cltlb.specs.declared.Unary.the-variants as unary
@@ -32,8 +32,9 @@ viewOf (WeakYesterday a) = oneView unary.WeakYesterday a
 viewOf (Since a b) = twoView binary.Since a b
 viewOf (Trigger a b) = twoView binary.Trigger a b
 viewOf (Window c s from to) = Atom (atom.Window c s from to)
+viewOf (Pinned c s) = Atom (atom.Pinned c s)
 
--- The atoms are the parts whose truth is read off the run: the comparisons, less and equal, and the windows.
+-- The atoms are the parts whose truth is read off the run: the comparisons, less and equal, the windows, and that a reading is pinned.
 abbrev pub isAtom : View → Bool
 isAtom (Atom x) = true
 isAtom (Operator o) = false

@@ -1,5 +1,5 @@
-// The logic CLTLB over the whole numbers with < and =, and windows of the week: the terms and parts that a rule is made of, and how
-// the logic looks at a part. What they mean is in specs/.
+// The logic CLTLB over the whole numbers with < and =, windows of the week, and pinned readings: the terms and parts that a rule is
+// made of, and how the logic looks at a part. What they mean is in specs/.
 ghost use mathlib.Core.Path.{_≡_};
 ghost use mathlib.Core.Bool.{_&&_};
 ghost use Rattle.cltlb.specs.Views.{oneView, twoView, viewOf};
@@ -15,9 +15,9 @@ pub enum Term {
     Reading { channel: usize, shift: i32 },
 }
 
-// A part of a rule, that is, a subformula of its formula: a comparison of two terms or a window of the week (an atomic constraint),
-// or an operator over parts that are named by their numbers. A window is true where the reading, in minutes, lies in the part of the
-// week that begins at `from` and ends before `to`.
+// A part of a rule, that is, a subformula of its formula: a comparison of two terms, a window of the week or that a reading is pinned
+// (an atomic constraint), or an operator over parts that are named by their numbers. A window is true where the reading, in minutes,
+// lies in the part of the week that begins at `from` and ends before `to`.
 pub enum Part {
     Less(Term, Term),
     Equal(Term, Term),
@@ -37,6 +37,10 @@ pub enum Part {
         from: usize,
         to: usize,
     },
+    Pinned {
+        channel: usize,
+        shift: i32,
+    },
 }
 
 // What a part says of readings alone: the field's atomic constraint.
@@ -48,6 +52,10 @@ pub enum Atom {
         shift: i32,
         from: usize,
         to: usize,
+    },
+    Pinned {
+        channel: usize,
+        shift: i32,
     },
 }
 
@@ -121,6 +129,7 @@ pub fn view_of(part: Part) -> View
             from,
             to,
         }),
+        Part::Pinned { channel, shift } => View::Atom(Atom::Pinned { channel, shift }),
     }
 }
 
@@ -162,6 +171,7 @@ fn atom_fits(x: Atom, v: usize) -> bool
             from,
             to,
         } => term_fits(Term::Reading { channel, shift }, v) & window_fits(from, to),
+        Atom::Pinned { channel, shift } => term_fits(Term::Reading { channel, shift }, v),
     }
 }
 

@@ -9,7 +9,7 @@ use libc::STDOUT_FILENO;
 // Room for a rule sheet and for a plan: one byte more than the longest that is right, so that a longer file is refused by its length.
 pub const RULE_ROOM: usize = 837;
 
-pub const PLAN_ROOM: usize = 16649;
+pub const PLAN_ROOM: usize = 16681;
 
 // The start of a file, as much as the buffer holds. A file that cannot be opened counts as empty.
 pub fn load(path: &[u8], buffer: &mut [u8]) -> usize

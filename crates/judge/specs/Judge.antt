@@ -1,5 +1,5 @@
--- "Judge" answers for one atom, a comparison or a window, and one row: its refusals in the order of checking, its answer, and
--- what it promises on all inputs. Assumes nothing.
+-- "Judge" answers for one atom, which is a comparison, a window or that a reading is pinned, and one row: its refusals in the order
+-- of checking, its answer, and what it promises on all inputs. Assumes nothing.
 use Prim.Native.Nat.{ℕ}
 use mathlib.Core.Path.{_≡_}
 use mathlib.Core.List.{List}

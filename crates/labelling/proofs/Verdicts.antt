@@ -19,8 +19,8 @@ use Rattle.refusal.proofs.Search.{searchFrom, search-on, search-stops, search-e
 use Rattle.plan.specs.Layout.{startRows, cycleRows}
 use Rattle.plan.specs.declared.sizes.Sizes.{Sizes}
 use Rattle.plan.specs.inner.Sizes.{allRows, Fitting}
-use Rattle.verdict.specs.Comparisons.{comparisonOf, judgeLines}
-use Rattle.verdict.specs.Rows.{join, joinFirst, termLine, testAt, judgeCycle, judgeRow, atomAt, verdictOf}
+use Rattle.verdict.specs.Comparisons.{comparisonOf}
+use Rattle.verdict.specs.Rows.{join, joinFirst, testAt, judgeFrom, judgeCycle, judgeRow, atomAt, verdictOf}
 use Rattle.verdict.specs.declared.Comparison.{Comparison}
 use Rattle.verdict.specs.declared.Verdict.{Verdict}
 use Rattle.verdict.specs.declared.Verdict.the-variants.{AlwaysTrue, AlwaysFalse, Changes}
@@ -67,9 +67,7 @@ module _ (plan : List ℕ) (x : Comparison) where
           → isTrue (cond b (cond (testAt plan x row) AlwaysTrue AlwaysFalse) (judgeCycle plan x 4 row)) ≡ testAt plan x row
       go true e = start (testAt plan x row)
       go false e =
-          let t = row + 4 * cycleRows plan in
-          let later = judgeLines (x .relation) (termLine plan (x .left) t) (termLine plan (x .right) t) in
-          first-tells (λ k. testAt plan x (row + k * cycleRows plan)) 3 later e
+          first-tells (λ k. testAt plan x (row + k * cycleRows plan)) 3 (judgeFrom plan x (row + 4 * cycleRows plan)) e
           ∙ ap (testAt plan x) first
 
   -- ---- start rows do not change

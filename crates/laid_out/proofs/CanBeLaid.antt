@@ -15,12 +15,12 @@ use Rattle.fields.proofs.Patterns.{fits-found, found-fits}
 use Rattle.plan.specs.Layout.{channels, startRows, cycleRows, leadRows, rows, readingOf, driftOf}
 use Rattle.plan.specs.Positions.{rowOf, passOf}
 use Rattle.plan.specs.Run.{readingOn, readingAt}
-use Rattle.plan.specs.Refusals.{anyBelow}
+use Rattle.plan.specs.Layout.{anyBelow}
 use Rattle.plan.specs.inner.Sizes.{Fitting}
 use Rattle.plan.specs.declared.sizes.Sizes.{Sizes}
 use Rattle.plan.proofs.Rows.{row-lt}
 use Rattle.plan.proofs.Lines.{reading-on-pass-0}
-use Rattle.plan.proofs.Drifts.{none-below, none-each}
+use Rattle.plan.proofs.Searches.{none-below, none-each}
 use Rattle.plan.proofs.Fits.{both, rows-are}
 use Rattle.plan.proofs.PlanBytes.{reading-fits}
 use Rattle.laid_out.specs.LaidOut.{startAfter, rowsAfter, tooLarge, canBeLaid}

@@ -23,7 +23,7 @@ use Rattle.plan.proofs.Fits.{few-stored}
 use Rattle.laid_out.specs.LaidOut.{startAfter, rowsAfter, laidReading, laidDrift, canBeLaid}
 use Rattle.laid_out.specs.inner.LaidSizes.{laidSizes}
 use Rattle.laid_out.specs.inner.LaidNumbers.{laidNumber}
-use Rattle.laid_out.proofs.LaidRuns.{lead-reading, later-reading, early-drift, later-drift, laid-drift-fits, laid-fitting, laid-reading-fits}
+use Rattle.laid_out.proofs.LaidRuns.{lead-reading, later-reading, early-drift, later-drift, laid-drift-fits, laid-few, laid-reading-fits}
 use Rattle.laid_out.proofs.Words.{least}
 
 -- the passes are fewer than 256 and so are the rows: the product of them is small
@@ -75,7 +75,7 @@ laid-stored f n = rw (f .p-is, f .c-is, f .l-is) refl
 module _ {plan : List ℕ} {z : Sizes} (fits : Fitting plan z) (n : ℕ) (can : canBeLaid plan n ≡ true) where
   -- How many rows are stored at most.
   pub few-laid-rows : allStored (laidSizes z n) ≤ mostStored
-  few-laid-rows = few-stored (laid-fitting plan fits n can)
+  few-laid-rows = let few = laid-few plan fits n can in omega (arith, few .1, few .2)
 
   laid-fits : Bytes plan → (drifts : Bool) (k channel : ℕ) → k < allStored (laidSizes z n) → channel < z .channels → SignedFits 4 (laidNumber plan n drifts k channel)
   laid-fits bytes true k channel h l = laid-drift-fits plan bytes n k channel

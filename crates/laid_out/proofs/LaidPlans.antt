@@ -3,7 +3,7 @@
 use Prim.Native.Nat.{ℕ, _+_, _*_, _-_, _≤_, _<_}
 use native.Mathlib.Decide.{decLt}
 use native.Mathlib.Omega.{arith}
-use mathlib.Core.Path.{_≡_, sym, ap, _∙_, subst}
+use mathlib.Core.Path.{_≡_, refl, sym, ap, _∙_, subst}
 use mathlib.Core.Bool.{true}
 use mathlib.Core.List.{List}
 use mathlib.Core.Logic.{by-cases}
@@ -12,7 +12,7 @@ use Rattle.fields.specs.inner.Ranges.{Bytes}
 use Rattle.refusal.specs.declared.Outcome.the-variants.{Clear}
 use Rattle.refusal.specs.declared.Refusal.the-variants.{PlanSizes, Channels}
 use Rattle.refusal.proofs.First.{orElse-clear, unless-clear, atLowest-clear}
-use Rattle.plan.specs.Layout.{channels, startRows, cycleRows, leadRows, rows, storedRows, storedReading, storedDrift, readingOf, driftOf}
+use Rattle.plan.specs.Layout.{channels, startRows, cycleRows, leadRows, rows, storedRows, topOf, storedReading, storedDrift, readingOf, driftOf}
 use Rattle.plan.specs.Refusals.{drifting, driftRefusal, planOutcome}
 use Rattle.plan.specs.inner.Sizes.{sizesIn, Fitting}
 use Rattle.plan.proofs.Rows.{row-start}
@@ -32,7 +32,7 @@ module _ (plan : List ℕ) (bytes : Bytes plan) (v : ℕ) (clear : planOutcome v
   pub laid-clear : (n : ℕ) → canBeLaid plan n ≡ true → planOutcome v (laidOut plan n) ≡ Clear
   unfolding planOutcome startAfter rowsAfter
   laid-clear n can =
-      let own = laid-fitting plan fits n can in
+      let own = laid-fitting plan fits n can bytes in
       orElse-clear _ _ .1 (
         unless-clear _ PlanSizes .1 (fits-true own),
         orElse-clear _ _ .1 (
@@ -73,4 +73,4 @@ module _ (plan : List ℕ) (bytes : Bytes plan) (v : ℕ) (clear : planOutcome v
   -- WITH NO PASS LAID OUT IT IS WRITTEN AS IT WAS.
   pub laid-none : laidOut plan 0 ≡ plan
   unfolding laidOut
-  laid-none = rw start-first (plan-again plan bytes fits (laidReading plan) (laidDrift plan 0) (λ k channel h l. first-reading k channel h) first-drift)
+  laid-none = rw start-first (plan-again plan bytes fits (topOf plan) (laidReading plan) (laidDrift plan 0) (λ channel l. refl) (λ k channel h l. first-reading k channel h) first-drift)

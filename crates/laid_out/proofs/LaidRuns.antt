@@ -10,18 +10,17 @@ use mathlib.Core.Logic.{by-cases}
 use lib.IntN.{ℤ, pos, negsuc, _+ℤ_, _*ℤ_}
 use lib.ListN.{length}
 use borrow.Author.Tests.{lt-ltb, le-ltb, le-leb, lt-leb}
-use Rattle.cltlb.specs.Run.{number}
+use Rattle.cltlb.specs.Run.{under}
 use Rattle.fields.specs.inner.Ranges.{Bytes, SignedFits}
-use Rattle.plan.specs.Layout.{channels, startRows, cycleRows, leadRows, rows, headLength, arrayLength, storedReading, storedDrift, readingOf, driftOf}
+use Rattle.plan.specs.Layout.{channels, startRows, cycleRows, leadRows, rows, headLength, arrayLength, topOf, storedReading, storedDrift, readingOf, driftOf}
 use Rattle.plan.specs.Positions.{rowOf, passOf}
 use Rattle.plan.specs.Run.{readingOn, readingAt, leadAt, runOf}
-use Rattle.plan.specs.inner.Sizes.{Fitting}
+use Rattle.plan.specs.inner.Sizes.{allRows, Fitting}
 use Rattle.plan.specs.declared.sizes.Sizes.{Sizes}
 use Rattle.plan.proofs.Rows.{row-lt, row-ge, row-split}
 use Rattle.plan.proofs.Lines.{reading-on-pass-0, readingAt-later}
 use Rattle.plan.proofs.Arrays.{array-le}
-use Rattle.plan.proofs.Fits.{few-stored}
-use Rattle.plan.proofs.PlanBytes.{made-length, made-reading, made-drift, made-fitting, reading-fits, drift-fits}
+use Rattle.plan.proofs.PlanBytes.{made-length, made-cycle, made-rows, made-top, made-reading, made-drift, made-fitting, top-fits, reading-fits, drift-fits}
 use Rattle.laid_out.specs.LaidOut.{startAfter, rowsAfter, laidReading, laidDrift, laidOut, canBeLaid}
 use Rattle.laid_out.specs.inner.LaidSizes.{laidSizes, mostPlan}
 use Rattle.laid_out.proofs.CanBeLaid.{few-laid, laid-fits}
@@ -29,9 +28,9 @@ use Rattle.laid_out.proofs.CanBeLaid.{few-laid, laid-fits}
 -- ---- rows that are laid out
 
 module _ (plan : List ℕ) where
-  pub laid-length : (n : ℕ) → length (laidOut plan n) ≡ headLength + 2 * arrayLength (channels plan) (leadRows plan + rowsAfter plan n)
+  pub laid-length : (n : ℕ) → length (laidOut plan n) ≡ headLength (channels plan) + 2 * arrayLength (channels plan) (leadRows plan + rowsAfter plan n)
   unfolding laidOut rowsAfter
-  laid-length n = made-length (channels plan) (startAfter plan n) (cycleRows plan) (leadRows plan) (laidReading plan) (laidDrift plan n)
+  laid-length n = made-length (channels plan) (startAfter plan n) (cycleRows plan) (leadRows plan) (topOf plan) (laidReading plan) (laidDrift plan n)
 
   -- The readings of a lead-in row are as they are,
   pub lead-reading : (k channel : ℕ) → k < leadRows plan → laidReading plan k channel ≡ storedReading plan k channel
@@ -99,26 +98,52 @@ module _ (plan : List ℕ) {z : Sizes} (fits : Fitting plan z) (n : ℕ) (can : 
   a-cycle : 1 ≤ cycleRows plan
   a-cycle = omega (arith, fits .c-is, fits .a-cycle)
 
-  own : Fitting (laidOut plan n) (record { channels = channels plan; start = startAfter plan n; cycle = cycleRows plan; lead = leadRows plan })
-  unfolding laidOut
-  own =
-      made-fitting (channels plan) (startAfter plan n) (cycleRows plan) (leadRows plan) (laidReading plan) (laidDrift plan n)
-      few-channels few-rows few-lead (omega (arith, fits .v-is, fits .a-channel)) a-cycle
+  -- THE SIZES ARE SMALL ENOUGH,
+  pub laid-few : (z .channels ≤ 8) × (allRows (laidSizes z n) ≤ 256) × (z .lead ≤ 4)
+  unfolding rowsAfter startAfter
+  laid-few = (fits .few-channels, rw (fits .p-is, fits .c-is) at (few-laid plan n can), fits .few-lead)
 
-  -- THE SIZES FIT.
-  pub laid-fitting : Fitting (laidOut plan n) (laidSizes z n)
-  unfolding startAfter
-  laid-fitting = rw (fits .v-is, fits .p-is, fits .c-is, fits .l-is) at own
-
-  -- The largest plan is long enough for it.
+  -- so that the largest plan is long enough for it.
   pub laid-most : length (laidOut plan n) ≤ mostPlan
-  unfolding arrayLength
+  unfolding arrayLength rowsAfter
   laid-most =
-      let whole = laid-fitting .whole in
-      let most = array-le (z .channels) (z .lead + (z .start + n * z .cycle + z .cycle)) (fits .few-channels) (few-stored laid-fitting) in
-      omega (arith, whole, most)
+      let most = array-le (channels plan) (leadRows plan + (startAfter plan n + cycleRows plan)) few-channels (omega (arith, few-rows, few-lead)) in
+      omega (arith, laid-length plan n, few-channels, most)
+
+  -- The cycle is as long as the plan's, and so many rows are there.
+  pub laid-cycle : cycleRows (laidOut plan n) ≡ cycleRows plan
+  unfolding laidOut
+  laid-cycle =
+      made-cycle (channels plan) (startAfter plan n) (cycleRows plan) (leadRows plan) (topOf plan) (laidReading plan) (laidDrift plan n)
+      few-channels few-rows few-lead
+
+  pub laid-rows : rows (laidOut plan n) ≡ allRows (laidSizes z n)
+  unfolding laidOut startAfter
+  laid-rows =
+      rw (← fits .p-is, ← fits .c-is)
+      (made-rows (channels plan) (startRows plan + n * cycleRows plan) (cycleRows plan) (leadRows plan) (topOf plan) (laidReading plan) (laidDrift plan n)
+      few-channels few-rows few-lead)
 
   module _ (bytes : Bytes plan) where
+    own : Fitting (laidOut plan n) (record { channels = channels plan; start = startAfter plan n; cycle = cycleRows plan; lead = leadRows plan })
+    unfolding laidOut
+    own =
+        made-fitting (channels plan) (startAfter plan n) (cycleRows plan) (leadRows plan) (topOf plan) (laidReading plan) (laidDrift plan n)
+        few-channels few-rows few-lead (omega (arith, fits .v-is, fits .a-channel)) a-cycle
+        (λ channel within. (top-fits plan bytes channel, fits .no-negative channel (rw (← fits .v-is) within)))
+
+    -- THE SIZES FIT.
+    pub laid-fitting : Fitting (laidOut plan n) (laidSizes z n)
+    unfolding startAfter
+    laid-fitting = rw (fits .v-is, fits .p-is, fits .c-is, fits .l-is) at own
+
+    -- The tops are the plan's.
+    pub laid-top : (channel : ℕ) → channel < channels plan → topOf (laidOut plan n) channel ≡ topOf plan channel
+    unfolding laidOut
+    laid-top channel within =
+        made-top (channels plan) (startAfter plan n) (cycleRows plan) (leadRows plan) (topOf plan) (laidReading plan) (laidDrift plan n)
+        few-channels few-rows few-lead channel within (top-fits plan bytes channel)
+
     -- Its readings fit 32 bits,
     pub laid-reading-fits : (k channel : ℕ) → k < leadRows plan + rowsAfter plan n → channel < channels plan → SignedFits 4 (laidReading plan k channel)
     laid-reading-fits k channel h l =
@@ -130,14 +155,14 @@ module _ (plan : List ℕ) {z : Sizes} (fits : Fitting plan z) (n : ℕ) (can : 
     pub laid-reading : (k channel : ℕ) → k < leadRows plan + rowsAfter plan n → channel < channels plan → storedReading (laidOut plan n) k channel ≡ laidReading plan k channel
     unfolding laidOut rowsAfter
     laid-reading k channel h l =
-        made-reading (channels plan) (startAfter plan n) (cycleRows plan) (leadRows plan) (laidReading plan) (laidDrift plan n)
+        made-reading (channels plan) (startAfter plan n) (cycleRows plan) (leadRows plan) (topOf plan) (laidReading plan) (laidDrift plan n)
         few-channels few-rows few-lead k channel h l (laid-reading-fits k channel h l)
 
     -- and so are its drifts.
     pub laid-drift : (k channel : ℕ) → k < leadRows plan + rowsAfter plan n → channel < channels plan → storedDrift (laidOut plan n) k channel ≡ laidDrift plan n k channel
     unfolding laidOut rowsAfter
     laid-drift k channel h l =
-        made-drift (channels plan) (startAfter plan n) (cycleRows plan) (leadRows plan) (laidReading plan) (laidDrift plan n)
+        made-drift (channels plan) (startAfter plan n) (cycleRows plan) (leadRows plan) (topOf plan) (laidReading plan) (laidDrift plan n)
         few-channels few-rows few-lead k channel h l (laid-drift-fits plan bytes n k channel)
 
     module _ (channel : ℕ) (within : channel < channels plan) where
@@ -187,10 +212,10 @@ module _ (plan : List ℕ) {z : Sizes} (fits : Fitting plan z) (n : ℕ) (can : 
           (λ h. simp (lt-leb back (leadRows plan) h))
           (λ h. let there : leadRows plan - back < leadRows plan = omega arith in
           rw (le-leb back (leadRows plan) (omega arith))
-          (ap number (laid-reading (leadRows plan - back) channel (omega arith) within ∙ lead-reading plan (leadRows plan - back) channel there))))
+          (ap₂ under (laid-top channel within) (laid-reading (leadRows plan - back) channel (omega arith) within ∙ lead-reading plan (leadRows plan - back) channel there))))
 
       -- ITS RUN IS THE PLAN'S, on the plan's channels.
       pub laid-run : (t : ℤ) → runOf (laidOut plan n) channel t ≡ runOf plan channel t
       unfolding runOf
-      laid-run (pos t) = ap number (laid-reading-at t)
+      laid-run (pos t) = ap₂ under (laid-top channel within) (laid-reading-at t)
       laid-run (negsuc t) = laid-lead-at (suc t) (omega arith)

@@ -16,12 +16,12 @@ use Rattle.fields.proofs.Patterns.{fits-found, found-fits}
 use Rattle.plan.specs.Layout.{channels, startRows, cycleRows, leadRows, rows, readingOf, driftOf}
 use Rattle.plan.specs.Positions.{rowOf, passOf}
 use Rattle.plan.specs.Run.{readingOn, readingAt}
-use Rattle.plan.specs.Refusals.{anyBelow}
+use Rattle.plan.specs.Layout.{anyBelow}
 use Rattle.plan.specs.inner.Sizes.{Fitting}
 use Rattle.plan.specs.declared.sizes.Sizes.{Sizes}
 use Rattle.plan.proofs.Rows.{row-again, pass-again, row-ge, row-lt, pass-lt}
 use Rattle.plan.proofs.Lines.{reading-on-pass-0}
-use Rattle.plan.proofs.Drifts.{one-here, none-below, none-each}
+use Rattle.plan.proofs.Searches.{one-here, none-below, none-each}
 use Rattle.plan.proofs.PlanBytes.{reading-fits}
 use Rattle.laid_out.specs.LaidOut.{startAfter, rowsAfter, tooLarge, canBeLaid}
 use Rattle.laid_out.specs.inner.LastCycle.{numberTooLarge, rowTooLarge, cycleTooLarge}

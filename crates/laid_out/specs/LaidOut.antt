@@ -5,10 +5,9 @@ use mathlib.Core.List.{List}
 use lib.Dec.{leb, ltb}
 use lib.IntN.{ℤ, pos}
 use Rattle.fields.specs.TwosComplement.{signedFits}
-use Rattle.plan.specs.Layout.{channels, startRows, cycleRows, leadRows, storedReading, driftOf}
+use Rattle.plan.specs.Layout.{channels, startRows, cycleRows, leadRows, anyBelow, topOf, storedReading, driftOf}
 use Rattle.plan.specs.Positions.{rowOf}
 use Rattle.plan.specs.Run.{readingAt}
-use Rattle.plan.specs.Refusals.{anyBelow}
 use Rattle.plan.specs.Bytes.{planOf}
 
 module _ (plan : List ℕ) where
@@ -28,9 +27,9 @@ module _ (plan : List ℕ) where
   laidDrift n k channel =
       cond (ltb k (leadRows plan + startAfter n)) (pos 0) (driftOf plan (rowOf (startRows plan) (cycleRows plan) (k - leadRows plan)) channel)
 
-  -- the plan with n passes of its cycle laid out as start rows
+  -- the plan with n passes of its cycle laid out as start rows; it keeps the tops
   unfoldable pub laidOut : ℕ → List ℕ
-  laidOut n = planOf (channels plan) (startAfter n) (cycleRows plan) (leadRows plan) laidReading (laidDrift n)
+  laidOut n = planOf (channels plan) (startAfter n) (cycleRows plan) (leadRows plan) (topOf plan) laidReading (laidDrift n)
 
   -- the reading of some channel at position t takes more than 32 bits
   unfoldable pub tooLarge : ℕ → Bool

@@ -1,13 +1,13 @@
-// The plan with n passes of its cycle laid out, written over the front of a buffer: sizes, then readings, then drifts. Each writer
-// writes at the front of the part that it is lent.
+// The plan with n passes of its cycle laid out, written over the front of a buffer: sizes, then tops, then readings, then drifts. Each
+// writer writes at the front of the part that it is lent.
 ghost use mathlib.Core.Path.{_≡_};
 ghost use mathlib.Core.Bool.{true};
 ghost use mathlib.Core.List.{_++_};
 ghost use Prim.Native.Nat.{_*_, _≤_, _<_};
 ghost use lib.ListN.{length, drop};
 ghost use Rattle.fields.specs.Pieces.{pieces};
-ghost use Rattle.plan.specs.Layout.{headLength, arrayLength};
-ghost use Rattle.plan.specs.Bytes.{word, headOf, arrayOf};
+ghost use Rattle.plan.specs.Layout.{sizesLength, arrayLength, topOf};
+ghost use Rattle.plan.specs.Bytes.{word, headOf, topsOf, arrayOf};
 ghost use Rattle.plan.specs.inner.Sizes.{allStored, Fitting};
 ghost use Rattle.laid_out.specs.LaidOut.{laidOut, canBeLaid};
 ghost use Rattle.laid_out.specs.inner.LaidSizes.{laidSizes, mostPlan};
@@ -20,20 +20,35 @@ use fields::put_u16;
 use fields::put_u32;
 use plan::layout::drifts_start;
 use plan::layout::head_length;
+use plan::layout::sizes_length;
 use plan::sizes::Sizes;
+use plan::tops::top_of;
 
 // The bytes of the largest plan, which a buffer for a layout has.
-pub const MOST_PLAN: usize = 16648;
+pub const MOST_PLAN: usize = 16680;
 
 // Sizes.
 fn put_head(t: &mut [u8], sizes: Sizes)
-    requires { ⌜ (headLength ≤ length (now t)) × (length (now t) ≤ mostPlan) × (sizes .channels < 65536) × (sizes .start < 65536) × (sizes .cycle < 65536) × (sizes .lead < 65536) ⌝ }
+    requires { ⌜ (sizesLength ≤ length (now t)) × (length (now t) ≤ mostPlan) × (sizes .channels < 65536) × (sizes .start < 65536) × (sizes .cycle < 65536) × (sizes .lead < 65536) ⌝ }
     ensures { λ _. ⌜ now (t .exit) ≡ fronted (now (t .entry)) (headOf (sizes .channels) (sizes .start) (sizes .cycle) (sizes .lead)) ⌝ }
 {
     put_u16(&mut t[0..], sizes.channels);
     put_u16(&mut t[2..], sizes.start);
     put_u16(&mut t[4..], sizes.cycle);
     put_u16(&mut t[6..], sizes.lead);
+}
+
+// The tops of a plan, as they are.
+fn put_tops(t: &mut [u8], plan: &[u8], sizes: Sizes)
+    requires { ⌜ (Fitting (now plan) sizes) × (4 * sizes .channels ≤ length (now t)) × (length (now t) ≤ mostPlan) ⌝ }
+    ensures { λ _. ⌜ now (t .exit) ≡ fronted (now (t .entry)) (topsOf (sizes .channels) (topOf (now (plan .entry)))) ⌝ }
+{
+    let mut channel = 0;
+    while channel < sizes.channels {
+        let top = top_of(plan, sizes, channel);
+        put_u32(&mut t[4 * channel..], top as u32);
+        channel += 1;
+    }
 }
 
 // The k-th row of an array.
@@ -76,7 +91,15 @@ pub fn put_layout(buffer: &mut [u8], plan: &[u8], sizes: Sizes, n: usize)
     let laid = laid_sizes(sizes, n);
     let stored = laid.lead + (laid.start + laid.cycle);
     put_head(buffer, laid);
-    put_array(&mut buffer[head_length()..], plan, sizes, n, false, stored);
+    put_tops(&mut buffer[sizes_length()..], plan, sizes);
+    put_array(
+        &mut buffer[head_length(sizes)..],
+        plan,
+        sizes,
+        n,
+        false,
+        stored,
+    );
     put_array(
         &mut buffer[drifts_start(laid)..],
         plan,

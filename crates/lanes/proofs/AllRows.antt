@@ -7,15 +7,13 @@ use mathlib.Core.Bool.{Bool, true, false, not, _&&_, and-true, true≢false}
 use mathlib.Core.List.{List}
 use mathlib.Core.Logic.{by-cases}
 use lib.Dec.{eqb}
-use lib.IntN.{subℕ}
 use lib.ListN.{getD}
 use Rattle.plan.specs.inner.Sizes.{allRows, allStored, Fitting}
 use Rattle.plan.specs.declared.sizes.Sizes.{Sizes}
 use Rattle.table.specs.Layout.{markByte, marked}
 use Rattle.table.specs.inner.Tables.{allBelow, markIn, Sized}
 use Rattle.table.proofs.AllBelow.{all-ext}
-use Rattle.verdict.specs.inner.Landed.{shiftIn}
-use Rattle.verdict.specs.inner.Reach.{reach, TermsFit}
+use Rattle.verdict.specs.inner.Reach.{reach, TermsFit, AsksLeft}
 use Rattle.verdict.specs.declared.Comparison.{Comparison}
 use Rattle.verdict.proofs.Landed.{read-inside}
 use Rattle.lanes.specs.declared.ranges.Ranges.{Ranges}
@@ -24,7 +22,8 @@ use Rattle.lanes.specs.inner.Lanes.{Laid, Lanes}
 use Rattle.lanes.specs.inner.Positions.{positionSays}
 use Rattle.lanes.specs.inner.Ranges.{DirectAt, Divides}
 use Rattle.lanes.specs.inner.Still.{stillSays, StillPositions}
-use Rattle.lanes.specs.inner.Columns.{InMarks}
+use Rattle.lanes.specs.inner.Columns.{IsSide, InMarks}
+use Rattle.lanes.specs.declared.columns.Side.{Side}
 use Rattle.lanes.proofs.Reaching.{marks-there, swept-on}
 use Rattle.lanes.proofs.Direct.{before-says, numbers-say, lines-say}
 use Rattle.lanes.proofs.Positions.{positions-for-rows}
@@ -39,19 +38,19 @@ pub long-lanes : (z : Sizes) {array lanes : List ℕ} → Laid array (z .channel
 long-lanes z laid = (laid .there, laid .few)
 
 -- what is known of the comparison that part i is, once its ranges are found
-pub record Ranged (plan table : List ℕ) (z : Sizes) (n i : ℕ) (x : Comparison) (left right back high : ℕ) (still : Bool) (r : Ranges) : Type 0 where
+pub record Ranged (plan table : List ℕ) (z : Sizes) (n i : ℕ) (x : Comparison) (left right : Side) (back high : ℕ) (still : Bool) (r : Ranges) : Type 0 where
   pub fitting : Fitting plan z
   pub sized : Sized table n (allRows z)
   pub present : i < n
   pub terms-fit : TermsFit z x
-  pub small : (left ≤ 8) × (right ≤ 8)
-  pub left-code : subℕ left 4 ≡ shiftIn (x .left)
-  pub right-code : subℕ right 4 ≡ shiftIn (x .right)
+  pub asks-left : AsksLeft x
+  pub left-side : IsSide plan (x .left) left
+  pub right-side : IsSide plan (x .right) right
   pub farther : back ≡ max (reach (x .left)) (reach (x .right))
-  pub higher : high ≡ max left right
+  pub higher : high ≡ max (left .code) (right .code)
   pub divided : Divides z back high still r
 
-module _ {plan table : List ℕ} {z : Sizes} {n i : ℕ} {x : Comparison} {left right back high : ℕ} {still : Bool} {r : Ranges} (known : Ranged plan table z n i x left right back high still r) where
+module _ {plan table : List ℕ} {z : Sizes} {n i : ℕ} {x : Comparison} {left right : Side} {back high : ℕ} {still : Bool} {r : Ranges} (known : Ranged plan table z n i x left right back high still r) where
   f : Fitting plan z
   f = known .fitting
 
@@ -66,22 +65,23 @@ module _ {plan table : List ℕ} {z : Sizes} {n i : ℕ} {x : Comparison} {left 
     sized = known .sized;
     present = known .present;
     terms-fit = known .terms-fit;
-    small = known .small;
+    few-codes = (known .left-side .few, known .right-side .few);
+    small = (known .left-side .small, known .right-side .small);
   }
 
   -- where both terms are read, from a position or from one so many rows behind
-  low : (t : ℕ) → back ≤ t → (4 ≤ t + left) × (4 ≤ t + right)
+  low : (t : ℕ) → back ≤ t → (4 ≤ t + left .code) × (4 ≤ t + right .code)
   low t h =
       let farther = known .farther in
-      (read-inside (x .left) 0 t left (omega arith) (known .left-code), read-inside (x .right) 0 t right (omega arith) (known .right-code))
+      (read-inside (x .left) 0 t (left .code) (omega arith) (known .left-side .is-code), read-inside (x .right) 0 t (right .code) (omega arith) (known .right-side .is-code))
 
-  below : (t : ℕ) → t + high < allRows z + 4 → (t + left < allRows z + 4) × (t + right < allRows z + 4)
+  below : (t : ℕ) → t + high < allRows z + 4 → (t + left .code < allRows z + 4) × (t + right .code < allRows z + 4)
   below t h = let higher = known .higher in (omega arith, omega arith)
 
-  in-cycle : (t : ℕ) → z .start + back ≤ t → (z .start + 4 ≤ t + left) × (z .start + 4 ≤ t + right)
+  in-cycle : (t : ℕ) → z .start + back ≤ t → (z .start + 4 ≤ t + left .code) × (z .start + 4 ≤ t + right .code)
   in-cycle t h =
       let farther = known .farther in
-      (read-inside (x .left) (z .start) t left (omega arith) (known .left-code), read-inside (x .right) (z .start) t right (omega arith) (known .right-code))
+      (read-inside (x .left) (z .start) t (left .code) (omega arith) (known .left-side .is-code), read-inside (x .right) (z .start) t (right .code) (omega arith) (known .right-side .is-code))
 
   -- a stretch all of whose positions are on the first pass
   stretch : (from to : ℕ) → to ≤ allRows z → ((t : ℕ) → from ≤ t → t < to → DirectAt z back high t) → DirectRows table n z i x left right from to
@@ -127,11 +127,11 @@ module _ {plan table : List ℕ} {z : Sizes} {n i : ℕ} {x : Comparison} {left 
         let reached = d .reach-before t l in
         let farther = known .farther in
         ap (λ (j : ℕ). not (eqb (getD table j 0) 1)) place
-        ∙ before-says f table i x left right (known .left-code) (known .right-code) (known .terms-fit) (z .start + back) t (omega arith) (omega arith) (omega arith))
+        ∙ before-says f table i x left right (known .left-side) (known .right-side) (known .terms-fit) (z .start + back) t (omega arith) (known .asks-left) (omega arith) (omega arith))
 
     -- where nothing drifts, the numbers tell all at every position at which no term is read before position 0
     still-at : still ≡ true → (t : ℕ) → back ≤ t → stillSays values table z i x left right t ≡ at t
-    still-at e t h = still-says f (lanes .no-drift e) values (lanes .readings-laid) table i x left right (known .left-code) (known .right-code) (known .terms-fit) (z .start + back) t (low t h) (in-cycle t)
+    still-at e t h = still-says f (lanes .no-drift e) values (lanes .readings-laid) table i x left right (known .left-side) (known .right-side) (known .terms-fit) (z .start + back) t (low t h) (in-cycle t)
 
     numbers-swept : {B : Bool} → B ≡ allBelow (λ k. numbersSay values z x left right (mark (r .before + k)) (r .before + k)) (r .numbers - r .before)
         → B ≡ allBelow (λ k. at (r .before + k)) (r .numbers - r .before)
@@ -140,7 +140,7 @@ module _ {plan table : List ℕ} {z : Sizes} {n i : ℕ} {x : Comparison} {left 
         position : (t : ℕ) → DirectAt z back high t × (still ≡ false → t < z .start + back) → t < allRows z → numbersSay values z x left right (mark t) t ≡ at t
         position t on few =
             by-cases (decLt t (z .start + back))
-            (numbers-say f table i x left right (known .left-code) (known .right-code) (known .terms-fit) (z .start + back) t few values (lanes .readings-laid) (below t (on .0 .1)) (low (z .lead + t) (on .0 .0)))
+            (numbers-say f table i x left right (known .left-side) (known .right-side) (known .terms-fit) (z .start + back) t few values (lanes .readings-laid) (below t (on .0 .1)) (low (z .lead + t) (on .0 .0)))
             (λ h. settled (omega arith) still refl)
           where
             settled : z .start + back ≤ t → (b : Bool) → still ≡ b → numbersSay values z x left right (mark t) t ≡ at t
@@ -152,7 +152,7 @@ module _ {plan table : List ℕ} {z : Sizes} {n i : ℕ} {x : Comparison} {left 
     lines-swept e =
         e ∙ all-ext _ _ (r .end - r .numbers) (λ k l.
         let on = d .lines-direct (r .numbers + k) (omega arith) (omega arith) in
-        lines-say f table i x left right (known .left-code) (known .right-code) (known .terms-fit) (z .start + back) (r .numbers + k) (let order = d .in-order in omega arith) values (lanes .readings-laid)
+        lines-say f table i x left right (known .left-side) (known .right-side) (known .terms-fit) (z .start + back) (r .numbers + k) (let order = d .in-order in omega arith) values (lanes .readings-laid)
         (below (r .numbers + k) (on .0 .1)) (low (r .numbers + k) (omega (arith, on .1))) (on .1) steps (lanes .drifts-laid (on .2)))
 
     -- the four together

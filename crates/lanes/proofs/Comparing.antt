@@ -4,22 +4,27 @@ use Prim.Native.Nat.{ℕ, _+_, _-_, _%_, _≤_, _<_}
 use native.Mathlib.Decide.{decLt, ℕ-discrete}
 use native.Mathlib.Omega.{arith}
 use mathlib.Core.Path.{_≡_, refl, sym, ap, ap₂, _∙_}
-use mathlib.Core.Bool.{Bool, true, false, cond, not, _&&_, _||_, Bool·beq}
-use mathlib.Core.Logic.{by-cases}
+use mathlib.Core.Bool.{Bool, true, false, cond, not, _&&_, _||_, Bool·beq, false≢true}
+use mathlib.Core.Logic.{_↔_, by-cases}
 use lib.Dec.{ltb, eqb}
 use lib.IntN.{ℤ, pos, subℕ}
 use lib.Signed.{ltZ}
 use borrow.Author.Tests.{lt-ltb, le-ltb, eq-eqb, ne-eqb}
 use Rattle.fields.specs.inner.Biased.{bias, unbiased}
-use Rattle.verdict.specs.Lines.{Line, eqZ, judgeLess, meets, judgeEqual}
+use Rattle.cltlb.specs.Run.{isTop, isPinned, under}
+use Rattle.verdict.specs.Lines.{Line, onPass, level, eqZ, judgeLess, meets, judgeEqual}
 use Rattle.cltlb.specs.Week.{week, minuteOf}
 use Rattle.verdict.specs.Weeks.{minutesAfter, judgeSpaced}
-use Rattle.verdict.specs.Comparisons.{testOf, judgeLines}
+use Rattle.verdict.specs.Comparisons.{testOf, ofNumber, seenPinned, ofNumbers, tested, judgeLines}
+use Rattle.verdict.specs.Tops.{judgeUnder}
 use Rattle.verdict.specs.declared.Relation.{Relation}
-use Rattle.verdict.specs.declared.Relation.the-variants.{Below, Same, Within}
+use Rattle.verdict.specs.declared.Relation.the-variants.{Below, Same, Within, Pinned}
 use Rattle.verdict.specs.declared.Verdict.the-variants.{AlwaysTrue, AlwaysFalse, Changes}
-use Rattle.verdict.proofs.Decisions.{lifted, by-bias, by-lifted, bias-ltZ, bias-eqZ, less-until, less-always, less-later, less-never, meets-once, meets-over, meets-apart, equal-below, equal-above, equal-always, equal-once}
-use Rattle.verdict.proofs.Minutes.{after-bias, spaced-none, spaced-all, spaced-some, level-within}
+use Rattle.verdict.proofs.Decisions.{lifted, by-lifted, bias-ltZ, bias-eqZ, less-until, less-always, less-later, less-never, meets-once, meets-over, meets-apart, equal-below, equal-above, equal-always, equal-once}
+use Rattle.verdict.proofs.Minutes.{after-bias, spaced-none, spaced-all, spaced-some}
+use Rattle.verdict.proofs.Passes.{PassMeans, means-one}
+use Rattle.verdict.proofs.Relations.{SeenRelates, tested-decides}
+use Rattle.verdict.proofs.UnderTops.{level-stays, judged-under, judged-free}
 use Rattle.lanes.specs.inner.Agreement.{lineFrom, verdictAgrees, stays}
 
 -- ---- two numbers kept without a sign
@@ -38,6 +43,9 @@ compare-same a b e = rw e (numbers-same a b refl refl)
 
 pub numbers-within : (n a b : ℕ) {x y : ℤ} {r : ℕ} → unbiased a ≡ x → unbiased b ≡ y → r ≡ minuteOf (subℕ a b) → ltb r n ≡ testOf (Within n) x y
 numbers-within n a b e f h = ap (λ (m : ℕ). ltb m n) (h ∙ sym (after-bias a b bias) ∙ ap₂ minutesAfter e f)
+
+pub compare-pinned : (a b : ℕ) {relation : Relation} → relation ≡ Pinned → false ≡ testOf relation (unbiased a) (unbiased b)
+compare-pinned a b e = rw e refl
 
 pub compare-within : (a b : ℕ) {relation : Relation} {n r : ℕ} → relation ≡ Within n → r ≡ minuteOf (subℕ a b) → ltb r n ≡ testOf relation (unbiased a) (unbiased b)
 compare-within a b e h = rw e (numbers-within _ a b refl refl h)
@@ -160,31 +168,39 @@ spaced-agrees n g least mark =
 
 -- ---- lines that do not drift, and rows that are not repeated
 
--- a number that stays
-abbrev pub level : ℤ → Line
-level a = record { at = a; step = pos 0 }
-
 pub truth-agrees : (b mark : Bool) → Bool·beq mark b ≡ verdictAgrees (cond b AlwaysTrue AlwaysFalse) mark
 truth-agrees true true = refl
 truth-agrees true false = refl
 truth-agrees false true = refl
 truth-agrees false false = refl
 
-level-same : (x y : ℤ) → judgeEqual (level x) (level y) ≡ cond (eqZ x y) AlwaysTrue AlwaysFalse
-unfolding judgeEqual meets
-level-same = by-bias (λ x y. judgeEqual (level x) (level y) ≡ cond (eqZ x y) AlwaysTrue AlwaysFalse) (λ a b B.
-    by-cases (decLt a b)
-    (λ h. rw (bias-ltZ a b B, lt-ltb a b h, bias-eqZ a b B, ne-eqb a b (λ s. omega arith)) refl)
-    (λ h. by-cases (decLt b a)
-    (λ l. rw (bias-ltZ a b B, le-ltb a b (omega arith), bias-ltZ b a B, lt-ltb b a l, bias-eqZ a b B, ne-eqb a b (λ s. omega arith)) refl)
-    (λ l. rw (bias-ltZ a b B, le-ltb a b (omega arith), bias-ltZ b a B, le-ltb b a (omega arith), bias-eqZ a b B, eq-eqb a b (omega arith)) refl)))
+-- What is seen of numbers that stay is on every pass what it is at first.
+level-verdict : (relation : Relation) (s a t b : ℤ) → judgeUnder relation s (level a) t (level b) ≡ cond (tested relation (under s a) (under t b)) AlwaysTrue AlwaysFalse
+unfolding PassMeans
+level-verdict relation s a t b =
+    means-one _ _ _ (judged-under relation s (level a) t (level b)) (on-level (tested relation (under s a) (under t b)) (tested-decides relation (under s a) (under t b)))
+  where
+    on-level : (r : Bool) → (r ≡ true) ↔ SeenRelates relation (under s a) (under t b)
+        → PassMeans (cond r AlwaysTrue AlwaysFalse) (λ k. SeenRelates relation (under s (onPass (level a) k)) (under t (onPass (level b) k)))
+    on-level true e = λ k. rw (level-stays a k, level-stays b k) (e .0 refl)
+    on-level false e = λ k h. false≢true (e .1 (rw (level-stays a k, level-stays b k) at h))
 
-level-verdict : (relation : Relation) (a b : ℤ) → judgeLines relation (level a) (level b) ≡ cond (testOf relation a b) AlwaysTrue AlwaysFalse
-unfolding judgeLess
-level-verdict Below a b = refl
-level-verdict Same a b = level-same a b
-level-verdict (Within n) a b = level-within n a b
+-- Of two numbers without tops the test is the one of the numbers.
+pub free-test : (relation : Relation) (a b : ℤ) → testOf relation a b ≡ tested relation (under (pos 0) a) (under (pos 0) b)
+unfolding under isPinned isTop tested ofNumbers ofNumber seenPinned
+free-test Below a b = refl
+free-test Same a b = refl
+free-test (Within n) a b = refl
+free-test Pinned a b = refl
 
--- Where neither line drifts, the mark has to say how they compare at first.
-pub level-agrees : (relation : Relation) (a b : ℤ) (mark : Bool) → Bool·beq mark (testOf relation a b) ≡ verdictAgrees (judgeLines relation (level a) (level b)) mark
-level-agrees relation a b mark = truth-agrees (testOf relation a b) mark ∙ ap (λ v. verdictAgrees v mark) (sym (level-verdict relation a b))
+-- So the mark has to say how they compare at first.
+pub level-agrees : (relation : Relation) (s a t b : ℤ) (mark : Bool)
+    → Bool·beq mark (tested relation (under s a) (under t b)) ≡ verdictAgrees (judgeUnder relation s (level a) t (level b)) mark
+level-agrees relation s a t b mark =
+    truth-agrees (tested relation (under s a) (under t b)) mark ∙ ap (λ v. verdictAgrees v mark) (sym (level-verdict relation s a t b))
+
+pub level-numbers : (relation : Relation) (a b : ℤ) (mark : Bool) → Bool·beq mark (testOf relation a b) ≡ verdictAgrees (judgeLines relation (level a) (level b)) mark
+level-numbers relation a b mark =
+    ap (Bool·beq mark) (free-test relation a b)
+    ∙ level-agrees relation (pos 0) a (pos 0) b mark
+    ∙ ap (λ v. verdictAgrees v mark) (judged-free relation (level a) (level b))

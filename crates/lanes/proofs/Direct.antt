@@ -7,14 +7,14 @@ use mathlib.Core.Bool.{Bool, true, false, not, Bool·beq}
 use mathlib.Core.List.{List}
 use mathlib.Core.Logic.{by-cases}
 use lib.IntN.{ℤ, pos, negsuc, subℕ}
-use Rattle.cltlb.specs.Run.{Seen, number, beforeRun}
+use Rattle.cltlb.specs.Run.{Seen, number, pinned, beforeRun, under}
 use Rattle.cltlb.specs.Truth.{valueAt}
 use Rattle.cltlb.specs.Fits.{termFits}
 use Rattle.cltlb.specs.declared.Term.{Term}
 use Rattle.cltlb.specs.declared.Term.the-variants.{Constant, Reading}
 use Rattle.cltlb.proofs.Fits.{reading-fits}
 use Rattle.fields.proofs.Differences.{sub-pos, sub-eq, pos-sub, negsuc-sub}
-use Rattle.plan.specs.Layout.{startRows, cycleRows, leadRows, readings, drifts, storedReading, storedDrift, readingOf, driftOf}
+use Rattle.plan.specs.Layout.{startRows, cycleRows, leadRows, readings, drifts, topOf, storedReading, storedDrift, readingOf, driftOf}
 use Rattle.plan.specs.Positions.{rowOf}
 use Rattle.plan.specs.Run.{runOf}
 use Rattle.plan.specs.inner.Sizes.{allRows, allStored, Fitting}
@@ -23,14 +23,19 @@ use Rattle.plan.proofs.Fits.{rows-are}
 use Rattle.plan.proofs.Lines.{reading-on-pass-0}
 use Rattle.plan.proofs.Rows.{row-start}
 use Rattle.plan.proofs.Shifts.{shifted, before-run, as-stored}
-use Rattle.verdict.specs.Comparisons.{testOf, ofNumber, tested, judgeLines}
+use Rattle.plan.proofs.Pinned.{no-top}
+use Rattle.verdict.specs.Comparisons.{ofNumber, seenPinned, ofNumbers, tested}
+use Rattle.verdict.specs.Tops.{judgeUnder}
 use Rattle.verdict.specs.Lines.{Line}
-use Rattle.verdict.specs.Rows.{channelLine, termLine, testAt}
+use Rattle.verdict.specs.Rows.{channelLine, termLine, termTop, testAt}
 use Rattle.verdict.specs.inner.Landed.{shiftIn}
-use Rattle.verdict.specs.inner.Reach.{back, reach, TermsFit}
+use Rattle.verdict.specs.inner.Reach.{back, reach, TermsFit, AsksLeft}
 use Rattle.verdict.specs.declared.Comparison.{Comparison}
+use Rattle.verdict.specs.declared.Relation.{Relation}
+use Rattle.verdict.specs.declared.Relation.the-variants.{Below, Same, Within, Pinned}
 use Rattle.lanes.specs.inner.Agreement.{verdictAgrees}
-use Rattle.lanes.specs.inner.Columns.{laneNumber, laneLine}
+use Rattle.lanes.specs.inner.Columns.{IsSide, laneNumber, laneLine, laneSeen}
+use Rattle.lanes.specs.declared.columns.Side.{Side}
 use Rattle.lanes.specs.inner.Direct.{numbersSay, linesSay}
 use Rattle.lanes.specs.inner.Lanes.{Laid}
 use Rattle.lanes.specs.inner.Positions.{positionSays}
@@ -53,39 +58,50 @@ unfolding valueAt
 seen-before plan (Constant z) t code g h = absurd (let k = sub-eq code 4 0 0 .0 (g ∙ pos-sub 0) in omega arith)
 seen-before plan (Reading channel shift) t code g h = ap (runOf plan channel) (shifted t code shift g) ∙ sym (before-run plan channel (t + code) h)
 
-blank-left : (test : ℤ → ℤ → Bool) {x : Seen} (y : Seen) → x ≡ beforeRun → tested test x y ≡ false
-unfolding tested ofNumber
-blank-left test y e = rw e refl
+blank-left : (relation : Relation) {x : Seen} (y : Seen) → x ≡ beforeRun → tested relation x y ≡ false
+unfolding tested ofNumber ofNumbers seenPinned
+blank-left Below y e = rw e refl
+blank-left Same y e = rw e refl
+blank-left (Within n) y e = rw e refl
+blank-left Pinned y e = rw e refl
 
-blank-right : (test : ℤ → ℤ → Bool) (x : Seen) {y : Seen} → y ≡ beforeRun → tested test x y ≡ false
-unfolding tested ofNumber
+blank-right : (test : ℤ → ℤ → Bool) (x : Seen) {y : Seen} → y ≡ beforeRun → ofNumbers test x y ≡ false
+unfolding ofNumber ofNumbers
 blank-right test x e = rw e (go x)
   where
-    go : (s : Seen) → tested test s beforeRun ≡ false
+    go : (s : Seen) → ofNumbers test s beforeRun ≡ false
     go (number a) = refl
+    go pinned = refl
     go beforeRun = refl
+
+blank-either : (relation : Relation) → (relation ≡ Pinned → ⊥) → (x : Seen) {y : Seen} → y ≡ beforeRun → tested relation x y ≡ false
+unfolding tested
+blank-either Below h x e = blank-right _ x e
+blank-either Same h x e = blank-right _ x e
+blank-either (Within n) h x e = blank-right _ x e
+blank-either Pinned h x e = absurd (h refl)
 
 -- ---- terms at direct positions
 
 module _ {plan : List ℕ} {z : Sizes} (f : Fitting plan z) (t : ℕ) (x : Term) (code : ℕ) (g : subℕ code 4 ≡ shiftIn x) (fits : termFits (z .channels) x ≡ true) (high : t + code < allRows z + 4)
     (values : List ℕ) (laid : Laid (readings plan) (z .channels) (allStored z) values) where
   -- what is seen of a term, in the lead-in or on pass 0, stands in its lane
-  pub seen-in-lane : 4 ≤ z .lead + t + code → valueAt (runOf plan) x t ≡ number (laneNumber values (allStored z) x code (z .lead + t))
+  pub seen-in-lane : 4 ≤ z .lead + t + code → valueAt (runOf plan) x t ≡ under (termTop plan x) (laneNumber values (allStored z) x code (z .lead + t))
   unfolding valueAt
   seen-in-lane low = go x g fits
     where
       k : ℕ
       k = z .lead + t + code - 4
 
-      go : (x : Term) → subℕ code 4 ≡ shiftIn x → termFits (z .channels) x ≡ true → valueAt (runOf plan) x t ≡ number (laneNumber values (allStored z) x code (z .lead + t))
-      go (Constant c) e h = refl
+      go : (x : Term) → subℕ code 4 ≡ shiftIn x → termFits (z .channels) x ≡ true → valueAt (runOf plan) x t ≡ under (termTop plan x) (laneNumber values (allStored z) x code (z .lead + t))
+      go (Constant c) e h = sym (no-top c)
       go (Reading channel shift) e h =
           let lead = f .l-is in
           let place : leadRows plan + (t + code) - 4 ≡ k = omega arith in
           ap (runOf plan channel) (shifted t code shift e)
           ∙ as-stored plan channel (t + code) (omega arith) (rw (rows-are f) high)
-          ∙ ap (λ (j : ℕ). number (storedReading plan j channel)) place
-          ∙ ap number (reading-in-lane f channel k (reading-fits (z .channels) channel shift h .0) (omega arith) laid)
+          ∙ ap (λ (j : ℕ). under (topOf plan channel) (storedReading plan j channel)) place
+          ∙ ap (under (topOf plan channel)) (reading-in-lane f channel k (reading-fits (z .channels) channel shift h .0) (omega arith) laid)
 
   -- and so does its line, where it is read not before position 0
   pub line-in-lane : 4 ≤ t + code → (steps : List ℕ) → Laid (drifts plan) (z .channels) (allStored z) steps → laneLine values steps (allStored z) x code (z .lead + t) ≡ termLine plan x t
@@ -115,7 +131,7 @@ module _ {plan : List ℕ} {z : Sizes} (f : Fitting plan z) (t : ℕ) (x : Term)
 
 -- ---- direct positions
 
-module _ {plan : List ℕ} {z : Sizes} (f : Fitting plan z) (table : List ℕ) (i : ℕ) (x : Comparison) (left right : ℕ) (gl : subℕ left 4 ≡ shiftIn (x .left)) (gr : subℕ right 4 ≡ shiftIn (x .right)) (fits : TermsFit z x)
+module _ {plan : List ℕ} {z : Sizes} (f : Fitting plan z) (table : List ℕ) (i : ℕ) (x : Comparison) (left right : Side) (sl : IsSide plan (x .left) left) (sr : IsSide plan (x .right) right) (fits : TermsFit z x)
     (lines t : ℕ) (few : t < allRows z) where
   -- The row of a position of pass 0 is the position.
   abbrev mark : Bool
@@ -125,9 +141,9 @@ module _ {plan : List ℕ} {z : Sizes} (f : Fitting plan z) (table : List ℕ) (
   own-row = row-start (z .start) (z .cycle) t few
 
   -- where a term is read before the run
-  pub before-says : z .lead + t < max (reach (x .left)) (reach (x .right)) → t < lines → not mark ≡ positionSays plan table z i x lines t
+  pub before-says : AsksLeft x → z .lead + t < max (reach (x .left)) (reach (x .right)) → t < lines → not mark ≡ positionSays plan table z i x lines t
   unfolding testAt
-  before-says l h = sym (alone plan table z i x lines t t own-row h ∙ ap (Bool·beq mark) blank ∙ is-not mark)
+  before-says asks l h = sym (alone plan table z i x lines t t own-row h ∙ ap (Bool·beq mark) blank ∙ is-not mark)
     where
       is-not : (b : Bool) → Bool·beq b false ≡ not b
       is-not true = refl
@@ -139,26 +155,28 @@ module _ {plan : List ℕ} {z : Sizes} (f : Fitting plan z) (table : List ℕ) (
       blank : testAt plan x t ≡ false
       blank =
           by-cases (decLt (z .lead + t) (reach (x .left)))
-          (λ s. blank-left (testOf (x .relation)) (valueAt (runOf plan) (x .right) t) (before (x .left) left gl s))
-          (λ s. blank-right (testOf (x .relation)) (valueAt (runOf plan) (x .left) t) (before (x .right) right gr (omega arith)))
+          (λ s. blank-left (x .relation) (valueAt (runOf plan) (x .right) t) (before (x .left) (left .code) (sl .is-code) s))
+          (λ s. blank-either (x .relation) (λ e. omega (arith, asks e)) (valueAt (runOf plan) (x .left) t) (before (x .right) (right .code) (sr .is-code) (omega arith)))
 
-  module _ (values : List ℕ) (laid : Laid (readings plan) (z .channels) (allStored z) values) (high : (t + left < allRows z + 4) × (t + right < allRows z + 4)) where
+  module _ (values : List ℕ) (laid : Laid (readings plan) (z .channels) (allStored z) values) (high : (t + left .code < allRows z + 4) × (t + right .code < allRows z + 4)) where
     -- where both terms are read in the lead-in or on pass 0, by the numbers, before the lines
-    pub numbers-say : (4 ≤ z .lead + t + left) × (4 ≤ z .lead + t + right) → t < lines → numbersSay values z x left right mark t ≡ positionSays plan table z i x lines t
-    unfolding testAt tested ofNumber
+    pub numbers-say : (4 ≤ z .lead + t + left .code) × (4 ≤ z .lead + t + right .code) → t < lines → numbersSay values z x left right mark t ≡ positionSays plan table z i x lines t
+    unfolding testAt
     numbers-say low h = sym (alone plan table z i x lines t t own-row h ∙ ap (Bool·beq mark) seen)
       where
-        seen : testAt plan x t ≡ testOf (x .relation) (laneNumber values (allStored z) (x .left) left (z .lead + t)) (laneNumber values (allStored z) (x .right) right (z .lead + t))
+        seen : testAt plan x t ≡ tested (x .relation) (laneSeen values (allStored z) (x .left) left (z .lead + t)) (laneSeen values (allStored z) (x .right) right (z .lead + t))
         seen =
-            ap₂ (tested (testOf (x .relation)))
-            (seen-in-lane f t (x .left) left gl (fits .0) (high .0) values laid (low .0))
-            (seen-in-lane f t (x .right) right gr (fits .1) (high .1) values laid (low .1))
+            rw (sl .is-top, sr .is-top)
+            (ap₂ (tested (x .relation))
+            (seen-in-lane f t (x .left) (left .code) (sl .is-code) (fits .0) (high .0) values laid (low .0))
+            (seen-in-lane f t (x .right) (right .code) (sr .is-code) (fits .1) (high .1) values laid (low .1)))
 
     -- where both are read on pass 0, from there on by the lines
-    pub lines-say : (4 ≤ t + left) × (4 ≤ t + right) → lines ≤ t → (steps : List ℕ) → Laid (drifts plan) (z .channels) (allStored z) steps
+    pub lines-say : (4 ≤ t + left .code) × (4 ≤ t + right .code) → lines ≤ t → (steps : List ℕ) → Laid (drifts plan) (z .channels) (allStored z) steps
         → linesSay values z x left right steps mark t ≡ positionSays plan table z i x lines t
     lines-say low h steps down =
-        ap₂ (λ (p q : Line). verdictAgrees (judgeLines (x .relation) p q) mark)
-        (line-in-lane f t (x .left) left gl (fits .0) (high .0) values laid (low .0) steps down)
-        (line-in-lane f t (x .right) right gr (fits .1) (high .1) values laid (low .1) steps down)
+        rw (sl .is-top, sr .is-top)
+        (ap₂ (λ (p q : Line). verdictAgrees (judgeUnder (x .relation) (termTop plan (x .left)) p (termTop plan (x .right)) q) mark)
+        (line-in-lane f t (x .left) (left .code) (sl .is-code) (fits .0) (high .0) values laid (low .0) steps down)
+        (line-in-lane f t (x .right) (right .code) (sr .is-code) (fits .1) (high .1) values laid (low .1) steps down))
         ∙ sym (settled plan table z i x lines t t own-row h)

@@ -101,10 +101,10 @@ module _ {plan : List ℕ} {z : Sizes} (f : Fitting plan z) {lanes : List ℕ} (
     few = omega arith;
   }
 
-  pub readings-room : (a b : ℕ) → a ≡ headLength → b ≡ headLength + arrayLength (z .channels) (allStored z) → Room (take (b - a) (drop a plan)) (z .channels) (allStored z) lanes
+  pub readings-room : (a b : ℕ) → a ≡ headLength (z .channels) → b ≡ headLength (z .channels) + arrayLength (z .channels) (allStored z) → Room (take (b - a) (drop a plan)) (z .channels) (allStored z) lanes
   readings-room a b g h = let whole = f .whole in part-room a b (omega arith) (omega arith)
 
-  pub drifts-room : (b e : ℕ) → b ≡ headLength + arrayLength (z .channels) (allStored z) → e ≡ b + arrayLength (z .channels) (allStored z)
+  pub drifts-room : (b e : ℕ) → b ≡ headLength (z .channels) + arrayLength (z .channels) (allStored z) → e ≡ b + arrayLength (z .channels) (allStored z)
       → Room (take (e - b) (drop b plan)) (z .channels) (allStored z) lanes
   drifts-room b e g h = let whole = f .whole in part-room b e h (omega arith)
 

@@ -4,6 +4,7 @@ pub mod Reaching
 pub mod Sweeping
 pub mod Laying
 pub mod Positions
+pub mod Topped
 pub mod Standing
 pub mod Stretches
 pub mod Direct

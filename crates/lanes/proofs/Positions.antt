@@ -16,9 +16,8 @@ use Rattle.plan.proofs.Rows.{row-start, row-ge, row-lt, row-split, row-again}
 use Rattle.table.specs.Layout.{marked}
 use Rattle.table.specs.inner.Tables.{allBelow}
 use Rattle.table.proofs.AllBelow.{both-ways, all-each, each-all}
-use Rattle.verdict.specs.Rows.{join, joinFirst, testAt}
+use Rattle.verdict.specs.Rows.{join, joinFirst, testAt, judgeFrom}
 use Rattle.verdict.specs.inner.Reach.{reach, TermsFit}
-use Rattle.verdict.specs.inner.Settled.{judgeFrom}
 use Rattle.verdict.specs.declared.Comparison.{Comparison}
 use Rattle.verdict.specs.declared.Verdict.{Verdict}
 use Rattle.verdict.specs.declared.Verdict.the-variants.{AlwaysTrue, AlwaysFalse, Changes}
@@ -106,7 +105,7 @@ module _ {plan : List ℕ} {z : Sizes} (f : Fitting plan z) (table : List ℕ) (
 
   cycle-row : (row n : ℕ) → P ≤ row → P + back ≤ row + n * C → onRow row ≡ (allBelow (early row) n && verdictAgrees (judgeFrom plan x (row + n * C)) (mark row))
   cycle-row row n h g =
-      ap (λ v. verdictAgrees v (mark row)) (sym (cycle-is f x fits row n h (omega arith, omega arith) _ _ refl refl _ refl refl ∙ on-cycle-row f x row h))
+      ap (λ v. verdictAgrees v (mark row)) (sym (cycle-is f x fits row n h (omega arith, omega arith) _ refl refl ∙ on-cycle-row f x row h))
       ∙ joined-agrees (passTest plan x row) n (judgeFrom plan x (row + n * C)) (mark row)
       ∙ ap (λ (c : ℕ). allBelow (λ k. Bool·beq (mark row) (testAt plan x (row + k * c))) n && verdictAgrees (judgeFrom plan x (row + n * C)) (mark row)) (f .c-is)
 

@@ -61,11 +61,11 @@ module _ (x : Term) where
   reading-few channel shift e h = subst FewChannels e h
 
   module _ (w row code : ℕ) where
-    pub constant-stands : (z : ℤ) (p : ℕ) → x ≡ Constant z → signedOf 4 p ≡ z → Stands w row code x (record { reads = false; from = 0; pattern = p })
+    pub constant-stands : (top : ℕ) (z : ℤ) (p : ℕ) → x ≡ Constant z → signedOf 4 p ≡ z → Stands w row code x (record { reads = false; from = 0; pattern = p; top = top })
     unfolding Stands
-    constant-stands z p e h = rw e (refl, h)
+    constant-stands top z p e h = rw e (refl, h)
 
-    pub reading-stands : (channel : ℕ) (shift : ℤ) → x ≡ Reading channel shift
-        → Stands w row code x (record { reads = true; from = channel * w + (row + code - 4); pattern = 0 })
+    pub reading-stands : (top channel : ℕ) (shift : ℤ) → x ≡ Reading channel shift
+        → Stands w row code x (record { reads = true; from = channel * w + (row + code - 4); pattern = 0; top = top })
     unfolding Stands
-    reading-stands channel shift e = rw e (refl, refl)
+    reading-stands top channel shift e = rw e (refl, refl)

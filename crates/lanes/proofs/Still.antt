@@ -9,7 +9,7 @@ use mathlib.Core.List.{List}
 use mathlib.Core.Logic.{by-cases}
 use lib.ListN.{length}
 use lib.IntN.{ℤ, pos, subℕ, _+ℤ_, _*ℤ_, +ℤ-idr, *ℤ-zero}
-use Rattle.cltlb.specs.Run.{number}
+use Rattle.cltlb.specs.Run.{under}
 use Rattle.cltlb.specs.Truth.{valueAt}
 use Rattle.cltlb.specs.Fits.{termFits}
 use Rattle.cltlb.specs.declared.Term.{Term}
@@ -17,7 +17,7 @@ use Rattle.cltlb.specs.declared.Term.the-variants.{Constant, Reading}
 use Rattle.cltlb.proofs.Fits.{reading-fits}
 use Rattle.fields.specs.inner.Biased.{unbiased}
 use Rattle.fields.proofs.Differences.{sub-pos}
-use Rattle.plan.specs.Layout.{leadRows, readings, entry, storedReading, readingOf, driftOf}
+use Rattle.plan.specs.Layout.{leadRows, readings, entry, topOf, storedReading, readingOf, driftOf}
 use Rattle.plan.specs.Positions.{rowOf, passOf}
 use Rattle.plan.specs.Run.{readingOn, readingAt, runOf}
 use Rattle.plan.specs.inner.Drifts.{StoredStill, Still}
@@ -26,20 +26,24 @@ use Rattle.plan.specs.declared.sizes.Sizes.{Sizes}
 use Rattle.plan.proofs.Lines.{no-passes}
 use Rattle.plan.proofs.Rows.{row-start, pass-start, row-ge, row-lt}
 use Rattle.plan.proofs.Shifts.{shifted, in-run}
+use Rattle.plan.proofs.Pinned.{no-top}
 use Rattle.table.specs.Layout.{marked}
-use Rattle.verdict.specs.Comparisons.{testOf, ofNumber, tested, judgeLines}
-use Rattle.verdict.specs.Rows.{channelLine, termLine, testAt}
+use Rattle.verdict.specs.Comparisons.{tested}
+use Rattle.verdict.specs.Lines.{Line, level}
+use Rattle.verdict.specs.Tops.{judgeUnder}
+use Rattle.verdict.specs.Rows.{channelLine, termLine, termTop, testAt}
 use Rattle.verdict.specs.inner.Landed.{shiftIn}
 use Rattle.verdict.specs.inner.Reach.{TermsFit}
 use Rattle.verdict.specs.declared.Comparison.{Comparison}
 use Rattle.verdict.specs.declared.Relation.{Relation}
 use Rattle.lanes.specs.declared.columns.Column.{Column}
-use Rattle.lanes.specs.inner.Columns.{numberIn, Reaches, FewChannels, Stands, laneNumber}
+use Rattle.lanes.specs.declared.columns.Side.{Side}
+use Rattle.lanes.specs.inner.Columns.{numberIn, topIn, seenIn, IsSide, Reaches, FewChannels, Stands, laneNumber}
 use Rattle.lanes.specs.inner.Direct.{numbersSay, LongLanes}
 use Rattle.lanes.specs.inner.Lanes.{Laid}
 use Rattle.lanes.specs.inner.Positions.{positionSays}
-use Rattle.lanes.specs.inner.Still.{landedNumber, stillSays, StillPositions}
-use Rattle.lanes.proofs.Comparing.{level, level-agrees}
+use Rattle.lanes.specs.inner.Still.{landedNumber, landedSeen, stillSays, StillPositions}
+use Rattle.lanes.proofs.Comparing.{level-agrees}
 use Rattle.lanes.proofs.Laying.{reading-in-lane}
 use Rattle.lanes.proofs.Positions.{says-alone, says-settled}
 use Rattle.lanes.proofs.Reaching.{reaches-row}
@@ -88,17 +92,17 @@ module _ {plan : List ℕ} {z : Sizes} (f : Fitting plan z) (still : Still plan 
 
     module _ (x : Term) (code t : ℕ) (g : subℕ code 4 ≡ shiftIn x) (low : 4 ≤ t + code) (fits : termFits (z .channels) x ≡ true) where
       -- what is seen of a term,
-      seen-still : valueAt (runOf plan) x t ≡ number (landedNumber values z x code t)
+      seen-still : valueAt (runOf plan) x t ≡ under (termTop plan x) (landedNumber values z x code t)
       unfolding valueAt
       seen-still = go x g fits
         where
-          go : (x : Term) → subℕ code 4 ≡ shiftIn x → termFits (z .channels) x ≡ true → valueAt (runOf plan) x t ≡ number (landedNumber values z x code t)
-          go (Constant c) e h = refl
+          go : (x : Term) → subℕ code 4 ≡ shiftIn x → termFits (z .channels) x ≡ true → valueAt (runOf plan) x t ≡ under (termTop plan x) (landedNumber values z x code t)
+          go (Constant c) e h = sym (no-top c)
           go (Reading channel shift) e h =
               let there = reading-fits (z .channels) channel shift h .0 in
               ap (runOf plan channel) (shifted t code shift e)
               ∙ sym (in-run plan channel (t + code) low)
-              ∙ ap number (reading-still channel (t + code - 4) there ∙ in-lane channel (t + code - 4) there)
+              ∙ ap (under (topOf plan channel)) (reading-still channel (t + code - 4) there ∙ in-lane channel (t + code - 4) there)
 
       -- and its line, where it is read in the cycle
       line-still : P + 4 ≤ t + code → termLine plan x t ≡ level (landedNumber values z x code t)
@@ -116,29 +120,36 @@ module _ {plan : List ℕ} {z : Sizes} (f : Fitting plan z) (still : Still plan 
 
     -- ---- positions
 
-    module _ (table : List ℕ) (i : ℕ) (x : Comparison) (left right : ℕ) (gl : subℕ left 4 ≡ shiftIn (x .left)) (gr : subℕ right 4 ≡ shiftIn (x .right)) (fits : TermsFit z x)
-        (lines t : ℕ) (low : (4 ≤ t + left) × (4 ≤ t + right)) (inside : lines ≤ t → (P + 4 ≤ t + left) × (P + 4 ≤ t + right)) where
+    module _ (table : List ℕ) (i : ℕ) (x : Comparison) (left right : Side) (sl : IsSide plan (x .left) left) (sr : IsSide plan (x .right) right) (fits : TermsFit z x)
+        (lines t : ℕ) (low : (4 ≤ t + left .code) × (4 ≤ t + right .code)) (inside : lines ≤ t → (P + 4 ≤ t + left .code) × (P + 4 ≤ t + right .code)) where
       abbrev mark : Bool
       mark = marked (allRows z) table i (rowOf P C t)
 
       pub still-says : stillSays values table z i x left right t ≡ positionSays plan table z i x lines t
-      unfolding testAt tested ofNumber
-      still-says = by-cases (decLt t lines) (λ h. says-alone plan x lines mark t h (sym test) refl) (λ h. settled (omega arith))
+      unfolding testAt
+      still-says = rw (sl .is-top, sr .is-top) (by-cases (decLt t lines) (λ h. says-alone plan x lines mark t h (sym test) refl) (λ h. settled (omega arith)))
         where
           a : ℤ
-          a = landedNumber values z (x .left) left t
+          a = landedNumber values z (x .left) (left .code) t
 
           b : ℤ
-          b = landedNumber values z (x .right) right t
+          b = landedNumber values z (x .right) (right .code) t
 
-          test : testAt plan x t ≡ testOf (x .relation) a b
-          test = ap₂ (tested (testOf (x .relation))) (seen-still (x .left) left t gl (low .0) (fits .0)) (seen-still (x .right) right t gr (low .1) (fits .1))
+          s : ℤ
+          s = termTop plan (x .left)
 
-          settled : lines ≤ t → stillSays values table z i x left right t ≡ positionSays plan table z i x lines t
+          u : ℤ
+          u = termTop plan (x .right)
+
+          test : testAt plan x t ≡ tested (x .relation) (under s a) (under u b)
+          test = ap₂ (tested (x .relation)) (seen-still (x .left) (left .code) t (sl .is-code) (low .0) (fits .0)) (seen-still (x .right) (right .code) t (sr .is-code) (low .1) (fits .1))
+
+          settled : lines ≤ t → Bool·beq mark (tested (x .relation) (under s a) (under u b)) ≡ positionSays plan table z i x lines t
           settled h =
               says-settled plan x lines mark t h
-              (ap₂ (judgeLines (x .relation)) (sym (line-still (x .left) left t gl (low .0) (fits .0) (inside h .0))) (sym (line-still (x .right) right t gr (low .1) (fits .1) (inside h .1))))
-              (level-agrees (x .relation) a b mark)
+              (ap₂ (λ (p q : Line). judgeUnder (x .relation) s p u q)
+              (sym (line-still (x .left) (left .code) t (sl .is-code) (low .0) (fits .0) (inside h .0))) (sym (line-still (x .right) (right .code) t (sr .is-code) (low .1) (fits .1) (inside h .1))))
+              (level-agrees (x .relation) s a u b mark)
 
 -- ---- direct positions
 
@@ -150,30 +161,35 @@ on-pass-0 values z (Reading channel shift) code t low high =
     let place : z .lead + t + code - 4 ≡ z .lead + rowOf (z .start) (z .cycle) (t + code - 4) + 4 - 4 = omega arith in
     ap (λ (j : ℕ). entry values (channel * allStored z + j)) place
 
-pub direct-still : (values table : List ℕ) (z : Sizes) (i : ℕ) (x : Comparison) (left right t : ℕ) → t < allRows z → (4 ≤ t + left) × (4 ≤ t + right) → (t + left < allRows z + 4) × (t + right < allRows z + 4)
+pub direct-still : (values table : List ℕ) (z : Sizes) (i : ℕ) (x : Comparison) (left right : Side) (t : ℕ) → t < allRows z → (4 ≤ t + left .code) × (4 ≤ t + right .code) → (t + left .code < allRows z + 4) × (t + right .code < allRows z + 4)
     → numbersSay values z x left right (marked (allRows z) table i t) t ≡ stillSays values table z i x left right t
 direct-still values table z i x left right t few low high =
     ap₂ Bool·beq (ap (marked (allRows z) table i) (sym (row-start (z .start) (z .cycle) t few)))
-    (ap₂ (testOf (x .relation)) (on-pass-0 values z (x .left) left t (low .0) (high .0)) (on-pass-0 values z (x .right) right t (low .1) (high .1)))
+    (ap₂ (tested (x .relation))
+    (ap (under (pos (left .top))) (on-pass-0 values z (x .left) (left .code) t (low .0) (high .0)))
+    (ap (under (pos (right .top))) (on-pass-0 values z (x .right) (right .code) t (low .1) (high .1))))
 
 -- ---- one by one, over two lanes
 
--- the mark says how the numbers compare on the rows on which the two shifts land
+-- the mark says how what is seen on the rows on which the two shifts land compares
 abbrev pub landedSays : Relation → List ℕ → List ℕ → Sizes → ℕ → Column → Column → ℕ → ℕ → ℕ → Bool
 landedSays relation values table z i x y left right t =
     Bool·beq (marked (allRows z) table i (rowOf (z .start) (z .cycle) t))
-    (testOf relation (numberIn values x (z .lead + rowOf (z .start) (z .cycle) (t + left - 4))) (numberIn values y (z .lead + rowOf (z .start) (z .cycle) (t + right - 4))))
+    (tested relation (seenIn values x (z .lead + rowOf (z .start) (z .cycle) (t + left - 4))) (seenIn values y (z .lead + rowOf (z .start) (z .cycle) (t + right - 4))))
 
 module _ (relation : Relation) (values table : List ℕ) (z : Sizes) (i : ℕ) (x y : Column) (left right t : ℕ) where
-  pub landed-step : (a b : ℕ) {p q r : ℕ} {mark test said : Bool} → p ≡ rowOf (z .start) (z .cycle) (t + left - 4) → unbiased a ≡ numberIn values x (z .lead + p)
+  pub landed-step : (s a u b : ℕ) {p q r : ℕ} {mark test said : Bool} → p ≡ rowOf (z .start) (z .cycle) (t + left - 4) → unbiased a ≡ numberIn values x (z .lead + p)
       → q ≡ rowOf (z .start) (z .cycle) (t + right - 4) → unbiased b ≡ numberIn values y (z .lead + q) → r ≡ rowOf (z .start) (z .cycle) t → mark ≡ marked (allRows z) table i r
-      → test ≡ testOf relation (unbiased a) (unbiased b) → said ≡ Bool·beq mark test → said ≡ landedSays relation values table z i x y left right t
-  landed-step a b ep ea eq eb er em et es =
-      es
+      → test ≡ tested relation (under (pos s) (unbiased a)) (under (pos u) (unbiased b)) → x .top ≡ s → y .top ≡ u → said ≡ Bool·beq mark test → said ≡ landedSays relation values table z i x y left right t
+  landed-step s a u b ep ea eq eb er em et es eu said =
+      said
       ∙ ap₂ Bool·beq (em ∙ ap (marked (allRows z) table i) er)
-      (et ∙ ap₂ (testOf relation) (ea ∙ ap (λ (j : ℕ). numberIn values x (z .lead + j)) ep) (eb ∙ ap (λ (j : ℕ). numberIn values y (z .lead + j)) eq))
+      (et
+      ∙ ap₂ (tested relation)
+      (ap₂ (λ (m : ℕ) (y : ℤ). under (pos m) y) (sym es) (ea ∙ ap (λ (j : ℕ). numberIn values x (z .lead + j)) ep))
+      (ap₂ (λ (m : ℕ) (y : ℤ). under (pos m) y) (sym eu) (eb ∙ ap (λ (j : ℕ). numberIn values y (z .lead + j)) eq)))
 
-module _ {table : List ℕ} {n : ℕ} {z : Sizes} {i : ℕ} {x : Comparison} {left right from to : ℕ} (d : StillPositions table n z i x left right from to) where
+module _ {table : List ℕ} {n : ℕ} {z : Sizes} {i : ℕ} {x : Comparison} {left right : Side} {from to : ℕ} (d : StillPositions table n z i x left right from to) where
   pub few-rows : (1 ≤ allStored z) × (allStored z ≤ mostStored) × (allRows z ≤ 256)
   few-rows = let few = d .part .sized .few-rows in (omega (arith, d .part .a-cycle), omega (arith, d .part .few-lead), few)
 
@@ -194,9 +210,11 @@ module _ {table : List ℕ} {n : ℕ} {z : Sizes} {i : ℕ} {x : Comparison} {le
       (reaches-row values c (allStored z) _ (column-reaches (allStored z) 0 4 (omega arith) values (z .channels) (allStored z) y c fits (long .0) (omega arith) stands) (row-stored s e), long .1)
 
   -- the two lanes are those of the terms
-  pub lanes-say : (values : List ℕ) (p q : Column) → Stands (allStored z) 0 4 (x .left) p → Stands (allStored z) 0 4 (x .right) q → (t : ℕ)
-      → landedSays (x .relation) values table z i p q left right t ≡ stillSays values table z i x left right t
-  lanes-say values p q s u t = ap (Bool·beq (marked (allRows z) table i (rowOf (z .start) (z .cycle) t))) (ap₂ (testOf (x .relation)) (one (x .left) p s (t + left - 4)) (one (x .right) q u (t + right - 4)))
+  pub lanes-say : (values : List ℕ) (p q : Column) → Stands (allStored z) 0 4 (x .left) p × (p .top ≡ left .top) → Stands (allStored z) 0 4 (x .right) q × (q .top ≡ right .top) → (t : ℕ)
+      → landedSays (x .relation) values table z i p q (left .code) (right .code) t ≡ stillSays values table z i x left right t
+  lanes-say values p q s u t = ap (Bool·beq (marked (allRows z) table i (rowOf (z .start) (z .cycle) t))) (ap₂ (tested (x .relation))
+      (ap₂ (λ (m : ℕ) (y : ℤ). under (pos m) y) (s .1) (one (x .left) p (s .0) (t + left .code - 4)))
+      (ap₂ (λ (m : ℕ) (y : ℤ). under (pos m) y) (u .1) (one (x .right) q (u .0) (t + right .code - 4))))
     where
       one : (y : Term) (c : Column) → Stands (allStored z) 0 4 y c → (v : ℕ) → numberIn values c (z .lead + rowOf (z .start) (z .cycle) v) ≡ laneNumber values (allStored z) y 4 (z .lead + rowOf (z .start) (z .cycle) v)
       one y c stands v =

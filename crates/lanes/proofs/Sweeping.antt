@@ -1,12 +1,13 @@
 -- Sweeps over one stretch, put together. Assumes nothing.
 use Prim.Native.Nat.{ℕ, zero, suc}
 use mathlib.Core.Path.{_≡_, refl, sym, ap, ap₂, _∙_}
-use mathlib.Core.Bool.{Bool, true, false, _&&_}
+use mathlib.Core.Bool.{Bool, true, false, not, _&&_, Bool·beq}
 use mathlib.Core.List.{List}
 use Rattle.table.specs.inner.Tables.{allBelow}
+use Rattle.table.proofs.AllBelow.{all-ext}
 use Rattle.verdict.specs.Lines.{judgeEqual}
 use Rattle.verdict.specs.declared.Relation.{Relation}
-use Rattle.verdict.specs.declared.Relation.the-variants.{Same}
+use Rattle.verdict.specs.declared.Relation.the-variants.{Same, Pinned}
 use Rattle.lanes.specs.declared.columns.Column.{Column}
 use Rattle.lanes.specs.inner.Agreement.{stays, valuesAgree, linesAgree}
 use Rattle.lanes.specs.inner.Columns.{lineIn}
@@ -19,6 +20,18 @@ module _ (values : List ℕ) (x y : Column) (mark : ℕ → Bool) (n : ℕ) {rel
 
   pub lines-by : (drifts : List ℕ) → b ≡ allBelow (λ k. linesAgree r values drifts x y (mark k) k) n → b ≡ allBelow (λ k. linesAgree relation values drifts x y (mark k) k) n
   lines-by drifts h = rw e h
+
+-- No number is pinned, so that no mark says so.
+is-not : (b : Bool) → not b ≡ Bool·beq b false
+is-not true = refl
+is-not false = refl
+
+module _ (values : List ℕ) (x y : Column) (mark : ℕ → Bool) (n : ℕ) {relation : Relation} (e : relation ≡ Pinned) {b : Bool} (h : b ≡ allBelow (λ k. not (mark k)) n) where
+  pub values-none : b ≡ allBelow (λ k. valuesAgree relation values x y (mark k) k) n
+  values-none = rw e (h ∙ all-ext _ _ n (λ k _. is-not (mark k)))
+
+  pub lines-none : (drifts : List ℕ) → b ≡ allBelow (λ k. linesAgree relation values drifts x y (mark k) k) n
+  lines-none drifts = rw e h
 
 -- Two tests of all rows are one test of all rows.
 four : (a b c d : Bool) → ((a && b) && (c && d)) ≡ ((a && c) && (b && d))

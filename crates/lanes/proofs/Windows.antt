@@ -25,7 +25,7 @@ use Rattle.lanes.specs.declared.weeks.Spacing.{Spacing}
 use Rattle.lanes.specs.inner.Agreement.{verdictAgrees, valuesAgree, linesAgree}
 use Rattle.lanes.specs.inner.Columns.{numberIn, driftIn}
 use Rattle.lanes.specs.inner.Spacing.{Spaces, SameDrifts, spacedSays}
-use Rattle.lanes.proofs.Comparing.{level-agrees}
+use Rattle.lanes.proofs.Comparing.{level-numbers}
 
 -- By the remainders of the two numbers: a week is added, so that no case is left.
 pub after-by-week : (a b : ℕ) {p q : ℕ} → p ≡ a % 10080 → q ≡ b % 10080 → (p + (10080 - q) < 20160) × ((p + (10080 - q)) % 10080 ≡ minuteOf (subℕ a b))
@@ -122,7 +122,7 @@ levels-say values n x y table m count h e =
     ∙ ap₂ (λ (p q : ℕ). allBelow (λ k. spacedSays values n p q x y table m (0 + k)) (count - 0)) (h .left-is) (h .right-is)
     ∙ all-ext _ _ (count - 0) (λ k l.
     let z : 0 + k ≡ k = omega arith in
-    ap (spacedSays values n bias bias x y table m) z ∙ sym (level-agrees (Within n) (numberIn values x k) (numberIn values y k) (markIn table (m + k))))
+    ap (spacedSays values n bias bias x y table m) z ∙ sym (level-numbers (Within n) (numberIn values x k) (numberIn values y k) (markIn table (m + k))))
     ∙ ap (allBelow (λ k. valuesAgree (Within n) values x y (markIn table (m + k)) k)) (omega arith)
 
 -- Drifts that are the same so far.

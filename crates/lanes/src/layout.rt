@@ -48,7 +48,7 @@ pub fn lay_readings(plan: &[u8], sizes: Sizes, lanes: &mut [u8])
     requires { ⌜ (Fitting (now plan) sizes) × (length (now lanes) ≡ mostArray) ⌝ }
     ensures { λ _. ⌜ Laid (readings (now (plan .entry))) (sizes .channels) (allStored sizes) (now (lanes .exit)) ⌝ }
 {
-    let a = head_length();
+    let a = head_length(sizes);
     let b = drifts_start(sizes);
     lay_out(&plan[a..b], sizes, lanes);
 }

@@ -6,4 +6,5 @@ pub mod layout;
 pub mod ranges;
 pub mod rows;
 pub mod sweeps;
+pub mod tops;
 pub mod weeks;

@@ -2,25 +2,27 @@
 // which on neither of its terms is read before the cycle: below it a mark has to say what the comparison is at the position, and on
 // the cycle from there on, what it is on every pass from the position on. Where both terms are read in the lead-in or on pass 0 a
 // position is direct, and is swept over lanes; the others, at most eight, are looked at one by one. `i` is the part's number in a table
-// of `n` parts; `left` and `right` are the codes of the comparison's shifts, which are the shifts + 4.
+// of `n` parts; `left` and `right` are how the comparison's terms are read.
 ghost use mathlib.Core.Path.{_≡_};
 ghost use Prim.Native.Nat.{_+_, _-_, _≤_, _<_};
 ghost use Rattle.plan.specs.inner.Sizes.{allRows, Fitting};
-ghost use Rattle.verdict.specs.inner.Reach.{reach, TermsFit, latestFrom};
+ghost use Rattle.verdict.specs.inner.Reach.{reach, TermsFit, AsksLeft, latestFrom};
 ghost use Rattle.table.specs.Layout.{marked};
 ghost use Rattle.table.specs.inner.Tables.{allBelow, Sized};
-ghost use Rattle.lanes.specs.inner.Agreement.{verdictAgrees};
 ghost use Rattle.lanes.specs.inner.Lanes.{Lanes};
 ghost use Rattle.lanes.specs.inner.Direct.{agreesOn, numbersSay, linesSay, DirectRows, LongLanes};
 ghost use Rattle.lanes.specs.inner.Positions.{saysAt, positionSays};
 ghost use Rattle.lanes.specs.inner.Still.{stillSays, StillPositions};
+use crate::columns::Side;
 use crate::columns::column_of;
 use crate::columns::lane_of;
 use crate::columns::number;
+use crate::columns::side_of;
 use crate::ranges::ranges_of;
-use crate::sweeps::lines_agree;
-use crate::sweeps::numbers_compare;
-use crate::sweeps::values_agree;
+use crate::sweeps::verdict_agrees;
+use crate::tops::seen_agree;
+use crate::tops::seen_compare;
+use crate::tops::under_agree;
 use plan::positions::row_of;
 use plan::sizes::Sizes;
 use table::bytes::mark_at;
@@ -28,23 +30,10 @@ use table::bytes::place;
 use table::sweeps::agree;
 use table::sweeps::none_marked;
 use verdict::Comparison;
-use verdict::Verdict;
 use verdict::bounds::larger;
 use verdict::rows::judge_from;
 use verdict::rows::test_at;
-use verdict::terms::code_in;
 use verdict::terms::reach_of;
-
-// A verdict that says on every pass what the mark says.
-fn verdict_agrees(verdict: Verdict, mark: bool) -> bool
-    ensures { λ r. ⌜ r ≡ verdictAgrees verdict mark ⌝ }
-{
-    match verdict {
-        Verdict::AlwaysTrue => mark,
-        Verdict::AlwaysFalse => !mark,
-        Verdict::Changes => false,
-    }
-}
 
 // A mark says what the comparison is at position t; from `lines` on, on every pass from there on.
 fn position_agrees(
@@ -100,8 +89,8 @@ fn direct_numbers(
     sizes: Sizes,
     i: usize,
     comparison: Comparison,
-    left: usize,
-    right: usize,
+    left: Side,
+    right: Side,
     from: usize,
     to: usize,
 ) -> bool
@@ -117,7 +106,7 @@ fn direct_numbers(
     let relation = comparison.relation;
     let x = comparison.left;
     let y = comparison.right;
-    values_agree(
+    seen_agree(
         values,
         relation,
         column_of(x, left, lane, first),
@@ -137,8 +126,8 @@ fn direct_lines(
     sizes: Sizes,
     i: usize,
     comparison: Comparison,
-    left: usize,
-    right: usize,
+    left: Side,
+    right: Side,
     from: usize,
     to: usize,
 ) -> bool
@@ -154,7 +143,7 @@ fn direct_lines(
     let relation = comparison.relation;
     let x = comparison.left;
     let y = comparison.right;
-    lines_agree(
+    under_agree(
         values,
         drifts,
         relation,
@@ -175,8 +164,8 @@ fn still_one_by_one(
     sizes: Sizes,
     i: usize,
     comparison: Comparison,
-    left: usize,
-    right: usize,
+    left: Side,
+    right: Side,
     from: usize,
     to: usize,
 ) -> bool
@@ -188,17 +177,17 @@ fn still_one_by_one(
     let relation = comparison.relation;
     let left_term = comparison.left;
     let right_term = comparison.right;
-    let x = lane_of(left_term, lane);
-    let y = lane_of(right_term, lane);
+    let x = lane_of(left_term, left.top, lane);
+    let y = lane_of(right_term, right.top, lane);
     let count = to - from;
     let mut all = true;
     let mut k = 0;
     while k < count {
         let t = from + k;
-        let a = number(values, x, sizes.lead + row_of(sizes, t + left - 4));
-        let b = number(values, y, sizes.lead + row_of(sizes, t + right - 4));
+        let a = number(values, x, sizes.lead + row_of(sizes, t + left.code - 4));
+        let b = number(values, y, sizes.lead + row_of(sizes, t + right.code - 4));
         let mark = mark_at(table, n, w, i, row_of(sizes, t));
-        all = all & agree(mark, numbers_compare(relation, a, b));
+        all = all & agree(mark, seen_compare(relation, left.top, a, right.top, b));
         k += 1;
     }
     all
@@ -217,16 +206,16 @@ pub fn verdicts_agree(
     i: usize,
     comparison: Comparison,
 ) -> bool
-    requires { ⌜ (Fitting (now plan) sizes) × (Lanes (now plan) sizes (now values) (now drifts) still) × (Sized (now table) n (allRows sizes)) × (i < n) × (TermsFit sizes comparison) ⌝ }
+    requires { ⌜ (Fitting (now plan) sizes) × (Lanes (now plan) sizes (now values) (now drifts) still) × (Sized (now table) n (allRows sizes)) × (i < n) × (TermsFit sizes comparison) × (AsksLeft comparison) ⌝ }
     ensures { λ r. ⌜ r ≡ allBelow (agreesOn (now (plan .entry)) (now (table .entry)) (allRows sizes) i comparison) (allRows sizes) ⌝ }
 {
     let w = sizes.start + sizes.cycle;
     let x = comparison.left;
     let y = comparison.right;
-    let left = code_in(x);
-    let right = code_in(y);
+    let left = side_of(plan, sizes, x);
+    let right = side_of(plan, sizes, y);
     let back = larger(reach_of(x), reach_of(y));
-    let ranges = ranges_of(sizes, back, larger(left, right), still);
+    let ranges = ranges_of(sizes, back, larger(left.code, right.code), still);
     let before = none_marked(table, place(w, i, 0), ranges.before);
     let numbers = direct_numbers(
         values,

@@ -15,7 +15,9 @@ use crate::columns::number;
 use crate::weeks::within_lines;
 use crate::weeks::within_values;
 use table::sweeps::agree;
+use table::sweeps::none_marked;
 use verdict::Relation;
+use verdict::Verdict;
 use verdict::weeks::minutes_after;
 
 // How two numbers kept without a sign compare.
@@ -26,6 +28,7 @@ pub fn numbers_compare(relation: Relation, a: u64, b: u64) -> bool
         Relation::Below => a < b,
         Relation::Same => a == b,
         Relation::Within(minutes) => minutes_after(a, b) < minutes,
+        Relation::Pinned => false,
     }
 }
 
@@ -144,6 +147,17 @@ fn same_stay(values: &[u8], drifts: &[u8], x: Column, y: Column, count: usize) -
     true
 }
 
+// A verdict that says on every pass what the mark says.
+pub fn verdict_agrees(verdict: Verdict, mark: bool) -> bool
+    ensures { λ r. ⌜ r ≡ verdictAgrees verdict mark ⌝ }
+{
+    match verdict {
+        Verdict::AlwaysTrue => mark,
+        Verdict::AlwaysFalse => !mark,
+        Verdict::Changes => false,
+    }
+}
+
 // The marks say how the two numbers compare.
 pub fn values_agree(
     values: &[u8],
@@ -161,6 +175,7 @@ pub fn values_agree(
         Relation::Below => less_values(values, x, y, table, m, count),
         Relation::Same => same_values(values, x, y, table, m, count),
         Relation::Within(minutes) => within_values(values, minutes, x, y, table, m, count),
+        Relation::Pinned => none_marked(table, m, count),
     }
 }
 
@@ -190,5 +205,6 @@ pub fn lines_agree(
         Relation::Within(minutes) => {
             within_lines(values, drifts, minutes, x, y, table, m, count)
         }
+        Relation::Pinned => none_marked(table, m, count),
     }
 }

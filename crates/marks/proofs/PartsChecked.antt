@@ -1,7 +1,7 @@
 -- Refusals 9 to 11 of one part by the tests that the code makes, with the sizes that it has read. Assumes nothing.
 use Prim.Native.Nat.{ℕ, _+_, _≤_, _<_}
 use native.Mathlib.Omega.{arith}
-use mathlib.Core.Path.{_≡_, refl, sym, ap, ap₂, _∙_, subst, subst₂}
+use mathlib.Core.Path.{_≡_, refl, sym, ap, ap₂, _∙_, subst, subst₂, subst⁻¹}
 use mathlib.Core.List.{List}
 use mathlib.Core.Bool.{Bool, true, false, not, Bool·beq, false≢true, and-eq-true-iff}
 use Rattle.cltlb.specs.Truth.{AtomHolds}
@@ -31,7 +31,8 @@ use Rattle.verdict.specs.Meaning.{VerdictMeans}
 use Rattle.verdict.specs.declared.Comparison.{Comparison}
 use Rattle.verdict.specs.Comparisons.{comparisonOf}
 use Rattle.verdict.specs.Rows.{atomAt, judgeRow, verdictOf}
-use Rattle.verdict.proofs.Verdicts.{judged, atom-tells}
+use Rattle.verdict.specs.inner.Reach.{AsksLeft}
+use Rattle.verdict.proofs.Verdicts.{judged, asks-left, atom-tells}
 use Rattle.table.specs.Layout.{marked}
 use Rattle.marks.specs.Equations.{expected}
 use Rattle.marks.specs.Parts.{isChanges, closes, witnessInOrder, breaks, equationOutcome, steadyOutcome, closingOutcome, witnessOutcome}
@@ -103,6 +104,10 @@ module _ (plan : List ℕ) (mark : ℕ → ℕ → Bool) (i : ℕ) (o : Operator
 -- what is said with the plan's own sizes holds with the sizes that were read
 pub at-sizes : {plan : List ℕ} {z : Sizes} → Fitting plan z → (Q : ℕ → ℕ → Type 0) → Q (startRows plan) (cycleRows plan) → Q (z .start) (z .cycle)
 at-sizes fit Q q = subst₂ Q (fit .p-is) (fit .c-is) q
+
+-- An atom's comparison asks something of its left term alone, or reaches no farther back by its right one.
+pub asked : (v : ℕ) (a : Atom) → atomFits v a ≡ true → {x : Comparison} → x ≡ comparisonOf a → AsksLeft x
+asked v a fits e = subst⁻¹ AsksLeft e (asks-left a)
 
 pub own-cycle : {plan : List ℕ} {z : Sizes} → Fitting plan z → 1 ≤ cycleRows plan
 own-cycle fit = omega (arith, fit .a-cycle, fit .c-is)

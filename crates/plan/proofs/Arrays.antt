@@ -6,8 +6,8 @@ use mathlib.Core.Path.{_≡_, refl, sym, ap, _∙_}
 use mathlib.Core.List.{List}
 use lib.ListN.{length, take, drop, length-take, length-drop}
 use lib.IntN.{ℤ, pos, subℕ, _+ℤ_, _*ℤ_}
-use Rattle.cltlb.specs.Run.{number, beforeRun}
-use Rattle.plan.specs.Layout.{rows, storedRows, headLength, arrayLength, readings, drifts, cell, entry, storedReading, storedDrift, readingOf, driftOf}
+use Rattle.cltlb.specs.Run.{beforeRun, under}
+use Rattle.plan.specs.Layout.{rows, storedRows, headLength, arrayLength, topOf, readings, drifts, cell, entry, storedReading, storedDrift, readingOf, driftOf}
 use Rattle.plan.specs.inner.Sizes.{allRows, allStored, mostStored, Fitting}
 use Rattle.plan.specs.declared.sizes.Sizes.{Sizes}
 use Rattle.plan.specs.Positions.{rowOf, passOf}
@@ -29,11 +29,11 @@ module _ {plan : List ℕ} {z : Sizes} (fits : Fitting plan z) where
   long = arrayLength (z .channels) (allStored z)
 
   -- the two arrays are the parts that are handed on
-  pub readings-part : (a b : ℕ) → a ≡ headLength → b ≡ headLength + long → take (b - a) (drop a plan) ≡ readings plan
+  pub readings-part : (a b : ℕ) → a ≡ headLength (z .channels) → b ≡ headLength (z .channels) + long → take (b - a) (drop a plan) ≡ readings plan
   unfolding readings storedRows rows
   readings-part a b f g = let k : b - a ≡ long = omega arith in rw (k, f, fits .v-is, fits .p-is, fits .c-is, fits .l-is) refl
 
-  pub drifts-part : (b e : ℕ) → b ≡ headLength + long → e ≡ b + long → take (e - b) (drop b plan) ≡ drifts plan
+  pub drifts-part : (b e : ℕ) → b ≡ headLength (z .channels) + long → e ≡ b + long → take (e - b) (drop b plan) ≡ drifts plan
   unfolding drifts storedRows rows
   drifts-part b e f g = let k : e - b ≡ long = omega arith in rw (k, f, fits .v-is, fits .p-is, fits .c-is, fits .l-is) refl
 
@@ -44,12 +44,12 @@ module _ {plan : List ℕ} {z : Sizes} (fits : Fitting plan z) where
     in-part a e i f g l h there = simp (length-take, length-drop) (omega (arith, cell-lt (z .channels) (allStored z) k channel h there))
 
     -- what is read there, in the part from b to e, and with it in the part from a to b
-    module _ (b e i : ℕ) (hb : b ≡ headLength + long) (he : e ≡ b + long) (hi : i ≡ cell (z .channels) k channel) where
+    module _ (b e i : ℕ) (hb : b ≡ headLength (z .channels) + long) (he : e ≡ b + long) (hi : i ≡ cell (z .channels) k channel) where
       pub drift-read : {x : ℤ} → x ≡ entry (take (e - b) (drop b plan)) i → x ≡ storedDrift plan k channel
       unfolding storedDrift
       drift-read h = rw (fits .v-is, ← hi, ← drifts-part b e hb he) h
 
-      pub value-read : (a pass : ℕ) → a ≡ headLength → {x : ℤ}
+      pub value-read : (a pass : ℕ) → a ≡ headLength (z .channels) → {x : ℤ}
           → x ≡ entry (take (b - a) (drop a plan)) i +ℤ pos pass *ℤ entry (take (e - b) (drop b plan)) i → x ≡ storedReading plan k channel +ℤ pos pass *ℤ storedDrift plan k channel
       unfolding storedReading storedDrift
       value-read a pass f h = rw (fits .v-is, ← hi, ← drifts-part b e hb he, ← readings-part a b f hb) h
@@ -75,8 +75,8 @@ module _ {plan : List ℕ} {z : Sizes} (fits : Fitting plan z) where
   before-lead channel ahead h = before-run plan channel ahead (rw (fits .l-is) h)
 
   pub stored-value : (channel ahead : ℕ) → 4 ≤ z .lead + ahead → ahead < allRows z + 4 → {x : ℤ}
-      → x ≡ storedReading plan (z .lead + ahead - 4) channel +ℤ pos 0 *ℤ storedDrift plan (z .lead + ahead - 4) channel → number x ≡ runOf plan channel (subℕ ahead 4)
+      → x ≡ storedReading plan (z .lead + ahead - 4) channel +ℤ pos 0 *ℤ storedDrift plan (z .lead + ahead - 4) channel → under (topOf plan channel) x ≡ runOf plan channel (subℕ ahead 4)
   stored-value channel ahead l h e =
       let few : ahead < rows plan + 4 = rw (rows-are fits) h in
-      ap number (e ∙ no-passes (storedReading plan (z .lead + ahead - 4) channel) (storedDrift plan (z .lead + ahead - 4) channel))
+      ap (under (topOf plan channel)) (e ∙ no-passes (storedReading plan (z .lead + ahead - 4) channel) (storedDrift plan (z .lead + ahead - 4) channel))
       ∙ sym (rw (fits .l-is) at (as-stored plan channel ahead (rw (fits .l-is) l) few))

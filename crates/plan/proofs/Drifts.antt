@@ -16,41 +16,15 @@ use Rattle.fields.specs.LittleEndian.{numberAt}
 use Rattle.fields.specs.TwosComplement.{signedOf, signedAt}
 use Rattle.fields.proofs.Differences.{sub-pos, sub-neg}
 use Rattle.fields.proofs.Patterns.{signed-low}
-use Rattle.plan.specs.Layout.{channels, headLength, arrayLength, cell, entry, storedDrift}
+use Rattle.plan.specs.Layout.{channels, headLength, arrayLength, cell, entry, anyBelow, storedDrift}
 use Rattle.plan.specs.inner.Sizes.{allStored, mostArray, Fitting}
 use Rattle.plan.specs.inner.Drifts.{nonZero, allZero, StoredStill, Still}
 use Rattle.plan.proofs.Arrays.{array-le, drifts-part}
 use Rattle.plan.proofs.Fits.{few-stored}
 use Rattle.plan.specs.declared.sizes.Sizes.{Sizes}
 use Rattle.fields.specs.inner.Biased.{bias, unbiased}
-use Rattle.plan.specs.Refusals.{isZero, anyBelow, driftsAt, drifting}
-
--- A search for one that is true, going up.
-module _ (f : ℕ → Bool) where
-  pub none-more : (k : ℕ) → anyBelow f k ≡ false → f k ≡ false → anyBelow f (k + 1) ≡ false
-  unfolding anyBelow
-  none-more k e g = rw add-one (ap₂ _||_ e g)
-
-  pub none-below : (n : ℕ) → ((k : ℕ) → k < n → f k ≡ false) → anyBelow f n ≡ false
-  unfolding anyBelow
-  none-below zero h = refl
-  none-below (suc n) h = ap₂ _||_ (none-below n (λ k l. h k (omega arith))) (h n (omega arith))
-
-  pub one-here : (k n : ℕ) → k < n → f k ≡ true → anyBelow f n ≡ true
-  unfolding anyBelow
-  one-here k zero h e = absurd (omega arith)
-  one-here k (suc n) h e =
-      let lower = one-here k n in
-      by-cases (decLt k n)
-      (λ l. ap (λ (b : Bool). b || f n) (lower l e))
-      (λ l. let same : k ≡ n = omega arith in ap (λ (b : Bool). anyBelow f n || b) (subst (λ (i : ℕ). f i ≡ true) same e) ∙ or-true (anyBelow f n))
-
-  pub none-each : (n : ℕ) → anyBelow f n ≡ false → (k : ℕ) → k < n → f k ≡ false
-  none-each n e k h = go (f k) refl
-    where
-      go : (b : Bool) → f k ≡ b → f k ≡ false
-      go true g = absurd (false≢true (sym e ∙ one-here k n h g))
-      go false g = g
+use Rattle.plan.specs.Refusals.{isZero, driftsAt, drifting}
+use Rattle.plan.proofs.Searches.{none-below, one-here, none-each}
 
 -- A field is 0 where it is kept as 2 ^ 31.
 zero-field : (n : ℕ) {z : ℤ} → unbiased n ≡ z → n ≡ bias → isZero z ≡ true
@@ -137,7 +111,7 @@ module _ {plan : List ℕ} {z : Sizes} (fits : Fitting plan z) where
         let most = array-le (z .channels) to (fits .few-channels) (omega (arith, few-stored fits)) in
         omega (arith, together, most)
 
-    pub numbers-there : (b e : ℕ) → b ≡ headLength + arrayLength (z .channels) (allStored z) → e ≡ b + arrayLength (z .channels) (allStored z)
+    pub numbers-there : (b e : ℕ) → b ≡ headLength (z .channels) + arrayLength (z .channels) (allStored z) → e ≡ b + arrayLength (z .channels) (allStored z)
         → (4 * (from * z .channels + (to - from) * z .channels) ≤ length (take (e - b) (drop b plan))) × (length (take (e - b) (drop b plan)) ≤ mostArray)
     unfolding arrayLength
     numbers-there b e hb he =
@@ -146,7 +120,7 @@ module _ {plan : List ℕ} {z : Sizes} (fits : Fitting plan z) where
         simp (length-take, length-drop) (omega (arith, together, mul-le-mul-right (z .channels) l, most))
 
   -- and where they are 0, no channel drifts there.
-  pub still-rows : (b e from to : ℕ) → b ≡ headLength + arrayLength (z .channels) (allStored z) → e ≡ b + arrayLength (z .channels) (allStored z)
+  pub still-rows : (b e from to : ℕ) → b ≡ headLength (z .channels) + arrayLength (z .channels) (allStored z) → e ≡ b + arrayLength (z .channels) (allStored z)
       → allZero (take (e - b) (drop b plan)) (from * z .channels) ((to - from) * z .channels) ≡ true → StoredStill plan from to
   unfolding StoredStill storedDrift entry signedAt cell
   still-rows b e from to hb he all row channel low high l =

@@ -3,6 +3,8 @@ pub mod Lines
 pub mod Landings
 pub mod Shifts
 pub mod Lifts
+pub mod Searches
+pub mod Pinned
 pub mod Arrays
 pub mod Fits
 pub mod Drifts

@@ -4,9 +4,9 @@ use native.Mathlib.Omega.{arith}
 use mathlib.Core.Path.{_≡_, sym, ap, ap₂, _∙_}
 use mathlib.Core.List.{List}
 use lib.IntN.{ℤ, pos, _+ℤ_, _*ℤ_, +ℤ-idr}
-use Rattle.cltlb.specs.Run.{number}
+use Rattle.cltlb.specs.Run.{under}
 use Rattle.fields.proofs.Differences.{by-sub, sub-same, sub-mul, pos-sub, mul-plus, add-assoc}
-use Rattle.plan.specs.Layout.{startRows, cycleRows, rows, readingOf, driftOf}
+use Rattle.plan.specs.Layout.{startRows, cycleRows, rows, readingOf, driftOf, topOf}
 use Rattle.plan.specs.Positions.{rowOf, passOf}
 use Rattle.plan.specs.Run.{readingOn, readingAt, runOf}
 use Rattle.plan.proofs.Rows.{row-start, pass-start, row-later, pass-later}
@@ -42,6 +42,6 @@ module _ (plan : List ℕ) (some-cycle : 0 < cycleRows plan) (channel t k : ℕ)
       (pass-later (startRows plan) (cycleRows plan) some-cycle t k in-cycle)
       ∙ readingOn-later plan channel (rowOf (startRows plan) (cycleRows plan) t) (passOf (startRows plan) (cycleRows plan) t) k
 
-  pub run-later : runOf plan channel (pos (t + k * cycleRows plan)) ≡ number (readingAt plan channel t +ℤ pos k *ℤ driftOf plan (rowOf (startRows plan) (cycleRows plan) t) channel)
+  pub run-later : runOf plan channel (pos (t + k * cycleRows plan)) ≡ under (topOf plan channel) (readingAt plan channel t +ℤ pos k *ℤ driftOf plan (rowOf (startRows plan) (cycleRows plan) t) channel)
   unfolding runOf
-  run-later = ap number readingAt-later
+  run-later = ap (under (topOf plan channel)) readingAt-later

@@ -4,8 +4,10 @@ use Prim.Native.Nat.{ℕ, _+_, _*_, _≤_, _<_}
 use native.Mathlib.Nat.{mul-le-mul-right}
 use native.Mathlib.Omega.{arith}
 use mathlib.Core.Path.{_≡_, refl, sym, ap, ap₂, _∙_}
+use mathlib.Core.Bool.{true}
 use mathlib.Core.List.{List, [], _++_, append-assoc}
 use lib.IntN.{ℤ}
+use lib.Signed.{nonNeg}
 use lib.ListN.{length, take, drop, length-append, length-take, length-drop, take-append-drop}
 use lib.Seq.{take-at, drop-at, take-all, take-add, drop-drop}
 use Rattle.fields.specs.LittleEndian.{numberAt, bytesOf}
@@ -16,8 +18,8 @@ use Rattle.fields.proofs.Widths.{number-lt, length-bytes, read-written, written
 use Rattle.fields.proofs.Patterns.{signed-pattern, pattern-signed, pattern-lt, signed-fits}
 use Rattle.fields.proofs.Pieces.{length-pieces, split, same-pieces, cut-pieces}
 use Rattle.fields.proofs.ByteParts.{bytes-take, bytes-drop}
-use Rattle.plan.specs.Layout.{channels, startRows, cycleRows, leadRows, rows, storedRows, headLength, arrayLength, readings, drifts, cell, entry, storedReading, storedDrift}
-use Rattle.plan.specs.Bytes.{word, arrayOf, headOf, planOf}
+use Rattle.plan.specs.Layout.{channels, startRows, cycleRows, leadRows, rows, storedRows, sizesLength, headLength, arrayLength, entry, tops, topOf, readings, drifts, cell, storedReading, storedDrift}
+use Rattle.plan.specs.Bytes.{word, arrayOf, headOf, topsOf, planOf}
 use Rattle.plan.specs.inner.Sizes.{Fitting}
 use Rattle.plan.specs.declared.sizes.Sizes.{Sizes}
 use Rattle.plan.proofs.Arrays.{cell-lt}
@@ -100,18 +102,50 @@ array-again l v w b n =
     ∙ cut-pieces l 0 (v * 4) w
     ∙ take-all (w * (v * 4)) l (omega arith)
 
+-- ---- tops, which are an array of one row
+
+tops-array : (v : ℕ) (top : ℕ → ℤ) → topsOf v top ≡ arrayOf v 1 (λ k. top)
+unfolding topsOf arrayOf pieces
+tops-array v top = refl
+
+one-row : (v channel : ℕ) → cell v 0 channel ≡ channel
+unfolding cell
+one-row v channel = omega arith
+
+pub length-tops : (v : ℕ) (top : ℕ → ℤ) → length (topsOf v top) ≡ 4 * v
+unfolding topsOf
+length-tops v top = length-pieces (λ channel. word (top channel)) 4 (λ channel. length-word (top channel)) v ∙ omega arith
+
+tops-entry : (v : ℕ) (top : ℕ → ℤ) (channel : ℕ) → channel < v → SignedFits 4 (top channel) → entry (topsOf v top) channel ≡ top channel
+tops-entry v top channel h fits =
+    ap (λ (x : List ℕ). entry x channel) (tops-array v top)
+    ∙ ap (entry (arrayOf v 1 (λ k. top))) (sym (one-row v channel))
+    ∙ array-entry v (λ k. top) 1 0 channel (omega arith) h fits
+
+tops-again : (l : List ℕ) (v : ℕ) (top : ℕ → ℤ) → Bytes l → length l ≡ 4 * v → ((channel : ℕ) → channel < v → top channel ≡ entry l channel) → topsOf v top ≡ l
+unfolding arrayLength
+tops-again l v top b n same =
+    tops-array v top
+    ∙ same-array v 1 (λ k. top) (λ k channel. entry l (cell v k channel)) (λ k channel h g.
+    let first : k ≡ 0 = omega arith in
+    same channel g ∙ ap (entry l) (sym (ap (λ (i : ℕ). cell v i channel) first ∙ one-row v channel)))
+    ∙ array-again l v 1 b (omega arith)
+
 -- ---- a plan made from its numbers
 
-pub length-head : (v p c l : ℕ) → length (headOf v p c l) ≡ headLength
+pub length-head : (v p c l : ℕ) → length (headOf v p c l) ≡ sizesLength
 unfolding headOf
 length-head v p c l = simp (length-append, length-bytes)
 
-module _ (v p c l : ℕ) (reading drift : ℕ → ℕ → ℤ) where
+module _ (v p c l : ℕ) (top : ℕ → ℤ) (reading drift : ℕ → ℕ → ℤ) where
   abbrev made : List ℕ
-  made = planOf v p c l reading drift
+  made = planOf v p c l top reading drift
 
   abbrev head : List ℕ
   head = headOf v p c l
+
+  abbrev topsMade : List ℕ
+  topsMade = topsOf v top
 
   abbrev readingsMade : List ℕ
   readingsMade = arrayOf v (l + (p + c)) reading
@@ -119,25 +153,31 @@ module _ (v p c l : ℕ) (reading drift : ℕ → ℕ → ℤ) where
   abbrev driftsMade : List ℕ
   driftsMade = arrayOf v (l + (p + c)) drift
 
+  -- what stands behind the sizes
+  abbrev behind : List ℕ
+  behind = topsMade ++ (readingsMade ++ driftsMade)
+
   abbrev long : ℕ
   long = arrayLength v (l + (p + c))
 
   -- Its length.
-  pub made-length : length made ≡ headLength + 2 * long
+  pub made-length : length made ≡ headLength v + 2 * long
   unfolding planOf
   made-length =
-      length-append head (readingsMade ++ driftsMade)
-      ∙ ap₂ _+_ (length-head v p c l) (length-append readingsMade driftsMade ∙ ap₂ _+_ (length-array v reading (l + (p + c))) (length-array v drift (l + (p + c))))
+      length-append head behind
+      ∙ ap₂ _+_ (length-head v p c l)
+      (length-append topsMade (readingsMade ++ driftsMade)
+      ∙ ap₂ _+_ (length-tops v top) (length-append readingsMade driftsMade ∙ ap₂ _+_ (length-array v reading (l + (p + c))) (length-array v drift (l + (p + c)))))
       ∙ omega arith
 
   -- the fields of the sizes, one after another
-  opened : made ≡ bytesOf 2 v ++ (bytesOf 2 p ++ (bytesOf 2 c ++ (bytesOf 2 l ++ (readingsMade ++ driftsMade))))
+  opened : made ≡ bytesOf 2 v ++ (bytesOf 2 p ++ (bytesOf 2 c ++ (bytesOf 2 l ++ behind)))
   unfolding planOf headOf
   opened =
-      append-assoc (bytesOf 2 v) (bytesOf 2 p ++ (bytesOf 2 c ++ bytesOf 2 l)) (readingsMade ++ driftsMade)
+      append-assoc (bytesOf 2 v) (bytesOf 2 p ++ (bytesOf 2 c ++ bytesOf 2 l)) behind
       ∙ ap (λ (x : List ℕ). bytesOf 2 v ++ x)
-      (append-assoc (bytesOf 2 p) (bytesOf 2 c ++ bytesOf 2 l) (readingsMade ++ driftsMade)
-      ∙ ap (λ (x : List ℕ). bytesOf 2 p ++ x) (append-assoc (bytesOf 2 c) (bytesOf 2 l) (readingsMade ++ driftsMade)))
+      (append-assoc (bytesOf 2 p) (bytesOf 2 c ++ bytesOf 2 l) behind
+      ∙ ap (λ (x : List ℕ). bytesOf 2 p ++ x) (append-assoc (bytesOf 2 c) (bytesOf 2 l) behind))
 
   module _ (few-channels : v ≤ 8) (few-rows : p + c ≤ 256) (few-lead : l ≤ 4) where
     -- Its sizes.
@@ -145,29 +185,29 @@ module _ (v p c l : ℕ) (reading drift : ℕ → ℕ → ℤ) where
     unfolding channels
     made-channels =
         ap (λ (x : List ℕ). numberAt 2 x 0) opened
-        ∙ read-written 2 v [] (bytesOf 2 p ++ (bytesOf 2 c ++ (bytesOf 2 l ++ (readingsMade ++ driftsMade)))) 0 refl (omega arith)
+        ∙ read-written 2 v [] (bytesOf 2 p ++ (bytesOf 2 c ++ (bytesOf 2 l ++ behind))) 0 refl (omega arith)
 
     pub made-start : startRows made ≡ p
     unfolding startRows
     made-start =
         ap (λ (x : List ℕ). numberAt 2 x 2) opened
-        ∙ read-written 2 p (bytesOf 2 v) (bytesOf 2 c ++ (bytesOf 2 l ++ (readingsMade ++ driftsMade))) 2 (length-bytes 2 v) (omega arith)
+        ∙ read-written 2 p (bytesOf 2 v) (bytesOf 2 c ++ (bytesOf 2 l ++ behind)) 2 (length-bytes 2 v) (omega arith)
 
     pub made-cycle : cycleRows made ≡ c
     unfolding cycleRows
     made-cycle =
         ap (λ (x : List ℕ). numberAt 2 x 4)
-        (opened ∙ sym (append-assoc (bytesOf 2 v) (bytesOf 2 p) (bytesOf 2 c ++ (bytesOf 2 l ++ (readingsMade ++ driftsMade)))))
-        ∙ read-written 2 c (bytesOf 2 v ++ bytesOf 2 p) (bytesOf 2 l ++ (readingsMade ++ driftsMade)) 4 (simp (length-append, length-bytes)) (omega arith)
+        (opened ∙ sym (append-assoc (bytesOf 2 v) (bytesOf 2 p) (bytesOf 2 c ++ (bytesOf 2 l ++ behind))))
+        ∙ read-written 2 c (bytesOf 2 v ++ bytesOf 2 p) (bytesOf 2 l ++ behind) 4 (simp (length-append, length-bytes)) (omega arith)
 
     pub made-lead : leadRows made ≡ l
     unfolding leadRows
     made-lead =
         ap (λ (x : List ℕ). numberAt 2 x 6)
         (opened
-        ∙ sym (append-assoc (bytesOf 2 v) (bytesOf 2 p) (bytesOf 2 c ++ (bytesOf 2 l ++ (readingsMade ++ driftsMade))))
-        ∙ sym (append-assoc (bytesOf 2 v ++ bytesOf 2 p) (bytesOf 2 c) (bytesOf 2 l ++ (readingsMade ++ driftsMade))))
-        ∙ read-written 2 l ((bytesOf 2 v ++ bytesOf 2 p) ++ bytesOf 2 c) (readingsMade ++ driftsMade) 6 (simp (length-append, length-bytes)) (omega arith)
+        ∙ sym (append-assoc (bytesOf 2 v) (bytesOf 2 p) (bytesOf 2 c ++ (bytesOf 2 l ++ behind)))
+        ∙ sym (append-assoc (bytesOf 2 v ++ bytesOf 2 p) (bytesOf 2 c) (bytesOf 2 l ++ behind)))
+        ∙ read-written 2 l ((bytesOf 2 v ++ bytesOf 2 p) ++ bytesOf 2 c) behind 6 (simp (length-append, length-bytes)) (omega arith)
 
     pub made-rows : rows made ≡ p + c
     unfolding rows
@@ -177,24 +217,44 @@ module _ (v p c l : ℕ) (reading drift : ℕ → ℕ → ℤ) where
     unfolding storedRows
     made-stored = ap₂ _+_ made-lead made-rows
 
+    -- Its tops.
+    pub made-tops : tops made ≡ topsMade
+    unfolding tops planOf
+    made-tops =
+        rw made-channels
+        (ap (take (4 * v)) (drop-at head behind sizesLength (length-head v p c l)) ∙ take-at topsMade (readingsMade ++ driftsMade) (4 * v) (length-tops v top))
+
     -- Its arrays.
+    abbrev front : List ℕ
+    front = head ++ topsMade
+
+    length-front : length front ≡ headLength v
+    length-front = length-append head topsMade ∙ ap₂ _+_ (length-head v p c l) (length-tops v top)
+
     pub made-readings : readings made ≡ readingsMade
     unfolding readings planOf
     made-readings =
         rw (made-channels, made-stored)
-        (ap (take long) (drop-at head (readingsMade ++ driftsMade) headLength (length-head v p c l)) ∙ take-at readingsMade driftsMade long (length-array v reading (l + (p + c))))
+        (ap (λ (x : List ℕ). take long (drop (headLength v) x)) (sym (append-assoc head topsMade (readingsMade ++ driftsMade)))
+        ∙ ap (take long) (drop-at front (readingsMade ++ driftsMade) (headLength v) length-front)
+        ∙ take-at readingsMade driftsMade long (length-array v reading (l + (p + c))))
 
     pub made-drifts : drifts made ≡ driftsMade
     unfolding drifts planOf
     made-drifts =
-        let front : length (head ++ readingsMade) ≡ headLength + long =
-        length-append head readingsMade ∙ ap₂ _+_ (length-head v p c l) (length-array v reading (l + (p + c))) in
+        let ahead : length (front ++ readingsMade) ≡ headLength v + long =
+        length-append front readingsMade ∙ ap₂ _+_ length-front (length-array v reading (l + (p + c))) in
         rw (made-channels, made-stored)
-        (ap (λ (x : List ℕ). take long (drop (headLength + long) x)) (sym (append-assoc head readingsMade driftsMade))
-        ∙ ap (take long) (drop-at (head ++ readingsMade) driftsMade (headLength + long) front)
+        (ap (λ (x : List ℕ). take long (drop (headLength v + long) x))
+        (sym (append-assoc head topsMade (readingsMade ++ driftsMade)) ∙ sym (append-assoc front readingsMade driftsMade))
+        ∙ ap (take long) (drop-at (front ++ readingsMade) driftsMade (headLength v + long) ahead)
         ∙ take-all long driftsMade (omega (arith, length-array v drift (l + (p + c)))))
 
     -- Its numbers, those that fit 4 bytes.
+    pub made-top : (channel : ℕ) → channel < v → SignedFits 4 (top channel) → topOf made channel ≡ top channel
+    unfolding topOf
+    made-top channel within fits = rw made-tops (tops-entry v top channel within fits)
+
     module _ (k channel : ℕ) (there : k < l + (p + c)) (within : channel < v) where
       pub made-reading : SignedFits 4 (reading k channel) → storedReading made k channel ≡ reading k channel
       unfolding storedReading
@@ -205,8 +265,8 @@ module _ (v p c l : ℕ) (reading drift : ℕ → ℕ → ℤ) where
       made-drift fits = rw (made-drifts, made-channels) (array-entry v drift (l + (p + c)) k channel there within fits)
 
     -- Its sizes fit.
-    pub made-fitting : 1 ≤ v → 1 ≤ c → Fitting made (record { channels = v; start = p; cycle = c; lead = l })
-    made-fitting a-channel a-cycle = record {
+    pub made-fitting : 1 ≤ v → 1 ≤ c → ((channel : ℕ) → channel < v → SignedFits 4 (top channel) × (nonNeg (top channel) ≡ true)) → Fitting made (record { channels = v; start = p; cycle = c; lead = l })
+    made-fitting a-channel a-cycle natural = record {
       v-is = made-channels;
       p-is = made-start;
       c-is = made-cycle;
@@ -217,22 +277,32 @@ module _ (v p c l : ℕ) (reading drift : ℕ → ℕ → ℤ) where
       few-rows = few-rows;
       few-lead = few-lead;
       whole = made-length;
+      no-negative = λ channel within. ap nonNeg (made-top channel within (natural channel within .0)) ∙ natural channel within .1;
     }
 
 -- ---- a plan and its own numbers
 
 module _ (plan : List ℕ) (bytes : Bytes plan) where
+  tops-bytes : Bytes (tops plan)
+  unfolding tops
+  tops-bytes = bytes-take (4 * channels plan) (drop sizesLength plan) (bytes-drop sizesLength plan bytes)
+
   readings-bytes : Bytes (readings plan)
   unfolding readings
-  readings-bytes = bytes-take (arrayLength (channels plan) (storedRows plan)) (drop headLength plan) (bytes-drop headLength plan bytes)
+  readings-bytes =
+      bytes-take (arrayLength (channels plan) (storedRows plan)) (drop (headLength (channels plan)) plan) (bytes-drop (headLength (channels plan)) plan bytes)
 
   drifts-bytes : Bytes (drifts plan)
   unfolding drifts
   drifts-bytes =
-      bytes-take (arrayLength (channels plan) (storedRows plan)) (drop (headLength + arrayLength (channels plan) (storedRows plan)) plan)
-      (bytes-drop (headLength + arrayLength (channels plan) (storedRows plan)) plan bytes)
+      bytes-take (arrayLength (channels plan) (storedRows plan)) (drop (headLength (channels plan) + arrayLength (channels plan) (storedRows plan)) plan)
+      (bytes-drop (headLength (channels plan) + arrayLength (channels plan) (storedRows plan)) plan bytes)
 
-  -- Readings and drifts fit 4 bytes.
+  -- Tops, readings and drifts fit 4 bytes.
+  pub top-fits : (channel : ℕ) → SignedFits 4 (topOf plan channel)
+  unfolding topOf entry signedAt
+  top-fits channel = signed-fits 4 _ (number-lt 4 _ _ tops-bytes)
+
   pub reading-fits : (k channel : ℕ) → SignedFits 4 (storedReading plan k channel)
   unfolding storedReading entry signedAt
   reading-fits k channel = signed-fits 4 _ (number-lt 4 _ _ readings-bytes)
@@ -245,9 +315,13 @@ module _ (plan : List ℕ) (bytes : Bytes plan) where
     abbrev size : ℕ
     size = arrayLength (channels plan) (storedRows plan)
 
-    all : length plan ≡ headLength + 2 * size
+    all : length plan ≡ headLength (channels plan) + 2 * size
     unfolding storedRows rows
     all = rw (fits .v-is, fits .p-is, fits .c-is, fits .l-is) (fits .whole)
+
+    length-own : length (tops plan) ≡ 4 * channels plan
+    unfolding tops
+    length-own = simp (length-take, length-drop) (omega (arith, all))
 
     length-readings : length (readings plan) ≡ size
     unfolding readings
@@ -257,7 +331,7 @@ module _ (plan : List ℕ) (bytes : Bytes plan) where
     unfolding drifts
     length-drifts = simp (length-take, length-drop) (omega (arith, all))
 
-    head-again : headOf (channels plan) (startRows plan) (cycleRows plan) (leadRows plan) ≡ take headLength plan
+    head-again : headOf (channels plan) (startRows plan) (cycleRows plan) (leadRows plan) ≡ take sizesLength plan
     unfolding headOf channels startRows cycleRows leadRows
     head-again =
         ap₂ (λ (x y : List ℕ). x ++ y) (written-read 2 plan 0 bytes (omega (arith, all)))
@@ -271,6 +345,10 @@ module _ (plan : List ℕ) (bytes : Bytes plan) where
         ∙ take-add 2 2 (drop 4 plan)
         ∙ ap (λ (x : List ℕ). take 2 (drop 4 plan) ++ take 2 x) (drop-drop 2 4 plan))))
 
+    own-tops : (top : ℕ → ℤ) → ((channel : ℕ) → channel < channels plan → top channel ≡ topOf plan channel) → topsOf (channels plan) top ≡ tops plan
+    unfolding topOf
+    own-tops top same = tops-again (tops plan) (channels plan) top tops-bytes length-own same
+
     readings-again : arrayOf (channels plan) (storedRows plan) (storedReading plan) ≡ readings plan
     unfolding storedReading
     readings-again = array-again (readings plan) (channels plan) (storedRows plan) readings-bytes length-readings
@@ -279,23 +357,33 @@ module _ (plan : List ℕ) (bytes : Bytes plan) where
     unfolding storedDrift
     drifts-again = array-again (drifts plan) (channels plan) (storedRows plan) drifts-bytes length-drifts
 
-    parts : take headLength plan ++ (readings plan ++ drifts plan) ≡ plan
+    arrays : readings plan ++ drifts plan ≡ drop (headLength (channels plan)) plan
     unfolding readings drifts
+    arrays =
+        let at = headLength (channels plan) in
+        ap (λ (x : List ℕ). take size (drop at plan) ++ x)
+        (take-all size (drop (at + size) plan) (simp length-drop (omega (arith, all))) ∙ sym (drop-drop size at plan))
+        ∙ take-append-drop size (drop at plan)
+
+    parts : take sizesLength plan ++ (tops plan ++ (readings plan ++ drifts plan)) ≡ plan
+    unfolding tops
     parts =
-        ap (λ (x : List ℕ). take headLength plan ++ (take size (drop headLength plan) ++ x))
-        (take-all size (drop (headLength + size) plan) (simp length-drop (omega (arith, all))) ∙ sym (drop-drop size headLength plan))
-        ∙ ap (λ (x : List ℕ). take headLength plan ++ x) (take-append-drop size (drop headLength plan))
-        ∙ take-append-drop headLength plan
+        ap (λ (x : List ℕ). take sizesLength plan ++ (take (4 * channels plan) (drop sizesLength plan) ++ x))
+        (arrays ∙ sym (drop-drop (4 * channels plan) sizesLength plan))
+        ∙ ap (λ (x : List ℕ). take sizesLength plan ++ x) (take-append-drop (4 * channels plan) (drop sizesLength plan))
+        ∙ take-append-drop sizesLength plan
 
     -- A plan written from numbers that are its own is the plan.
-    pub plan-again : (reading drift : ℕ → ℕ → ℤ)
+    pub plan-again : (top : ℕ → ℤ) (reading drift : ℕ → ℕ → ℤ)
+        → ((channel : ℕ) → channel < channels plan → top channel ≡ topOf plan channel)
         → ((k channel : ℕ) → k < storedRows plan → channel < channels plan → reading k channel ≡ storedReading plan k channel)
         → ((k channel : ℕ) → k < storedRows plan → channel < channels plan → drift k channel ≡ storedDrift plan k channel)
-        → planOf (channels plan) (startRows plan) (cycleRows plan) (leadRows plan) reading drift ≡ plan
+        → planOf (channels plan) (startRows plan) (cycleRows plan) (leadRows plan) top reading drift ≡ plan
     unfolding planOf storedRows rows
-    plan-again reading drift same-readings same-drifts =
+    plan-again top reading drift same-tops same-readings same-drifts =
         ap₂ (λ (x y : List ℕ). x ++ y) head-again
+        (ap₂ (λ (x y : List ℕ). x ++ y) (own-tops top same-tops)
         (ap₂ (λ (x y : List ℕ). x ++ y)
         (same-array (channels plan) (storedRows plan) reading (storedReading plan) same-readings ∙ readings-again)
-        (same-array (channels plan) (storedRows plan) drift (storedDrift plan) same-drifts ∙ drifts-again))
+        (same-array (channels plan) (storedRows plan) drift (storedDrift plan) same-drifts ∙ drifts-again)))
         ∙ parts

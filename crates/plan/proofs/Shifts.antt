@@ -8,9 +8,9 @@ use mathlib.Core.Logic.{by-cases}
 use native.Mathlib.Decide.{decLt}
 use borrow.Author.Tests.{le-leb, lt-leb}
 use lib.IntN.{ℤ, pos, subℕ, _+ℤ_}
-use Rattle.cltlb.specs.Run.{number, beforeRun}
+use Rattle.cltlb.specs.Run.{beforeRun, under}
 use Rattle.fields.proofs.Differences.{sub-pos, sub-neg, sub-same, sub-add, pos-sub}
-use Rattle.plan.specs.Layout.{leadRows, rows, storedReading, readingOf}
+use Rattle.plan.specs.Layout.{leadRows, rows, topOf, storedReading, readingOf}
 use Rattle.plan.specs.Run.{readingAt, leadAt, runOf}
 use Rattle.plan.proofs.Lines.{reading-on-pass-0}
 
@@ -29,7 +29,7 @@ module _ (plan : List ℕ) (channel ahead : ℕ) where
   before-run h = rw (sub-neg ahead 4 (omega arith)) (simp (lt-leb (suc (4 - suc ahead)) (leadRows plan) (omega arith)))
 
   -- in it,
-  pub in-lead : ahead < 4 → 4 ≤ leadRows plan + ahead → number (storedReading plan (leadRows plan + ahead - 4) channel) ≡ runOf plan channel (subℕ ahead 4)
+  pub in-lead : ahead < 4 → 4 ≤ leadRows plan + ahead → under (topOf plan channel) (storedReading plan (leadRows plan + ahead - 4) channel) ≡ runOf plan channel (subℕ ahead 4)
   unfolding runOf leadAt
   in-lead h l =
       let place : leadRows plan + ahead - 4 ≡ leadRows plan - suc (4 - suc ahead) = omega arith in
@@ -37,14 +37,14 @@ module _ (plan : List ℕ) (channel ahead : ℕ) where
 
   -- and behind it
 
-  pub in-run : 4 ≤ ahead → number (readingAt plan channel (ahead - 4)) ≡ runOf plan channel (subℕ ahead 4)
+  pub in-run : 4 ≤ ahead → under (topOf plan channel) (readingAt plan channel (ahead - 4)) ≡ runOf plan channel (subℕ ahead 4)
   unfolding runOf
   in-run h = rw (sub-pos ahead 4 h) refl
 
-  -- In the lead-in and on pass 0 it is the reading that is stored there.
-  pub as-stored : 4 ≤ leadRows plan + ahead → ahead < rows plan + 4 → runOf plan channel (subℕ ahead 4) ≡ number (storedReading plan (leadRows plan + ahead - 4) channel)
+  -- In the lead-in and on pass 0 it is the reading that is stored there, under the top.
+  pub as-stored : 4 ≤ leadRows plan + ahead → ahead < rows plan + 4 → runOf plan channel (subℕ ahead 4) ≡ under (topOf plan channel) (storedReading plan (leadRows plan + ahead - 4) channel)
   unfolding readingOf
-  as-stored low high = by-cases (decLt ahead 4) (λ h. sym (in-lead h low)) (λ h. sym (in-run (omega arith)) ∙ ap number (behind (omega arith)))
+  as-stored low high = by-cases (decLt ahead 4) (λ h. sym (in-lead h low)) (λ h. sym (in-run (omega arith)) ∙ ap (under (topOf plan channel)) (behind (omega arith)))
     where
       behind : 4 ≤ ahead → readingAt plan channel (ahead - 4) ≡ storedReading plan (leadRows plan + ahead - 4) channel
       behind h = reading-on-pass-0 plan channel (ahead - 4) (omega arith) ∙ ap (λ (k : ℕ). storedReading plan k channel) (omega arith)

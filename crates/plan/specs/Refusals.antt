@@ -1,23 +1,18 @@
 -- The refusals of a plan, 4 to 6, in the order of checking. Assumes nothing.
-use Prim.Native.Nat.{ℕ, zero, suc, _+_, _-_}
+use Prim.Native.Nat.{ℕ, _+_, _-_}
 use mathlib.Core.List.{List}
-use mathlib.Core.Bool.{Bool, false, _||_, not}
+use mathlib.Core.Bool.{Bool, false, not}
 use lib.Dec.{eqb}
 use lib.IntN.{ℤ, pos, negsuc}
 use Rattle.refusal.specs.declared.Outcome.{Outcome}
 use Rattle.refusal.specs.declared.Refusal.{Refusal}
 use Rattle.refusal.specs.declared.Refusal.the-variants.{PlanSizes, Channels, StartDrift}
 use Rattle.refusal.specs.First.{_orElse_, unless, atLowest}
-use Rattle.plan.specs.Layout.{channels, startRows, leadRows, sizesFit, storedDrift}
+use Rattle.plan.specs.Layout.{channels, startRows, leadRows, anyBelow, sizesFit, storedDrift}
 
 unfoldable pub isZero : ℤ → Bool
 isZero (pos n) = eqb n 0
 isZero (negsuc n) = false
-
--- the test is true of a number below n
-unfoldable pub anyBelow : (ℕ → Bool) → ℕ → Bool
-anyBelow f zero = false
-anyBelow f (suc n) = anyBelow f n || f n
 
 -- the k-th row that is stored has a drift other than 0: at a channel, and at some channel
 unfoldable pub driftsAt : List ℕ → ℕ → ℕ → Bool
@@ -34,7 +29,7 @@ namedRow lead k = k - lead
 abbrev pub driftRefusal : ℕ → ℕ → Refusal
 driftRefusal lead k = StartDrift (namedRow lead k)
 
--- 4 The plan has fewer than 8 bytes, V, C, W or L outside its range, or the wrong length. 5 The plan's V differs from the
+-- 4 The plan has fewer than 8 bytes, V, C, W or L outside its range, the wrong length, or a negative top. 5 The plan's V differs from the
 -- rule's, v. 6 A lead-in row or a start row has a drift other than 0 (lowest row; lead-in rows first, named as row 0).
 unfoldable pub planOutcome : ℕ → List ℕ → Outcome
 planOutcome v plan =

@@ -4,8 +4,8 @@ use mathlib.Core.Bool.{cond}
 use mathlib.Core.List.{List}
 use lib.Dec.{leb}
 use lib.IntN.{ℤ, pos, negsuc, _+ℤ_, _*ℤ_}
-use Rattle.cltlb.specs.Run.{Seen, number, beforeRun, Run}
-use Rattle.plan.specs.Layout.{startRows, cycleRows, leadRows, storedReading, readingOf, driftOf}
+use Rattle.cltlb.specs.Run.{Seen, beforeRun, under, Run}
+use Rattle.plan.specs.Layout.{startRows, cycleRows, leadRows, topOf, storedReading, readingOf, driftOf}
 use Rattle.plan.specs.Positions.{rowOf, passOf}
 
 -- the row's reading + pass × drift, a whole number without limit
@@ -20,9 +20,10 @@ readingAt plan channel t =
 -- The lead-in rows lie at positions -L to -1: `back` positions before position 0 is the one stored `back` rows before row 0. Further
 -- back nothing is seen.
 unfoldable pub leadAt : List ℕ → ℕ → ℕ → Seen
-leadAt plan channel back = cond (leb back (leadRows plan)) (number (storedReading plan (leadRows plan - back) channel)) beforeRun
+leadAt plan channel back = cond (leb back (leadRows plan)) (under (topOf plan channel) (storedReading plan (leadRows plan - back) channel)) beforeRun
 
--- what is seen of a channel at a position: the reading there, of the lead-in where the position is below 0; negsuc n is -(n + 1)
+-- what is seen of a channel at a position: the reading there under the channel's top, of the lead-in where the position is below 0;
+-- negsuc n is -(n + 1)
 unfoldable pub runOf : List ℕ → Run
-runOf plan channel (pos t) = number (readingAt plan channel t)
+runOf plan channel (pos t) = under (topOf plan channel) (readingAt plan channel t)
 runOf plan channel (negsuc n) = leadAt plan channel (suc n)

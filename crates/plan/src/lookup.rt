@@ -16,6 +16,8 @@ use crate::layout::head_length;
 use crate::positions::pass_of;
 use crate::positions::row_of;
 use crate::sizes::Sizes;
+use crate::tops::seen_under;
+use crate::tops::top_of;
 use fields::BIAS;
 use fields::biased;
 use fields::u32_at;
@@ -23,9 +25,10 @@ use fields::u32_at;
 // The last pass that the lookups reach.
 pub const LAST_PASS: u64 = 1023;
 
-// A value, lifted, or nothing, because the position is before the run.
+// A value, lifted; that it is pinned; or nothing, because the position is before the run.
 pub enum Seen {
     Number(u64),
+    Pinned,
     BeforeRun,
 }
 
@@ -51,7 +54,7 @@ pub fn stored_number(plan: &[u8], sizes: Sizes, channel: usize, k: usize, pass: 
     requires { ⌜ (Fitting (now plan) sizes) × (channel < sizes .channels) × (k < allStored sizes) × (pass < passes) ⌝ }
     ensures { λ r. ⌜ (lowered r ≡ storedReading (now (plan .entry)) k channel +ℤ pos pass *ℤ storedDrift (now (plan .entry)) k channel) × (r < valueEnd) ⌝ }
 {
-    let a = head_length();
+    let a = head_length(sizes);
     let b = drifts_start(sizes);
     let e = b + array_length(sizes);
     number_on(&plan[a..b], &plan[b..e], cell_of(sizes, k, channel), pass)
@@ -84,7 +87,7 @@ pub fn drift_at(plan: &[u8], sizes: Sizes, channel: usize, row: usize) -> u64
 }
 
 // What is seen of a channel at the position `ahead` - 4: a term at position t whose shift has the code k, which is the shift
-// + 4, is seen at t + k. In the lead-in, whose first row lies farthest back, and on pass 0 it is what is stored there.
+// + 4, is seen at t + k. In the lead-in, whose first row lies farthest back, and on pass 0 it is what is stored there, under the top.
 pub fn seen_at(plan: &[u8], sizes: Sizes, channel: usize, ahead: usize) -> Seen
     requires { ⌜ (Fitting (now plan) sizes) × (channel < sizes .channels) × (ahead ≤ farthest sizes) ⌝ }
     ensures { λ r. ⌜ (seenOf r ≡ runOf (now (plan .entry)) channel (subℕ ahead 4)) × Small r ⌝ }
@@ -93,9 +96,13 @@ pub fn seen_at(plan: &[u8], sizes: Sizes, channel: usize, ahead: usize) -> Seen
     if at < 4 {
         return Seen::BeforeRun;
     }
+    let top = top_of(plan, sizes, channel);
     if ahead < sizes.start + sizes.cycle + 4 {
-        return Seen::Number(stored_number(plan, sizes, channel, at - 4, 0));
+        return seen_under(top, stored_number(plan, sizes, channel, at - 4, 0));
     }
     let t = ahead - 4;
-    Seen::Number(number_at(plan, sizes, channel, row_of(sizes, t), pass_of(sizes, t)))
+    seen_under(
+        top,
+        number_at(plan, sizes, channel, row_of(sizes, t), pass_of(sizes, t)),
+    )
 }

@@ -1,8 +1,10 @@
-// The plan's sizes, read and held to their ranges and to the length.
+// The plan's sizes, read and held to their ranges and to the length, and its tops, none of which is negative.
 ghost use mathlib.Core.Path.{_≡_};
 ghost use Rattle.plan.specs.inner.Sizes.{sizesRead};
 use crate::layout::array_length;
 use crate::layout::head_length;
+use crate::layout::sizes_length;
+use crate::tops::tops_fit;
 use fields::u16_at;
 
 // The channels, V, the start rows, P, the cycle rows, C, and the lead-in rows, L.
@@ -13,7 +15,7 @@ pub struct Sizes {
     pub lead: usize,
 }
 
-// The sizes of a plan, or that they do not fit their ranges or the length.
+// The sizes of a plan, or that they do not fit their ranges or the length, or a top is negative.
 pub enum SizesRead {
     Counts(Sizes),
     Wrong,
@@ -22,7 +24,7 @@ pub enum SizesRead {
 pub fn read_sizes(plan: &[u8]) -> SizesRead
     ensures { λ r. ⌜ r ≡ sizesRead (now (plan .entry)) ⌝ }
 {
-    if plan.len() < head_length() {
+    if plan.len() < sizes_length() {
         return SizesRead::Wrong;
     }
     let v = u16_at(plan, 0);
@@ -50,7 +52,11 @@ pub fn read_sizes(plan: &[u8]) -> SizesRead
         cycle: c,
         lead: l,
     };
-    if plan.len() != head_length() + 2 * array_length(sizes) {
+    let head = head_length(sizes);
+    if plan.len() != head + 2 * array_length(sizes) {
+        return SizesRead::Wrong;
+    }
+    if !tops_fit(&plan[sizes_length()..head], v) {
         return SizesRead::Wrong;
     }
     SizesRead::Counts(sizes)

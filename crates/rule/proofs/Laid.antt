@@ -6,7 +6,7 @@ use mathlib.Core.Bool.{true}
 use lib.ListN.{take, drop}
 use Rattle.cltlb.specs.declared.Part.{Part}
 use Rattle.rule.specs.declared.operands.Operand.{Operand}
-use Rattle.rule.specs.declared.operands.Operand.the-variants.{Terms, One, Two, Window}
+use Rattle.rule.specs.declared.operands.Operand.the-variants.{Terms, One, Two, Window, Pinned}
 use Rattle.rule.specs.declared.operands.Shape.{Shape}
 use Rattle.rule.specs.declared.operands.Shape.the-variants.{Comparison, NamesOne, NamesTwo}
 use Rattle.rule.specs.declared.operands.Shape.the-variants as shape
@@ -23,6 +23,7 @@ shapeIn (Terms x y) = Comparison
 shapeIn (One a) = NamesOne
 shapeIn (Two a b) = NamesTwo
 shapeIn (Window channel shift from to) = shape.Window
+shapeIn (Pinned channel shift) = shape.Pinned
 
 -- the constants of a part are signed numbers of four bytes
 abbrev pub Words : Part → Type 0

@@ -17,7 +17,7 @@ use Rattle.cltlb.specs.declared.Term.the-variants.{Constant, Reading}
 use Rattle.rule.specs.declared.terms.TermRead.{TermRead}
 use Rattle.rule.specs.declared.terms.TermRead.the-variants as R
 use Rattle.rule.specs.declared.operands.Operand.{Operand}
-use Rattle.rule.specs.declared.operands.Operand.the-variants.{Terms, One, Two, Window}
+use Rattle.rule.specs.declared.operands.Operand.the-variants.{Terms, One, Two, Window, Pinned}
 use Rattle.rule.specs.declared.operands.OperandRead.{OperandRead}
 use Rattle.rule.specs.declared.operands.OperandRead.the-variants as O
 use Rattle.rule.specs.declared.operands.Shape.{Shape}
@@ -28,9 +28,9 @@ use Rattle.cltlb.specs.declared.View.{View}
 use Rattle.cltlb.specs.declared.View.the-variants as view
 use Rattle.cltlb.specs.Week.{week}
 use Rattle.cltlb.specs.Fits.{termFits, viewFits}
-use Rattle.cltlb.proofs.Fits.{less-fits, equal-fits, window-fits, ends-fit, atom-fits, operator-fits, one-lower, two-lower}
+use Rattle.cltlb.proofs.Fits.{less-fits, equal-fits, window-fits, pinned-fits, ends-fit, atom-fits, operator-fits, one-lower, two-lower}
 use Rattle.rule.specs.Terms.{termBytes, termAt}
-use Rattle.rule.specs.Operands.{endBytes, operandBytes, allZero, bothTerms, windowOver, operandAt}
+use Rattle.rule.specs.Operands.{endBytes, operandBytes, allZero, bothTerms, windowOver, pinnedOver, operandAt}
 use Rattle.rule.specs.Kinds.{operandIn}
 use Rattle.rule.specs.inner.Words.{WordTerm, WordOperand}
 use Rattle.rule.proofs.Laid.{shapeIn}
@@ -38,7 +38,7 @@ use Rattle.rule.proofs.Overwritten.{between}
 use Rattle.rule.proofs.TermsWritten.{term-length}
 use Rattle.rule.proofs.TermsLaid.{term-read, term-laid}
 use Rattle.rule.proofs.Padding.{parted}
-use Rattle.rule.proofs.OperandsRead.{both-read, one-read, two-read, window-read}
+use Rattle.rule.proofs.OperandsRead.{both-read, one-read, two-read, window-read, pinned-read}
 
 -- padding is zeros
 zeros-read : (n : ℕ) → allZero (replicate n 0) ≡ true
@@ -132,6 +132,19 @@ module _ (l r : List ℕ) (at : ℕ) (e : length l ≡ at) where
       (sym (p .first-number))
       (sym (ap (numberAt 2 s) eight ∙ p .second-number)))
 
+  -- six zeros behind a reading alone
+  pinned-back : (v c : ℕ) (d : ℤ) → v ≤ 8 → termFits v (Reading c d) ≡ true
+      → operandAt S.Pinned (l ++ ((termBytes (Reading c d) ++ replicate 6 0) ++ r)) at ≡ O.Operand (Pinned c d)
+  unfolding WordTerm
+  pinned-back v c d h f =
+      let six : length (l ++ termBytes (Reading c d)) ≡ at + 6 = behind l (termBytes (Reading c d)) at 6 e (term-length (Reading c d)) in
+      sym (pinned-read (l ++ ((termBytes (Reading c d) ++ replicate 6 0) ++ r)) at
+      (ap (λ (s : List ℕ). allZero (take 6 (drop (at + 6) s))) (second l (termBytes (Reading c d)) (replicate 6 0) r)
+      ∙ ap allZero (between (l ++ termBytes (Reading c d)) (replicate 6 0) r (at + 6) 6 six refl)
+      ∙ zeros-read 6)
+      (ap (λ (s : List ℕ). termAt s at) (first l (termBytes (Reading c d)) (replicate 6 0) r)
+      ∙ term-read v (Reading c d) l (replicate 6 0 ++ r) at e h f tt))
+
   -- The operand of a part that fits is read back off its bytes.
   module _ (v n : ℕ) (h : v ≤ 8) (k : n ≤ 64) where
     pub operand-read : (x : View) → viewFits v n x ≡ true → WordOperand (operandIn x)
@@ -147,6 +160,7 @@ module _ (l r : List ℕ) (at : ℕ) (e : length l ≡ at) where
         let low : from < week = ends .from-fits in
         let high : to < week = ends .to-fits in
         window-back v c d from to h (p .0) (omega arith) (omega arith)
+    operand-read (view.Atom (atom.Pinned c d)) f w = pinned-back v c d h (pinned-fits v c d (atom-fits v n (atom.Pinned c d) f))
     operand-read (view.Operator (operator.One o a)) f w =
         let low : a < n = one-lower n o a (operator-fits v n (operator.One o a) f) in one-back l r at e a (omega arith)
     operand-read (view.Operator (operator.Two o a b)) f w =
@@ -219,6 +233,12 @@ module _ (s : List ℕ) (at : ℕ) (bytes : Bytes s) (long : at + 12 ≤ length 
       of-operand S.Window (Window c d (numberAt 2 s (at + 6)) (numberAt 2 s (at + 8)))
       (refl, parted s at 6 6 ∙ ap₂ (λ (a b : List ℕ). a ++ b) p ends, tt)
 
+  of-pinned : (c : ℕ) (d : ℤ) → take 6 (drop at s) ≡ termBytes (Reading c d) → allZero (take 6 (drop (at + 6) s)) ≡ true
+      → Says S.Pinned (O.Operand (Pinned c d))
+  unfolding operandBytes WordOperand
+  of-pinned c d p z =
+      of-operand S.Pinned (Pinned c d) (refl, parted s at 6 6 ∙ ap₂ (λ (a b : List ℕ). a ++ b) p (padding (at + 6) 6 (omega arith) z), tt)
+
   by-terms : (t u : TermRead) → termAt s at ≡ t → termAt s (at + 6) ≡ u → Says S.Comparison (bothTerms t u)
   unfolding bothTerms
   by-terms R.Broken u p q = of-broken S.Comparison
@@ -234,6 +254,13 @@ module _ (s : List ℕ) (at : ℕ) (bytes : Bytes s) (long : at + 12 ≤ length 
   by-window true (R.Term (Constant x)) z p = of-broken S.Window
   by-window true (R.Term (Reading c d)) z p = of-window c d (term-laid s at bytes (omega arith) (Reading c d) p .0) z
 
+  by-pinned : (b : Bool) (t : TermRead) → allZero (take 6 (drop (at + 6) s)) ≡ b → termAt s at ≡ t → Says S.Pinned (cond b (pinnedOver t) O.Broken)
+  unfolding pinnedOver
+  by-pinned false t z p = of-broken S.Pinned
+  by-pinned true R.Broken z p = of-broken S.Pinned
+  by-pinned true (R.Term (Constant x)) z p = of-broken S.Pinned
+  by-pinned true (R.Term (Reading c d)) z p = of-pinned c d (term-laid s at bytes (omega arith) (Reading c d) p .0) z
+
   -- An operand that was read lies in the bytes.
   pub operand-laid : (k : Shape) (o : Operand) → operandAt k s at ≡ O.Operand o
       → (shapeIn o ≡ k) × (take 12 (drop at s) ≡ operandBytes o) × WordOperand o
@@ -242,4 +269,5 @@ module _ (s : List ℕ) (at : ℕ) (bytes : Bytes s) (long : at + 12 ≤ length 
   operand-laid S.NamesOne = of-one (allZero (take 10 (drop (at + 2) s))) refl
   operand-laid S.NamesTwo = of-two (allZero (take 8 (drop (at + 4) s))) refl
   operand-laid S.Window = by-window (allZero (take 2 (drop (at + 10) s))) (termAt s at) refl refl
+  operand-laid S.Pinned = by-pinned (allZero (take 6 (drop (at + 6) s))) (termAt s at) refl refl
   operand-laid S.Unknown = of-broken S.Unknown

@@ -9,11 +9,11 @@ use Rattle.fields.specs.LittleEndian.{numberAt}
 use Rattle.cltlb.specs.declared.Term.{Term}
 use Rattle.cltlb.specs.declared.Term.the-variants.{Reading}
 use Rattle.rule.specs.declared.terms.TermRead.the-variants as R
-use Rattle.rule.specs.declared.operands.Operand.the-variants.{Terms, One, Two, Window}
+use Rattle.rule.specs.declared.operands.Operand.the-variants.{Terms, One, Two, Window, Pinned}
 use Rattle.rule.specs.declared.operands.OperandRead.the-variants as O
 use Rattle.rule.specs.declared.operands.Shape.the-variants as S
 use Rattle.rule.specs.Terms.{termAt}
-use Rattle.rule.specs.Operands.{allZero, bothTerms, windowOver, operandAt}
+use Rattle.rule.specs.Operands.{allZero, bothTerms, windowOver, pinnedOver, operandAt}
 
 module _ (s : List ℕ) (at : ℕ) where
   pub both-read : {a b : Term} → termAt s at ≡ R.Term a → termAt s (at + 6) ≡ R.Term b → O.Operand (Terms a b) ≡ operandAt S.Comparison s at
@@ -32,3 +32,8 @@ module _ (s : List ℕ) (at : ℕ) where
       → from ≡ numberAt 2 s (at + 6) → to ≡ numberAt 2 s (at + 8) → O.Operand (Window c d from to) ≡ operandAt S.Window s at
   unfolding operandAt windowOver
   window-read z r e f = simp (z, r, e, f)
+
+  pub pinned-read : {c : ℕ} {d : ℤ} → allZero (take 6 (drop (at + 6) s)) ≡ true → termAt s at ≡ R.Term (Reading c d)
+      → O.Operand (Pinned c d) ≡ operandAt S.Pinned s at
+  unfolding operandAt pinnedOver
+  pinned-read z r = simp (z, r)

@@ -1,17 +1,21 @@
 -- An operand by the tests that are made of its bytes, and the part that is made of them. Assumes nothing.
-use Prim.Native.Nat.{ℕ, _+_}
+use Prim.Native.Nat.{ℕ, _+_, _≤_, _<_}
+use native.Mathlib.Omega.{arith}
 use mathlib.Core.Path.{_≡_, refl, ap, ap₂, _∙_}
-use mathlib.Core.List.{List}
+use mathlib.Core.List.{List, [], _∷_}
 use mathlib.Core.Bool.{Bool, true, false, cond, _&&_}
 use lib.Dec.{ltb}
-use lib.ListN.{getD, take, drop}
+use lib.ListN.{length, getD, take, drop}
 use lib.IntN.{ℤ}
+use types.Run.{OneOf, miss}
+use denote.Enum.Declared.{tagOf}
 use Rattle.fields.specs.LittleEndian.{numberAt}
 use Rattle.cltlb.specs.declared.Term.{Term}
 use Rattle.cltlb.specs.declared.Term.the-variants.{Constant, Reading}
 use Rattle.cltlb.specs.declared.Part.{Part}
 use Rattle.cltlb.specs.declared.Part.the-variants as part
 use Rattle.cltlb.specs.Fits.{termFits, windowFits}
+use Rattle.cltlb.proofs.Fits.{reading-fits}
 use Rattle.rule.specs.declared.terms.TermRead.{TermRead}
 use Rattle.rule.specs.declared.terms.TermRead.the-variants as R
 use Rattle.rule.specs.declared.operands.Operand.{Operand}
@@ -21,9 +25,11 @@ use Rattle.rule.specs.declared.operands.OperandRead.the-variants as O
 use Rattle.rule.specs.declared.operands.Shape.{Shape}
 use Rattle.rule.specs.declared.operands.Shape.the-variants as S
 use Rattle.rule.specs.Terms.{shiftOf, termAt}
-use Rattle.rule.specs.Operands.{allZero, bothTerms, windowOver, operandAt}
-use Rattle.rule.specs.Kinds.{partOf}
-use Rattle.rule.specs.inner.Sound.{termSound, readingSound, operandFits, operandSound, IsTerm, IsPart}
+use Rattle.rule.specs.Operands.{allZero, bothTerms, windowOver, pinnedOver, operandAt}
+use Rattle.rule.specs.Kinds.{isUnknown, partOf}
+use Rattle.rule.specs.inner.Sound.{termSound, readingSound, operandFits, ofAtom, operandSound, IsTerm, IsPart}
+use Rattle.rule.proofs.operands.Shape.{the-type}
+use Rattle.rule.proofs.Padding.{six-zero}
 use Rattle.rule.proofs.TermsRead.{by-form}
 
 never : (b : Bool) → b && false ≡ false
@@ -73,6 +79,53 @@ window-tested s at v e f g h i n =
     rw (e, f, g, h, i, over-sound v n (termAt s at) (numberAt 2 s (at + 6)) (numberAt 2 s (at + 8)))
     (by-test v n (allZero (take 2 (drop (at + 10) s))) (windowOver (termAt s at) (numberAt 2 s (at + 6)) (numberAt 2 s (at + 8))))
 
+alone-sound : (v n : ℕ) (t : TermRead) → readingSound v t ≡ operandSound v n (pinnedOver t)
+unfolding readingSound operandSound operandFits pinnedOver
+alone-sound v n R.Broken = refl
+alone-sound v n (R.Term (Constant z)) = refl
+alone-sound v n (R.Term (Reading c d)) = refl
+
+and-same : (a : Bool) {b c : Bool} → (a ≡ true → b ≡ c) → a && b ≡ a && c
+and-same true h = h refl
+and-same false h = refl
+
+-- and a reading alone, whose channel is so low that the zero bytes begin before it ends
+module _ (s : List ℕ) (at v : ℕ) (long : at + 12 ≤ length s) (few : v ≤ 8) where
+  channel-low : readingSound v (termAt s at) ≡ true → numberAt 4 s (at + 2) < 65536
+  unfolding readingSound
+  channel-low =
+      by-form s at (λ (t : TermRead). readingSound v t ≡ true → numberAt 4 s (at + 2) < 65536)
+      (λ f c h. absurd (let z : _≡_ {A = ℕ} 0 1 = cc in omega arith))
+      (λ f h. let low : numberAt 4 s (at + 2) < v = reading-fits v _ _ h .0 in omega arith)
+      (λ f h. absurd (let z : _≡_ {A = ℕ} 0 1 = cc in omega arith))
+
+  pub pinned-tested : {a b : Bool} → a ≡ readingSound v (termAt s at) → b ≡ allZero (take 8 (drop (at + 4) s))
+      → (n : ℕ) → a && b ≡ operandSound v n (operandAt S.Pinned s at)
+  unfolding operandAt
+  pinned-tested e f n =
+      ap₂ _&&_ e f
+      ∙ and-same (readingSound v (termAt s at)) (λ h. six-zero s at long (channel-low h))
+      ∙ ap (λ (b : Bool). b && allZero (take 6 (drop (at + 6) s))) (alone-sound v n (termAt s at))
+      ∙ by-test v n (allZero (take 6 (drop (at + 6) s))) (pinnedOver (termAt s at))
+
+-- of known shapes those that are left when those with names are told apart,
+pub left-atoms : (k : Shape) → OneOf (0 ∷ 3 ∷ 4 ∷ 5 ∷ []) (tagOf the-type k) → isUnknown k ≡ false → ofAtom k ≡ true
+left-atoms S.Comparison h e = refl
+left-atoms S.NamesOne h e = absurd (miss (0 ∷ 3 ∷ 4 ∷ 5 ∷ []) 1 tt h)
+left-atoms S.NamesTwo h e = absurd (miss (0 ∷ 3 ∷ 4 ∷ 5 ∷ []) 2 tt h)
+left-atoms S.Window h e = refl
+left-atoms S.Pinned h e = refl
+left-atoms S.Unknown h e = absurd (let z : _≡_ {A = ℕ} 0 1 = cc in omega arith)
+
+-- and of atoms' shapes that which is left when a window and a pinned reading are
+pub left-comparison : (k : Shape) → OneOf (0 ∷ 1 ∷ 2 ∷ 5 ∷ []) (tagOf the-type k) → ofAtom k ≡ true → k ≡ S.Comparison
+left-comparison S.Comparison h e = refl
+left-comparison S.NamesOne h e = absurd (let z : _≡_ {A = ℕ} 0 1 = cc in omega arith)
+left-comparison S.NamesTwo h e = absurd (let z : _≡_ {A = ℕ} 0 1 = cc in omega arith)
+left-comparison S.Window h e = absurd (miss (0 ∷ 1 ∷ 2 ∷ 5 ∷ []) 3 tt h)
+left-comparison S.Pinned h e = absurd (miss (0 ∷ 1 ∷ 2 ∷ 5 ∷ []) 4 tt h)
+left-comparison S.Unknown h e = absurd (let z : _≡_ {A = ℕ} 0 1 = cc in omega arith)
+
 module _ (s : List ℕ) (at : ℕ) {shape : Shape} where
   module _ (v n : ℕ) where
     pub terms-sound : shape ≡ S.Comparison → {a b : Bool} → a ≡ termSound v (termAt s at) → b ≡ termSound v (termAt s (at + 6))
@@ -90,12 +143,9 @@ module _ (s : List ℕ) (at : ℕ) {shape : Shape} where
     unfolding operandAt operandSound operandFits
     two-sound c e = rw c (e ∙ by-test v n (allZero (take 8 (drop (at + 4) s))) (O.Operand (Two (numberAt 2 s at) (numberAt 2 s (at + 2)))))
 
-    pub window-sound : shape ≡ S.Window → {r : Bool} → r ≡ operandSound v n (operandAt S.Window s at) → r ≡ operandSound v n (operandAt shape s at)
-    window-sound c e = rw c e
-
-    pub none-sound : shape ≡ S.Unknown → false ≡ operandSound v n (operandAt shape s at)
-    unfolding operandAt operandSound
-    none-sound c = rw c refl
+    -- a shape of which the definition was asked
+    pub shape-sound : {k : Shape} → shape ≡ k → {r : Bool} → r ≡ operandSound v n (operandAt k s at) → r ≡ operandSound v n (operandAt shape s at)
+    shape-sound c e = rw c e
 
   module _ (k : ℕ) {p : Part} where
     pub terms-part : shape ≡ S.Comparison → (x y : Term) → IsTerm (termAt s at) x → IsTerm (termAt s (at + 6)) y → p ≡ partOf k (Terms x y)
@@ -122,6 +172,15 @@ module _ (s : List ℕ) (at : ℕ) {shape : Shape} where
       (λ (t : TermRead).
       IsPart k (windowOver t (numberAt 2 s (at + 6)) (numberAt 2 s (at + 8)))
       (part.Window (numberAt 4 s (at + 2)) (shiftOf (getD s (at + 1) 0)) (numberAt 2 s (at + 6)) (numberAt 2 s (at + 8))))
+      (λ p q. tt) (λ p. refl) (λ p. tt)))
+
+  pub pinned-part : (k : ℕ) → shape ≡ S.Pinned → {c : ℕ} {d : ℤ} → c ≡ numberAt 4 s (at + 2) → d ≡ shiftOf (getD s (at + 1) 0)
+      → IsPart k (operandAt shape s at) (part.Pinned c d)
+  unfolding operandAt pinnedOver IsPart partOf
+  pinned-part k h e f =
+      rw (h, e, f)
+      (made k (allZero (take 6 (drop (at + 6) s))) (pinnedOver (termAt s at)) _
+      (by-form s at (λ (t : TermRead). IsPart k (pinnedOver t) (part.Pinned (numberAt 4 s (at + 2)) (shiftOf (getD s (at + 1) 0))))
       (λ p q. tt) (λ p. refl) (λ p. tt)))
 
   pub none-part : (k : ℕ) (p : Part) → shape ≡ S.Unknown → IsPart k (operandAt shape s at) p

@@ -18,10 +18,10 @@ use Rattle.cltlb.specs.declared.Operator.the-variants as operator
 use Rattle.cltlb.specs.declared.View.{View}
 use Rattle.cltlb.specs.declared.View.the-variants as view
 use Rattle.cltlb.specs.Fits.{termFits, windowFits, atomFits}
-use Rattle.cltlb.proofs.Fits.{window-fits}
+use Rattle.cltlb.proofs.Fits.{window-fits, pinned-fits}
 use Rattle.rule.specs.Kinds.{operandIn}
 use Rattle.rule.specs.declared.operands.Operand.{Operand}
-use Rattle.rule.specs.declared.operands.Operand.the-variants.{Terms, One, Two, Window}
+use Rattle.rule.specs.declared.operands.Operand.the-variants.{Terms, One, Two, Window, Pinned}
 use Rattle.rule.specs.Terms.{termBytes}
 use Rattle.rule.specs.Operands.{endBytes, operandBytes}
 use Rattle.rule.specs.Put.{overwritten}
@@ -36,6 +36,8 @@ operand-length (One a) = refl
 operand-length (Two a b) = refl
 operand-length (Window channel shift from to) =
     length-append (termBytes (Reading channel shift)) (endBytes from to) ∙ omega (arith, term-length (Reading channel shift))
+operand-length (Pinned channel shift) =
+    length-append (termBytes (Reading channel shift)) (replicate 6 0) ∙ omega (arith, term-length (Reading channel shift))
 
 -- a field w right behind the field v at the front, in the part lent from there on
 field-behind : (t l zs v w : List ℕ) (m k : ℕ) → l ≡ v ++ drop m t → length v ≡ m → length w ≡ k → m + k ≤ length t
@@ -62,6 +64,10 @@ module _ (t : List ℕ) (long : 12 ≤ length t) where
       → putMid 6 (length l - 6) l zs ≡ (termBytes x ++ endBytes from to) ++ drop 12 t
   unfolding bytesOf
   window-ends l zs x from to e z = field-behind t l zs (termBytes x) (endBytes from to) 6 6 e (term-length x) refl long z
+
+  -- a reading over zeros
+  pub lone-reading : (l : List ℕ) (x : Term) → l ≡ replicate 12 0 ++ drop 12 t → termBytes x ++ drop 6 l ≡ (termBytes x ++ replicate 6 0) ++ drop 12 t
+  lone-reading l x e = ap (λ (l : List ℕ). termBytes x ++ drop 6 l) e ∙ sym (append-assoc (termBytes x) (replicate 6 0) (drop 12 t))
 
   pub one-name : (l : List ℕ) (a : ℕ) → l ≡ replicate 12 0 ++ drop 12 t → bytesOf 2 a ++ drop 2 l ≡ operandBytes (One a) ++ drop 12 t
   unfolding operandBytes bytesOf
@@ -114,3 +120,14 @@ module _ {x : Atom} {c from to : ℕ} {d u : ℤ} (e : x ≡ atom.Window c d fro
   window-put t l g =
       subst⁻¹ (λ (y : Atom). OperandPut t l (view.Atom y)) e
       (g ∙ ap (λ (z : ℤ). (termBytes (Reading c z) ++ endBytes from to) ++ drop 12 t) f, tt)
+
+-- A pinned reading likewise.
+module _ {x : Atom} {c : ℕ} {d u : ℤ} (e : x ≡ atom.Pinned c d) (f : u ≡ d) where
+  pub pinned-asks : (v : ℕ) → atomFits v x ≡ true → termFits v (Reading c u) ≡ true
+  pinned-asks v h = ap (λ (z : ℤ). termFits v (Reading c z)) f ∙ pinned-fits v c d (ap (atomFits v) (sym e) ∙ h)
+
+  pub pinned-put : (t l : List ℕ) → l ≡ (termBytes (Reading c u) ++ replicate 6 0) ++ drop 12 t → OperandPut t l (view.Atom x)
+  unfolding operandBytes WordOperand
+  pinned-put t l g =
+      subst⁻¹ (λ (y : Atom). OperandPut t l (view.Atom y)) e
+      (g ∙ ap (λ (z : ℤ). (termBytes (Reading c z) ++ replicate 6 0) ++ drop 12 t) f, tt)

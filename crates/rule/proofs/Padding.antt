@@ -1,5 +1,5 @@
 -- Zero bytes, by the numbers that they are. Assumes nothing.
-use Prim.Native.Nat.{ℕ, zero, suc, _+_, _*_, _≤_}
+use Prim.Native.Nat.{ℕ, zero, suc, _+_, _*_, _≤_, _<_}
 use native.Mathlib.Numerals.{add-one}
 use native.Mathlib.Omega.{arith}
 use mathlib.Core.Path.{_≡_, refl, sym, ap, ap₂, _∙_}
@@ -47,6 +47,17 @@ module _ (s : List ℕ) where
       ∙ both-zero (take n (drop a s)) (take m (drop (a + n) s))
       ∙ ap (λ (b : Bool). b && allZero (take m (drop (a + n) s))) (field-zero n s a (omega arith))
 
+  -- a number of four bytes by its halves, of which two bytes hold it where the upper is zero
+  halves : (a : ℕ) → numberAt 4 s a ≡ numberAt 2 s a + 65536 * numberAt 2 s (a + 1 + 1)
+  unfolding numberAt
+  halves a = omega arith
+
+  upper-zero : (a : ℕ) → numberAt 4 s a < 65536 → numberAt 2 s (a + 2) ≡ 0
+  upper-zero a h =
+      let two : a + 2 ≡ a + 1 + 1 = omega arith in
+      let upper : numberAt 2 s (a + 1 + 1) ≡ 0 = omega (arith, halves a) in
+      ap (numberAt 2 s) two ∙ upper
+
   module _ (at : ℕ) (long : at + 12 ≤ length s) where
     -- the eight zero bytes behind two names
     pub rest-zero : {x y : ℕ} → x ≡ numberAt 4 s (at + 4) → y ≡ numberAt 4 s (at + 8) → eqb x 0 && eqb y 0 ≡ allZero (take 8 (drop (at + 4) s))
@@ -59,6 +70,14 @@ module _ (s : List ℕ) where
     -- the two behind a window
     pub last-zero : {x : ℕ} → x ≡ numberAt 2 s (at + 10) → eqb x 0 ≡ allZero (take 2 (drop (at + 10) s))
     last-zero e = ap (λ (n : ℕ). eqb n 0) e ∙ sym (field-zero 2 s (at + 10) (omega arith))
+
+    -- the six behind a reading, where two bytes hold its channel
+    pub six-zero : numberAt 4 s (at + 2) < 65536 → allZero (take 8 (drop (at + 4) s)) ≡ allZero (take 6 (drop (at + 6) s))
+    six-zero h =
+        let four : at + 2 + 2 ≡ at + 4 = omega arith in
+        let six : at + 4 + 2 ≡ at + 6 = omega arith in
+        fields-zero (at + 4) 2 6 (omega arith)
+        ∙ ap₂ _&&_ (ap (λ (n : ℕ). eqb n 0) (ap (numberAt 2 s) (sym four) ∙ upper-zero (at + 2) h)) (ap (λ (i : ℕ). allZero (take 6 (drop i s))) six)
 
     -- the ten behind one
     pub more-zero : {x : ℕ} {r : Bool} → x ≡ numberAt 2 s (at + 2) → r ≡ allZero (take 8 (drop (at + 4) s)) → eqb x 0 && r ≡ allZero (take 10 (drop (at + 2) s))

@@ -71,6 +71,7 @@ unfolding viewFits atomFits namesLower operandFits
 view-operand v n (view.Atom (atom.Less x y)) = refl
 view-operand v n (view.Atom (atom.Equal x y)) = refl
 view-operand v n (view.Atom (atom.Window channel shift from to)) = refl
+view-operand v n (view.Atom (atom.Pinned channel shift)) = refl
 view-operand v n (view.Operator (operator.One o a)) = refl
 view-operand v n (view.Operator (operator.Two o a b)) = refl
 

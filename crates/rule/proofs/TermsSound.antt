@@ -1,8 +1,8 @@
 -- A term by the tests that are made of its bytes, and by the bytes that it is made of. Assumes nothing.
 use Prim.Native.Nat.{ℕ, _+_}
-use mathlib.Core.Path.{_≡_, refl, ap, _∙_}
+use mathlib.Core.Path.{_≡_, refl, sym, ap, ap₂, _∙_}
 use mathlib.Core.List.{List}
-use mathlib.Core.Bool.{Bool, true, false, cond, _&&_}
+use mathlib.Core.Bool.{Bool, true, false, cond, _&&_, _||_}
 use lib.Dec.{eqb, ltb, leb}
 use lib.ListN.{getD}
 use lib.IntN.{ℤ}
@@ -15,30 +15,44 @@ use Rattle.cltlb.specs.Fits.{shiftFits, termFits}
 use Rattle.rule.specs.declared.terms.TermRead.{TermRead}
 use Rattle.rule.specs.declared.terms.TermRead.the-variants as R
 use Rattle.rule.specs.Terms.{shiftOf, termAt}
-use Rattle.rule.specs.inner.Sound.{termSound, readingSound, IsTerm}
+use Rattle.rule.specs.inner.Sound.{constantSound, readingSound, termSound, IsTerm}
 use Rattle.rule.proofs.Shifts.{code-tested}
 use Rattle.rule.proofs.TermsRead.{by-form}
 
--- a term that is there by a test is sound where the test holds and the term fits
-by-test : (v : ℕ) (b : Bool) (x : Term) → b && termFits v x ≡ termSound v (cond b (R.Term x) R.Broken)
-unfolding termSound
-by-test v true x = refl
-by-test v false x = refl
-
--- and it is the term there
+-- a term that is there by a test is the term there
 made : (b : Bool) {x y : Term} → y ≡ x → IsTerm (cond b (R.Term x) R.Broken) y
 unfolding IsTerm
 made true e = e
 made false e = tt
 
+-- A term is sound as a constant or as a reading.
+pub term-sound : (v : ℕ) (t : TermRead) {a b : Bool} → a ≡ constantSound t → b ≡ readingSound v t → a || b ≡ termSound v t
+unfolding constantSound readingSound termSound termFits
+term-sound v (R.Term (T.Constant z)) e f = ap₂ _||_ e f
+term-sound v (R.Term (T.Reading c d)) e f = ap₂ _||_ e f
+term-sound v R.Broken e f = ap₂ _||_ e f
+
+-- Where it is a constant nothing else is asked.
+pub sound-constant : (v : ℕ) (t : TermRead) {a : Bool} → a ≡ constantSound t → a ≡ true → true ≡ termSound v t
+sound-constant v t e h = term-sound v t (sym h ∙ e) refl
+
+pub sound-reading : (v : ℕ) (t : TermRead) {a b : Bool} → a ≡ constantSound t → a ≡ false → b ≡ readingSound v t → b ≡ termSound v t
+sound-reading v t e h f = term-sound v t (sym h ∙ e) f
+
 module _ (s : List ℕ) (at : ℕ) where
-  pub constant-sound : (v : ℕ) → getD s at 0 ≡ 0 → eqb (getD s (at + 1) 0) 4 ≡ termSound v (termAt s at)
-  unfolding termAt termFits
-  constant-sound v p = rw p (go (eqb (getD s (at + 1) 0) 4))
+  pub constant-sound : eqb (getD s at 0) 0 && eqb (getD s (at + 1) 0) 4 ≡ constantSound (termAt s at)
+  unfolding termAt constantSound
+  constant-sound = go (eqb (getD s at 0) 0) (eqb (getD s (at + 1) 0) 4) (eqb (getD s at 0) 1)
     where
-      go : (b : Bool) → b ≡ termSound v (cond b (R.Term (T.Constant (signedAt 4 s (at + 2)))) R.Broken)
-      go true = by-test v true (T.Constant (signedAt 4 s (at + 2)))
-      go false = by-test v false (T.Constant (signedAt 4 s (at + 2)))
+      go : (zero four one : Bool)
+          → zero && four
+          ≡ constantSound
+          (cond zero (cond four (R.Term (T.Constant (signedAt 4 s (at + 2)))) R.Broken)
+          (cond one (R.Term (T.Reading (numberAt 4 s (at + 2)) (shiftOf (getD s (at + 1) 0)))) R.Broken))
+      go true true one = refl
+      go true false one = refl
+      go false four true = refl
+      go false four false = refl
 
   pub reading-sound : (v : ℕ) {u : ℕ} → u ≡ numberAt 4 s (at + 2)
       → eqb (getD s at 0) 1 && (ltb u v && leb (getD s (at + 1) 0) 8) ≡ readingSound v (termAt s at)
@@ -48,11 +62,6 @@ module _ (s : List ℕ) (at : ℕ) where
       (by-form s at
       (λ (t : TermRead). eqb (getD s at 0) 1 && (ltb (numberAt 4 s (at + 2)) v && shiftFits (shiftOf (getD s (at + 1) 0))) ≡ readingSound v t)
       (λ f c. rw f refl) (λ f. rw f refl) (λ f. rw f refl))
-
-  -- What is no constant is sound where it is a sound reading.
-  pub other-sound : (v : ℕ) {r : Bool} → (getD s at 0 ≡ 0 → ⊥) → r ≡ readingSound v (termAt s at) → r ≡ termSound v (termAt s at)
-  unfolding readingSound termSound
-  other-sound v p e = e ∙ by-form s at (λ (t : TermRead). readingSound v t ≡ termSound v t) (λ f c. absurd (p f)) (λ f. refl) (λ f. refl)
 
   pub constant-on : {z : ℤ} → getD s at 0 ≡ 0 → z ≡ signedAt 4 s (at + 2) → IsTerm (termAt s at) (T.Constant z)
   unfolding termAt

@@ -4,7 +4,7 @@ use Prim.Native.Nat.{ℕ, _+_, _*_, _≤_, _<_}
 use native.Mathlib.Omega.{arith}
 use mathlib.Core.Path.{_≡_, sym, ap, ap₂, _∙_, subst}
 use mathlib.Core.List.{List}
-use mathlib.Core.Bool.{Bool, not}
+use mathlib.Core.Bool.{Bool, false, not}
 use lib.ListN.{length, getD}
 use borrow.Author.Tests.{lt-leb}
 use Rattle.refusal.specs.declared.Outcome.{Outcome}
@@ -21,7 +21,7 @@ use Rattle.rule.specs.inner.Sizes.{sizesOf}
 use Rattle.rule.specs.declared.SheetRead.the-variants as R
 use Rattle.rule.specs.inner.Read.{countsUnless, sheetRead}
 use Rattle.rule.specs.Operands.{operandAt}
-use Rattle.rule.specs.Kinds.{shapeOf, kindUnknown}
+use Rattle.rule.specs.Kinds.{shapeOf, isUnknown, kindUnknown}
 use Rattle.rule.specs.Take.{takeOf}
 use Rattle.rule.specs.inner.Known.{KindsKnown}
 use Rattle.rule.specs.inner.Sound.{operandSound}
@@ -35,6 +35,14 @@ module _ (s : List ℕ) (parts : ℕ) (known : KindsKnown s parts) where
   pub known-length : (parts ≤ 64) × (length s ≡ 4 + 13 * parts)
   unfolding KindsKnown
   known-length = let z = sizes-known s (known .0) in rw (known .1) (z .1, z .4)
+
+  pub known-channels : {v : ℕ} → v ≡ channelCount s → v ≤ 8
+  unfolding KindsKnown
+  known-channels e = rw e (sizes-known s (known .0) .3)
+
+  pub known-shape : (n : ℕ) → n < parts → {k : Shape} → k ≡ shapeOf (getD s (4 + n) 0) → isUnknown k ≡ false
+  unfolding KindsKnown kindUnknown kindByte kindPlace
+  known-shape n h e = ap isUnknown e ∙ known .2 n h
 
   -- A part of a known kind cannot be taken where its operand is not sound.
   pub operand-tested : {v : ℕ} → v ≡ channelCount s → (n : ℕ) → n < parts → {k : Shape} {r b : Bool}

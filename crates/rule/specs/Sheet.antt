@@ -20,7 +20,7 @@ unfoldable pub untakeable : List ℕ → ℕ → Bool
 untakeable sheet n = isRefused (takeOf sheet n)
 
 -- 1 The rule sheet has fewer than 4 bytes, N or V outside its range, or another length than its sizes give. 2 A kind byte
--- is not 1 to 13 (lowest such part). 3 An operand breaks the layout (lowest such part): all kinds being known, it is what
+-- is not 1 to 14 (lowest such part). 3 An operand breaks the layout (lowest such part): all kinds being known, it is what
 -- keeps a part from being taken.
 unfoldable pub sheetOutcome : List ℕ → Outcome
 sheetOutcome sheet =

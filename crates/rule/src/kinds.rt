@@ -27,6 +27,7 @@ pub fn kind_of(part: Part) -> u8
         Part::Since(_, _) => 11,
         Part::Trigger(_, _) => 12,
         Part::Window { .. } => 13,
+        Part::Pinned { .. } => 14,
     }
 }
 
@@ -48,6 +49,7 @@ pub fn shape_of(kind: u8) -> Shape
         11 => Shape::NamesTwo,
         12 => Shape::NamesTwo,
         13 => Shape::Window,
+        14 => Shape::Pinned,
         _ => Shape::Unknown,
     }
 }
@@ -60,6 +62,7 @@ pub fn is_unknown(shape: Shape) -> bool
         Shape::NamesOne => false,
         Shape::NamesTwo => false,
         Shape::Window => false,
+        Shape::Pinned => false,
         Shape::Unknown => true,
     }
 }
@@ -119,6 +122,10 @@ pub fn part_on(s: &[u8], at: usize, kind: u8, shape: Shape) -> Part
             shift: crate::terms::shift_on(s, at),
             from: fields::u16_at(s, at + 6),
             to: fields::u16_at(s, at + 8),
+        },
+        Shape::Pinned => Part::Pinned {
+            channel: crate::terms::channel_on(s, at),
+            shift: crate::terms::shift_on(s, at),
         },
         // Nothing is an operand of this shape, so any part will do.
         Shape::Unknown => Part::Not(0),

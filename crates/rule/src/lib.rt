@@ -123,7 +123,7 @@ fn kinds_known(sheet: &[u8], parts: usize) -> bool
     all
 }
 
-// The lowest part whose kind byte is none of the thirteen.
+// The lowest part whose kind byte is none of the fourteen.
 fn check_kinds(sheet: &[u8], parts: usize) -> Outcome
     requires { ⌜ 4 + parts ≤ length (now sheet) ⌝ }
     ensures { λ r. ⌜ r ≡ atLowest (kindUnknown (now (sheet .entry))) parts Refusal.Kind ⌝ }

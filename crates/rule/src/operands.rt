@@ -1,16 +1,16 @@
 // An operand in twelve bytes: held against the layout, and written.
 ghost use mathlib.Core.Path.{_≡_};
-ghost use mathlib.Core.Bool.{true, _&&_};
+ghost use mathlib.Core.Bool.{true, false, _&&_};
 ghost use mathlib.Core.List.{_++_};
 ghost use Prim.Native.Nat.{ℕ, _+_, _≤_, _<_};
 ghost use lib.Dec.{ltb};
 ghost use lib.ListN.{length, take, drop, replicate};
 ghost use Rattle.fields.specs.LittleEndian.{numberAt};
-ghost use Rattle.rule.specs.Terms.{termBytes};
+ghost use Rattle.rule.specs.Terms.{termBytes, termAt};
 ghost use Rattle.rule.specs.Operands.{operandAt, endBytes, operandBytes, allZero};
-ghost use Rattle.rule.specs.Kinds.{operandIn};
+ghost use Rattle.rule.specs.Kinds.{operandIn, isUnknown};
 ghost use Rattle.cltlb.specs.Fits.{termFits, windowFits, atomFits, namesLower, viewFits};
-ghost use Rattle.rule.specs.inner.Sound.{operandSound};
+ghost use Rattle.rule.specs.inner.Sound.{readingSound, operandSound, ofAtom};
 ghost use Rattle.rule.specs.inner.Words.{WordOperand};
 use cltlb::Atom;
 use cltlb::Operator;
@@ -19,7 +19,8 @@ use cltlb::View;
 
 pub const OPERAND_BYTES: usize = 12;
 
-// What a part works on: two terms, one or two parts that it names, or a reading and the two ends of a window.
+// What a part works on: two terms, one or two parts that it names, a reading and the two ends of a window, or a
+// reading alone.
 pub enum Operand {
     Terms(Term, Term),
     One(usize),
@@ -29,6 +30,10 @@ pub enum Operand {
         shift: i32,
         from: usize,
         to: usize,
+    },
+    Pinned {
+        channel: usize,
+        shift: i32,
     },
 }
 
@@ -44,6 +49,7 @@ pub enum Shape {
     NamesOne,
     NamesTwo,
     Window,
+    Pinned,
     Unknown,
 }
 
@@ -71,32 +77,43 @@ fn names_sound(s: &[u8], at: usize, n: usize, rest: bool) -> bool
     ((fields::u16_at(s, at) < n) & (fields::u16_at(s, at + 2) < n)) & rest
 }
 
-// Whether the twelve bytes from `at` on are a reading that fits `v` channels, the ends of a window, and two zero bytes. It
-// names no part, so that its own number `n` is no matter.
-fn window_sound(s: &[u8], at: usize, v: usize) -> bool
+// Whether the twelve bytes from `at` on are a window: a reading, of which `reading` says whether it fits, the ends of a window, and
+// two zero bytes. It names no part, so that its own number `n` is no matter.
+fn window_sound(s: &[u8], at: usize, reading: bool) -> bool
     requires { ⌜ at + 12 ≤ length (now s) ⌝ }
-    ensures { λ r. ⌜ ((n : ℕ) → r ≡ operandSound v n (operandAt Shape.Window (now (s .entry)) at)) ⌝ }
+    ensures { λ r. ⌜ ((v n : ℕ) → reading ≡ readingSound v (termAt (now (s .entry)) at) → r ≡ operandSound v n (operandAt Shape.Window (now (s .entry)) at)) ⌝ }
 {
     let from = fields::u16_at(s, at + 6);
     let to = fields::u16_at(s, at + 8);
-    (crate::terms::reading_sound(s, at, v) & cltlb::window_fits(from, to))
-        & (fields::u16_at(s, at + 10) == 0)
+    (reading & cltlb::window_fits(from, to)) & (fields::u16_at(s, at + 10) == 0)
 }
 
-// Whether the twelve bytes from `at` on are an operand of a stated shape that fits `v` channels at number `n`. The test that both
-// shapes with names make is made ahead of them: so the function is small enough for the compiler to put it into its callers.
+// Whether the twelve bytes from `at` on are an atom's operand that fits `v` channels; `rest` likewise. Its first term is looked at
+// ahead of the shapes. Of the eight bytes that `rest` tells of, two are the upper half of the channel, which is below 8.
+fn atom_sound(s: &[u8], at: usize, shape: Shape, v: usize, rest: bool) -> bool
+    requires { ⌜ (at + 12 ≤ length (now s)) × (v ≤ 8) × (rest ≡ allZero (take 8 (drop (at + 4) (now s)))) × (ofAtom shape ≡ true) ⌝ }
+    ensures { λ r. ⌜ ((n : ℕ) → r ≡ operandSound v n (operandAt shape (now (s .entry)) at)) ⌝ }
+{
+    let reading = crate::terms::reading_sound(s, at, v);
+    match shape {
+        Shape::Window => window_sound(s, at, reading),
+        Shape::Pinned => reading & rest,
+        _ => (crate::terms::constant_sound(s, at) | reading)
+            & crate::terms::term_sound(s, at + 6, v),
+    }
+}
+
+// Whether the twelve bytes from `at` on are an operand of a known shape that fits `v` channels at number `n`. What several shapes ask
+// is asked once: so the function is small enough for the compiler to put it into its callers.
 pub fn operand_sound(s: &[u8], at: usize, shape: Shape, v: usize, n: usize) -> bool
-    requires { ⌜ at + 12 ≤ length (now s) ⌝ }
+    requires { ⌜ (at + 12 ≤ length (now s)) × (v ≤ 8) × (isUnknown shape ≡ false) ⌝ }
     ensures { λ r. ⌜ r ≡ operandSound v n (operandAt shape (now (s .entry)) at) ⌝ }
 {
     let rest = rest_zero(s, at);
     match shape {
-        Shape::Comparison => crate::terms::term_sound(s, at, v)
-            & crate::terms::term_sound(s, at + 6, v),
         Shape::NamesOne => name_sound(s, at, n, rest),
         Shape::NamesTwo => names_sound(s, at, n, rest),
-        Shape::Window => window_sound(s, at, v),
-        Shape::Unknown => false,
+        _ => atom_sound(s, at, shape, v, rest),
     }
 }
 
@@ -154,6 +171,15 @@ fn put_window(t: &mut [u8], reading: Term, from: usize, to: usize)
     put_ends(&mut t[6..], from, to);
 }
 
+// Writes a reading over zeros.
+fn put_pinned(t: &mut [u8], reading: Term)
+    requires { ⌜ (12 ≤ length (now t)) × (termFits 8 reading ≡ true) ⌝ }
+    ensures { λ _. ⌜ now (t .exit) ≡ (termBytes reading ++ replicate 6 0) ++ drop 12 (now (t .entry)) ⌝ }
+{
+    clear(t);
+    crate::terms::put_term(t, reading);
+}
+
 fn put_atom(t: &mut [u8], x: Atom)
     requires { ⌜ (12 ≤ length (now t)) × (atomFits 8 x ≡ true) ⌝ }
     ensures { λ _. ⌜ (now (t .exit) ≡ operandBytes (operandIn (View.Atom x)) ++ drop 12 (now (t .entry))) × WordOperand (operandIn (View.Atom x)) ⌝ }
@@ -167,6 +193,7 @@ fn put_atom(t: &mut [u8], x: Atom)
             from,
             to,
         } => put_window(t, Term::Reading { channel, shift }, from, to),
+        Atom::Pinned { channel, shift } => put_pinned(t, Term::Reading { channel, shift }),
     }
 }
 

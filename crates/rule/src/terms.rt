@@ -5,7 +5,7 @@ ghost use mathlib.Core.List.{_∷_, _++_};
 ghost use Prim.Native.Nat.{_+_, _≤_};
 ghost use lib.ListN.{length, getD, drop};
 ghost use Rattle.fields.specs.LittleEndian.{numberAt, bytesOf};
-ghost use Rattle.rule.specs.inner.Sound.{termSound, readingSound, IsTerm};
+ghost use Rattle.rule.specs.inner.Sound.{constantSound, readingSound, termSound, IsTerm};
 ghost use Rattle.rule.specs.inner.Words.{WordTerm};
 ghost use Rattle.rule.specs.Terms.{shiftOf, codeOf, termAt, termBytes};
 ghost use Rattle.cltlb.specs.Fits.{shiftFits, termFits};
@@ -49,13 +49,23 @@ pub fn reading_sound(s: &[u8], at: usize, v: usize) -> bool
     (form == 1) & ((channel < v) & (code <= 8))
 }
 
+// Whether the six bytes from `at` on are a constant.
+pub fn constant_sound(s: &[u8], at: usize) -> bool
+    requires { ⌜ at + 6 ≤ length (now s) ⌝ }
+    ensures { λ r. ⌜ r ≡ constantSound (termAt (now (s .entry)) at) ⌝ }
+{
+    let form = s[at];
+    let code = s[at + 1];
+    (form == 0) & (code == 4)
+}
+
 // Whether the six bytes from `at` on are a term that fits `v` channels.
 pub fn term_sound(s: &[u8], at: usize, v: usize) -> bool
     requires { ⌜ at + 6 ≤ length (now s) ⌝ }
     ensures { λ r. ⌜ r ≡ termSound v (termAt (now (s .entry)) at) ⌝ }
 {
-    if s[at] == 0 {
-        return s[at + 1] == 4;
+    if constant_sound(s, at) {
+        return true;
     }
     reading_sound(s, at, v)
 }

@@ -23,6 +23,7 @@ fn run_rows(text: &[u8]) {
     let numbers = rows::try_rows(text, names);
     puts::put_readings();
     puts::put_windows();
+    puts::put_pinned();
     rows::try_rows(text, numbers);
     puts::put_far();
 }

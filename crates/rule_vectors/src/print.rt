@@ -79,6 +79,7 @@ fn say_atom(atom: Atom) {
             from,
             to,
         } => say_window(Term::Reading { channel, shift }, from, to),
+        Atom::Pinned { channel, shift } => say_term(Term::Reading { channel, shift }),
     }
 }
 

@@ -117,6 +117,19 @@ pub fn put_windows() {
     try_window(b"window from 540 to 540", 0, 0, 540, 540);
 }
 
+// "The reading is pinned" put at a number.
+fn try_pinned(name: &[u8], n: usize, channel: usize, shift: i32) {
+    try_put(name, n, Part::Pinned { channel, shift });
+}
+
+pub fn put_pinned() {
+    try_pinned(b"pinned of channel 1, shift -4", 2, 1, -4);
+    try_pinned(b"pinned of channel 2, which is V", 2, 2, 0);
+    try_pinned(b"pinned of shift 4", 2, 0, 4);
+    try_pinned(b"pinned of shift 5", 2, 0, 5);
+    try_pinned(b"pinned over a comparison", 0, 1, -1);
+}
+
 // A number beyond what a row holds.
 pub fn put_far() {
     try_put(b"part 2^63", 9223372036854775808, Part::Not(2));

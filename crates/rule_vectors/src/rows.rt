@@ -1,5 +1,6 @@
 // Rows of tries: a letter, four numbers of six columns each and a name. A section of them ends at an empty line.
-// b AT COUNT VALUE PART: so many bytes of the four parts from AT on get the value, and PART is taken. w likewise: of the window.
+// b AT COUNT VALUE PART: so many bytes of the four parts from AT on get the value, and PART is taken. w likewise: of the window;
+// p of the pinned reading.
 // 1 PART KIND NAMED 0 and 2 PART KIND NAMED NAMED: an operator over one part or two is put at PART.
 ghost use Prim.Native.Nat.{_+_, _≤_, _<_};
 ghost use lib.ListN.{length};
@@ -43,6 +44,8 @@ fn try_row(row: &[u8]) {
         crate::takes::try_bytes(&row[26..], first, second, (third % 256) as u8, fourth);
     } else if row[0] == b'w' {
         crate::takes::try_window(&row[26..], first, second, (third % 256) as u8, fourth);
+    } else if row[0] == b'p' {
+        crate::takes::try_pinned(&row[26..], first, second, (third % 256) as u8, fourth);
     } else {
         try_named(
             row[0],

@@ -78,6 +78,11 @@ pub fn one_window() -> [u8; 17] {
     [1, 0, 2, 0, 13, 1, 4, 1, 0, 0, 0, 95, 39, 94, 39, 0, 0]
 }
 
+// One pinned reading over two channels: channel 1 at its present position.
+pub fn one_pinned() -> [u8; 17] {
+    [1, 0, 2, 0, 14, 1, 4, 1, 0, 0, 0, 0, 0, 0, 0, 0, 0]
+}
+
 pub fn set_byte(sheet: &mut [u8], at: usize, x: u8) {
     if at < sheet.len() {
         sheet[at] = x;

@@ -7,6 +7,7 @@ use crate::sheets::fill;
 use crate::sheets::first_example;
 use crate::sheets::four_parts;
 use crate::sheets::longer_example;
+use crate::sheets::one_pinned;
 use crate::sheets::one_window;
 use crate::sheets::set_byte;
 use cltlb::Part;
@@ -28,7 +29,7 @@ fn try_changed(name: &[u8], sheet: &mut [u8], at: usize, count: usize, x: u8, n:
     try_sheet(name, sheet, n);
 }
 
-// The four parts so changed, and the window.
+// The four parts so changed, the window, and the pinned reading.
 pub fn try_bytes(name: &[u8], at: usize, count: usize, x: u8, n: usize) {
     let mut sheet = four_parts();
     try_changed(name, &mut sheet, at, count, x, n);
@@ -36,6 +37,11 @@ pub fn try_bytes(name: &[u8], at: usize, count: usize, x: u8, n: usize) {
 
 pub fn try_window(name: &[u8], at: usize, count: usize, x: u8, n: usize) {
     let mut sheet = one_window();
+    try_changed(name, &mut sheet, at, count, x, n);
+}
+
+pub fn try_pinned(name: &[u8], at: usize, count: usize, x: u8, n: usize) {
+    let mut sheet = one_pinned();
     try_changed(name, &mut sheet, at, count, x, n);
 }
 

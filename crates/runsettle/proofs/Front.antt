@@ -16,7 +16,7 @@ use Rattle.plan.proofs.Outcomes.{cleared}
 
 -- a plan's length by its sizes
 abbrev pub byItsSizes : List ℕ → ℕ
-byItsSizes s = 8 + 8 * (channels s * (leadRows s + (startRows s + cycleRows s)))
+byItsSizes s = 8 + 4 * channels s + 8 * (channels s * (leadRows s + (startRows s + cycleRows s)))
 
 -- Sizes of two bytes are small enough to be added and multiplied.
 pub product-small : {v p c l : ℕ} → v < 65536 → p < 65536 → c < 65536 → l < 65536 → v * (l + (p + c)) ≤ 12884508675

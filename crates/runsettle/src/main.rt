@@ -12,13 +12,13 @@ use libc::STDOUT_FILENO;
 // How long a plan is, by the sizes at the front of a buffer.
 fn plan_length(buffer: &[u8]) -> usize
     requires { ⌜ 8 ≤ length (now buffer) ⌝ }
-    ensures { λ r. ⌜ r ≡ 8 + 8 * (channels (now (buffer .entry)) * (leadRows (now (buffer .entry)) + (startRows (now (buffer .entry)) + cycleRows (now (buffer .entry))))) ⌝ }
+    ensures { λ r. ⌜ r ≡ 8 + 4 * channels (now (buffer .entry)) + 8 * (channels (now (buffer .entry)) * (leadRows (now (buffer .entry)) + (startRows (now (buffer .entry)) + cycleRows (now (buffer .entry))))) ⌝ }
 {
     let v = u16_at(buffer, 0);
     let p = u16_at(buffer, 2);
     let c = u16_at(buffer, 4);
     let l = u16_at(buffer, 6);
-    8 + 8 * (v * (l + (p + c)))
+    8 + 4 * v + 8 * (v * (l + (p + c)))
 }
 
 // The file is opened only here, once the plan is settled.
@@ -58,7 +58,7 @@ fn settle(rule: &[u8], plan: &[u8], laid: &mut [u8], scratch: &mut [u8]) {
 fn main() {
     let mut rule = [0u8; RULE_ROOM];
     let mut plan = [0u8; PLAN_ROOM];
-    let mut laid = [0u8; 16648];
+    let mut laid = [0u8; 16680];
     let mut scratch = [0u8; 16516];
     let r = command::load(b"rule.bin", &mut rule);
     let p = command::load(b"plan.bin", &mut plan);

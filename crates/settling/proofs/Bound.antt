@@ -8,7 +8,7 @@ use native.Mathlib.Nat.{mul-le-mul-right, le-max-left, le-max-right, not-suc-le-
 use native.Mathlib.Decide.{decLt}
 use native.Mathlib.Omega.{arith}
 use lib.IntN.{ℤ, pos, _+ℤ_, _*ℤ_, +ℤ-idr, *ℤ-zero}
-use Rattle.cltlb.specs.Run.{number}
+use Rattle.cltlb.specs.Run.{under}
 use Rattle.cltlb.specs.Truth.{Formula, valueAt, AtomHolds, UnaryHolds, BinaryHolds, Holds}
 use Rattle.cltlb.specs.Fits.{termFits, atomFits, viewFits}
 use Rattle.cltlb.specs.Parts.{formulaFrom, formulaTo, formulaOf}
@@ -16,17 +16,17 @@ use Rattle.cltlb.specs.Nesting.{deeperOne, deeperTwo, nestingFrom, nestingTo, n
 use Rattle.cltlb.specs.declared.Term.{Term}
 use Rattle.cltlb.specs.declared.Term.the-variants.{Constant, Reading}
 use Rattle.cltlb.specs.declared.Atom.{Atom}
-use Rattle.cltlb.specs.declared.Atom.the-variants.{Less, Equal, Window}
+use Rattle.cltlb.specs.declared.Atom.the-variants.{Less, Equal, Window, Pinned}
 use Rattle.cltlb.specs.declared.Operator.the-variants.{One, Two}
 use Rattle.cltlb.specs.declared.View.{View}
 use Rattle.cltlb.specs.declared.View.the-variants as view
-use Rattle.cltlb.proofs.Fits.{reading-fits, less-fits, equal-fits, window-fits, atom-fits, operator-fits, one-lower, two-lower}
+use Rattle.cltlb.proofs.Fits.{reading-fits, less-fits, equal-fits, window-fits, pinned-fits, atom-fits, operator-fits, one-lower, two-lower}
 use Rattle.cltlb.proofs.Repeats.{RepeatsFrom, repeats-later, one-repeats, two-repeats}
 use Rattle.plan.specs.Layout.{channels, startRows, cycleRows, rows, driftOf}
 use Rattle.plan.specs.Run.{runOf}
-use Rattle.verdict.specs.Rows.{channelLine, termLine}
+use Rattle.verdict.specs.Rows.{channelLine, termLine, termTop}
 use Rattle.verdict.specs.inner.Reach.{reach}
-use Rattle.verdict.proofs.Decisions.{onPass}
+use Rattle.verdict.specs.Lines.{onPass}
 use Rattle.verdict.proofs.Cycles.{reach-le, read-at, value-later}
 use Rattle.marks.specs.Meaning.{Truth, Settled}
 use Rattle.marks.proofs.Rows.{rowAt, is-row}
@@ -58,11 +58,11 @@ module _ (plan : List ℕ) (some-cycle : 1 ≤ cycleRows plan)
 
   -- so that the same number is seen on all passes from there on.
   level : (x : Term) (t k : ℕ) → termFits (channels plan) x ≡ true → startRows plan + reach x ≤ t
-      → valueAt (runOf plan) x (t + k * cycleRows plan) ≡ number (termLine plan x t .at)
+      → valueAt (runOf plan) x (t + k * cycleRows plan) ≡ under (termTop plan x) (termLine plan x t .at)
   unfolding onPass
   level x t k fits l =
       value-later plan some-cycle x t k l
-      ∙ ap number
+      ∙ ap (under (termTop plan x))
       (ap (λ (z : ℤ). termLine plan x t .at +ℤ pos k *ℤ z) (flat x t fits l)
       ∙ ap (λ (z : ℤ). termLine plan x t .at +ℤ z) (*ℤ-zero (pos k))
       ∙ +ℤ-idr (termLine plan x t .at))
@@ -85,6 +85,7 @@ module _ (plan : List ℕ) (some-cycle : 1 ≤ cycleRows plan)
   atom-repeats (Equal x y) fits t l =
       let p = equal-fits (channels plan) x y fits in rw (value-repeats x t (p .0) l, value-repeats y t (p .1) l) Iff·rfl
   atom-repeats (Window c s from to) fits t l = rw (value-repeats (Reading c s) t (window-fits (channels plan) c s from to fits .0) l) Iff·rfl
+  atom-repeats (Pinned c s) fits t l = rw (value-repeats (Reading c s) t (pinned-fits (channels plan) c s fits) l) Iff·rfl
 
   -- ---- one part
 

@@ -116,7 +116,7 @@ module _ (rule plan : List ℕ) (bytes : Bytes plan) (clear : inputsOutcome rule
     most-settle : canBeLaid plan (mostPasses rule) ≡ true → SettledAfter rule plan (mostPasses rule)
     unfolding NoDrift SettledAfter mostPasses
     most-settle can =
-        let own = laid-fitting plan sizes-fit (4 + deepest (viewsOf rule) (partCount rule)) can in
+        let own = laid-fitting plan sizes-fit (4 + deepest (viewsOf rule) (partCount rule)) can bytes in
         still-settled plan (some-cycle rule plan clear) still (viewsOf rule) (partCount rule) parts-fit
         (laidOut plan (4 + deepest (viewsOf rule) (partCount rule))) (own .c-is) (own .p-is)
         (λ c l t. laid-run plan sizes-fit (4 + deepest (viewsOf rule) (partCount rule)) can bytes c l t)

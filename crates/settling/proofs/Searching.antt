@@ -32,7 +32,7 @@ use Rattle.labelling.proofs.Made.{Closed}
 use Rattle.laid_out.specs.LaidOut.{laidOut, canBeLaid}
 use Rattle.laid_out.specs.inner.LaidSizes.{laidSizes}
 use Rattle.laid_out.proofs.CanBeLaid.{first-fits, passes-few, fewer-fit}
-use Rattle.laid_out.proofs.LaidRuns.{laid-fitting, laid-run}
+use Rattle.laid_out.proofs.LaidRuns.{laid-few, laid-cycle, laid-rows, laid-fitting, laid-run}
 use Rattle.settling.specs.declared.Laid.the-variants as L
 use Rattle.settling.specs.Settle.{settlesAfter, fewestPasses, laidBy}
 use Rattle.settling.specs.inner.Scratch.{mostParts, mostRows, Room, markAt, Tried, MadeTo, closesOn, Extended, NoneSettles}
@@ -56,11 +56,11 @@ module _ (rule plan : List ℕ) {n : ℕ} {z : Sizes} (ready : Ready rule plan n
   -- ---- the layout of so many passes
 
   module _ (k : ℕ) (can : canBeLaid plan k ≡ true) where
-    laid : Fitting (laidOut plan k) (laidSizes z k)
-    laid = laid-fitting plan (ready .fits) k can
-
     few-rows : rows (laidOut plan k) ≤ mostRows
-    few-rows = subst⁻¹ (λ (w : ℕ). w ≤ mostRows) (rows-are laid) (laid .few-rows)
+    few-rows = subst⁻¹ (λ (w : ℕ). w ≤ mostRows) (laid-rows plan (ready .fits) k can) (laid-few plan (ready .fits) k can .1)
+
+    a-cycle : 1 ≤ cycleRows (laidOut plan k)
+    a-cycle = subst⁻¹ (λ (c : ℕ). 1 ≤ c) (laid-cycle plan (ready .fits) k can) (own-cycle (ready .fits))
 
     pub few-passes : k < 256
     few-passes = passes-few plan k (own-cycle (ready .fits)) can
@@ -71,9 +71,9 @@ module _ (rule plan : List ℕ) {n : ℕ} {z : Sizes} (ready : Ready rule plan n
       pub part-tried : (b ≡ closesOn rule (laidOut plan k) i) × MadeTo rule (laidOut plan k) new i × (b ≡ true → MadeTo rule (laidOut plan k) new (i + 1))
       part-tried =
           let is = taken-same rule plan ready i l e f g in (
-            tried-closes rule (laidOut plan k) (own-cycle laid) few-rows (channelCount rule) n (all-fit rule plan ready) i l is made tried,
-            tried-lower rule (laidOut plan k) (own-cycle laid) few-rows (channelCount rule) n (all-fit rule plan ready) i l is made tried,
-            tried-made rule (laidOut plan k) (own-cycle laid) few-rows (channelCount rule) n (all-fit rule plan ready) i l is made tried,
+            tried-closes rule (laidOut plan k) a-cycle few-rows (channelCount rule) n (all-fit rule plan ready) i l is made tried,
+            tried-lower rule (laidOut plan k) a-cycle few-rows (channelCount rule) n (all-fit rule plan ready) i l is made tried,
+            tried-made rule (laidOut plan k) a-cycle few-rows (channelCount rule) n (all-fit rule plan ready) i l is made tried,
           )
 
   -- There is room for every part.
@@ -86,7 +86,7 @@ module _ (rule plan : List ℕ) {n : ℕ} {z : Sizes} (ready : Ready rule plan n
   more-room {k} {more} l can e =
       subst⁻¹ (λ (q : Sizes). (1 ≤ q .cycle) × (q .start + q .cycle + (more - k) * q .cycle ≤ mostRows)) e (
         ready .fits .a-cycle,
-        (let few = laid more can .few-rows in
+        (let few = laid-few plan (ready .fits) more can .1 in
             let split : k + (more - k) ≡ more = omega arith in
             let whole : (k + (more - k)) * z .cycle ≡ more * z .cycle = ap (λ (m : ℕ). m * z .cycle) split in
             omega arith),
@@ -114,10 +114,10 @@ module _ (rule plan : List ℕ) {n : ℕ} {z : Sizes} (ready : Ready rule plan n
     module _ (k : ℕ) (can : canBeLaid plan k ≡ true) (more : canBeLaid plan (k + 1) ≡ true) (lower : Lower new i k)
         (again : (a : ℕ) → a < i → (row : ℕ) → z .start + k * z .cycle + z .cycle ≤ row → row < z .start + k * z .cycle + z .cycle + z .cycle → markAt new a row ≡ markAt new a (row - z .cycle)) where
       this : Fitting (laidOut plan k) (laidSizes z k)
-      this = laid k can
+      this = laid-fitting plan (ready .fits) k can bytes
 
       next : Fitting (laidOut plan (k + 1)) (laidSizes z (k + 1))
-      next = laid (k + 1) more
+      next = laid-fitting plan (ready .fits) (k + 1) more bytes
 
       this-cycle : 1 ≤ cycleRows (laidOut plan k)
       this-cycle = own-cycle this
@@ -210,7 +210,7 @@ module _ (rule plan : List ℕ) {n : ℕ} {z : Sizes} (ready : Ready rule plan n
 
         lower-first : Lower new i k
         lower-first =
-            let these = rows-are (laid k (s .can)) in
+            let these = laid-rows plan (ready .fits) k (s .can) in
             (s .closed, record { room = longer .room; marks = λ a q row r. lower .marks a q row r ∙ sym (longer .kept a q row (omega arith)) })
 
         lower-last : Lower new i more

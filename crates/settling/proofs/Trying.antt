@@ -27,7 +27,7 @@ use Rattle.plan.specs.Run.{runOf}
 use Rattle.plan.specs.declared.sizes.Sizes.{Sizes}
 use Rattle.plan.specs.inner.Sizes.{allRows, Fitting}
 use Rattle.plan.proofs.Fits.{rows-are}
-use Rattle.verdict.specs.Comparisons.{testOf, tested, comparisonOf}
+use Rattle.verdict.specs.Comparisons.{tested, comparisonOf}
 use Rattle.verdict.specs.Rows.{testAt, judgeCycle, judgeRow, atomAt, verdictOf}
 use Rattle.verdict.specs.declared.Comparison.{Comparison}
 use Rattle.verdict.specs.inner.Reach.{TermsFit}
@@ -45,7 +45,7 @@ use Rattle.labelling.specs.Labels.{operatorLabel, labelOf}
 use Rattle.labelling.proofs.OnePart.{label-done, label-truth, closing-kept}
 use Rattle.laid_out.specs.LaidOut.{laidOut, canBeLaid}
 use Rattle.laid_out.specs.inner.LaidSizes.{laidSizes}
-use Rattle.laid_out.proofs.LaidRuns.{laid-fitting, laid-run}
+use Rattle.laid_out.proofs.LaidRuns.{laid-few, laid-cycle, laid-fitting, laid-run}
 use Rattle.settling.specs.Settle.{isClear}
 use Rattle.settling.specs.inner.Scratch.{mostParts, mostRows, Room, markAt, changingFrom, isNone, Tried}
 
@@ -69,26 +69,26 @@ module _ (plan : List ℕ) {z : Sizes} (fit : Fitting plan z) (k : ℕ) (can : c
   abbrev layout : List ℕ
   layout = laidOut plan k
 
-  laid : Fitting (laidOut plan k) (laidSizes z k)
-  laid = laid-fitting plan fit k can
-
   -- the first row of the layout's cycle
   abbrev S : ℕ
   S = z .start + k * z .cycle
 
   -- The rows of the layout are few, and its cycle begins in the plan's cycle.
   pub laid-rows : (S + z .cycle ≤ mostRows) × (S ≤ mostRows) × (z .start ≤ S)
-  laid-rows = let few = laid .few-rows in (omega arith, omega arith, omega arith)
+  laid-rows = let few = laid-few plan fit k can .1 in (omega arith, omega arith, omega arith)
 
   -- There is room for them in the scratch.
   pub laid-room : {scratch : List ℕ} → Room scratch → (i : ℕ) → i < mostParts → {own : ℕ} → own ≡ 4 + (i * mostRows + 0)
       → (own + (S + z .cycle) ≤ length scratch) × (length scratch ≤ mostBytes)
-  laid-room room i l e = let whole = room .whole in let few = laid .few-rows in (omega arith, omega arith)
+  laid-room room i l e = let whole = room .whole in let few = laid-few plan fit k can .1 in (omega arith, omega arith)
 
   same-cycle : cycleRows (laidOut plan k) ≡ cycleRows plan
-  same-cycle = laid .c-is ∙ sym (fit .c-is)
+  same-cycle = laid-cycle plan fit k can
 
   module _ (bytes : Bytes plan) where
+    laid : Fitting (laidOut plan k) (laidSizes z k)
+    laid = laid-fitting plan fit k can bytes
+
     seen-same : (c : ℕ) → c < z .channels → (t : ℤ) → runOf (laidOut plan k) c t ≡ runOf plan c t
     seen-same c l t = laid-run plan fit k can bytes c (subst⁻¹ (λ (v : ℕ). c < v) (fit .v-is) l) t
 
@@ -102,7 +102,7 @@ module _ (plan : List ℕ) {z : Sizes} (fit : Fitting plan z) (k : ℕ) (can : c
       test-same : (t : ℕ) → testAt (laidOut plan k) x t ≡ testAt plan x t
       unfolding testAt
       test-same t =
-          ap₂ (tested (testOf (x .relation)))
+          ap₂ (tested (x .relation))
           (value-same (runOf (laidOut plan k)) (runOf plan) (z .channels) seen-same (x .left) (terms .0) t)
           (value-same (runOf (laidOut plan k)) (runOf plan) (z .channels) seen-same (x .right) (terms .1) t)
 
@@ -173,10 +173,10 @@ module _ (plan : List ℕ) {z : Sizes} (fit : Fitting plan z) (k : ℕ) (can : c
 
   -- ---- operators
 
-  module _ (i : ℕ) (o : Operator) (fits : viewFits (z .channels) i (view.Operator o) ≡ true) {y : Sizes} (is : y ≡ laidSizes z k) {old new : List ℕ}
+  module _ (bytes : Bytes plan) (i : ℕ) (o : Operator) (fits : viewFits (z .channels) i (view.Operator o) ≡ true) {y : Sizes} (is : y ≡ laidSizes z k) {old new : List ℕ}
       (written : Stored old new (4 + i * mostRows) 0 (allRows y) (λ row. byteOf (operatorLabel (y .start) (y .cycle) (markAt old) o row))) where
     few : allRows (laidSizes z k) ≤ mostRows
-    few = laid .few-rows
+    few = laid bytes .few-rows
 
     done : Stored old new (4 + i * mostRows) 0 (allRows (laidSizes z k)) (λ row. byteOf (operatorLabel (z .start + k * z .cycle) (z .cycle) (markAt old) o row))
     done = subst (λ (q : Sizes). Stored old new (4 + i * mostRows) 0 (allRows q) (λ row. byteOf (operatorLabel (q .start) (q .cycle) (markAt old) o row))) is written
@@ -184,7 +184,7 @@ module _ (plan : List ℕ) {z : Sizes} (fit : Fitting plan z) (k : ℕ) (can : c
     -- It is labelled with its truth, if it looks back,
     pub operator-truth : TruthMarked (y .start) (y .cycle) (markAt new) o i
     operator-truth =
-        subst⁻¹ (λ (q : Sizes). TruthMarked (q .start) (q .cycle) (markAt new) o i) is (label-truth (laidOut plan k) laid mostRows i few o fits done)
+        subst⁻¹ (λ (q : Sizes). TruthMarked (q .start) (q .cycle) (markAt new) o i) is (label-truth (laidOut plan k) (laid bytes) mostRows i few o fits done)
 
     -- and closes or not.
     pub operator-tried : {b : Bool} → b ≡ closes (y .start) (y .cycle) (markAt new) o → Tried (laidOut plan k) old new i (view.Operator o) b
@@ -192,17 +192,17 @@ module _ (plan : List ℕ) {z : Sizes} (fit : Fitting plan z) (k : ℕ) (can : c
     operator-tried {b} e = record {
       outcome = closed
           ∙ met-clear (closes (startRows (laidOut plan k)) (cycleRows (laidOut plan k)) (markAt new) o) (Closing i (startRows (laidOut plan k)))
-          ∙ ap isClear (closing-kept (laidOut plan k) laid mostRows i few o fits done);
+          ∙ ap isClear (closing-kept (laidOut plan k) (laid bytes) mostRows i few o fits done);
       rows-alone = (_, marks);
       made = λ _. marks;
     }
       where
         marks : Stored old new (4 + i * mostRows) 0 (rows (laidOut plan k)) (λ row. byteOf (labelOf (laidOut plan k) (markAt old) (view.Operator o) row))
         marks =
-            subst⁻¹ (λ (m : ℕ). Stored old new (4 + i * mostRows) 0 m (λ row. byteOf (labelOf (laidOut plan k) (markAt old) (view.Operator o) row))) (rows-are laid)
-            (label-done (laidOut plan k) laid mostRows i few o fits done)
+            subst⁻¹ (λ (m : ℕ). Stored old new (4 + i * mostRows) 0 m (λ row. byteOf (labelOf (laidOut plan k) (markAt old) (view.Operator o) row))) (rows-are (laid bytes))
+            (label-done (laidOut plan k) (laid bytes) mostRows i few o fits done)
 
         closed : b ≡ closes (startRows (laidOut plan k)) (cycleRows (laidOut plan k)) (markAt new) o
         closed =
             subst (λ (q : Sizes). b ≡ closes (q .start) (q .cycle) (markAt new) o) is e
-            ∙ sym (at-sizes laid (λ p c. closes (startRows (laidOut plan k)) (cycleRows (laidOut plan k)) (markAt new) o ≡ closes p c (markAt new) o) refl)
+            ∙ sym (at-sizes (laid bytes) (λ p c. closes (startRows (laidOut plan k)) (cycleRows (laidOut plan k)) (markAt new) o ≡ closes p c (markAt new) o) refl)

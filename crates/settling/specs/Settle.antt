@@ -19,7 +19,7 @@ use Rattle.settling.specs.declared.Laid.the-variants as L
 
 -- The bytes of the lent plan buffer, which has room for every plan, and of the lent scratch.
 abbrev pub laidOutLength : ℕ
-laidOutLength = 16648
+laidOutLength = 16680
 
 abbrev pub scratchLength : ℕ
 scratchLength = 16516

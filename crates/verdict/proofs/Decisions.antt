@@ -5,21 +5,17 @@ use native.Mathlib.Nat.{mul-add, mul-suc, zero-mul, one-mul, mul-le-mul-left, di
 use native.Mathlib.Decide.{decLt, ℕ-discrete}
 use native.Mathlib.Omega.{arith}
 use mathlib.Core.Path.{_≡_, refl, sym, ap, _∙_, subst}
-use mathlib.Core.Bool.{Bool, true, false, cond, false≢true}
+use mathlib.Core.Bool.{Bool, true, false, cond, _&&_, false≢true}
 use mathlib.Core.Logic.{_↔_, Iff·symm, Iff·trans, by-cases}
 use lib.Dec.{T, ltb, eqb}
-use lib.IntN.{ℤ, pos, negsuc, subℕ, natAbs, _+ℤ_, _-ℤ_, _*ℤ_, pos-ne-negsuc}
+use lib.IntN.{ℤ, pos, negsuc, subℕ, natAbs, _+ℤ_, _-ℤ_, pos-ne-negsuc}
 use lib.Signed.{_<ℤ_, ltZ}
 use borrow.Author.Tests.{lt-ltb, le-ltb, eq-eqb, ne-eqb, eqb-true, ltb-true}
 use Rattle.fields.proofs.Differences.{by-sub, sub-same, sub-pos, sub-add, sub-line, sub-negate, sub-lt, sub-eq}
-use Rattle.verdict.specs.Lines.{Line, eqZ, judgeLess, meets, judgeEqual}
+use Rattle.verdict.specs.Lines.{Line, onPass, eqZ, judgeLess, meets, judgeEqual}
 use Rattle.verdict.specs.declared.Verdict.{Verdict}
 use Rattle.verdict.specs.declared.Verdict.the-variants.{AlwaysTrue, AlwaysFalse, Changes}
 use Rattle.verdict.proofs.Passes.{PassMeans, means-iff}
-
--- the number of a line on the k-th pass after its first one
-unfoldable pub onPass : Line → ℕ → ℤ
-onPass x k = x .at +ℤ pos k *ℤ x .step
 
 -- ---- tests of two integers
 
@@ -50,18 +46,19 @@ by-bias F f y z =
     by-sub (λ y. F y z) (λ a p. by-sub (λ z. F (subℕ a p) z) (λ b q.
     rw (sub-same a p (a + q) (p + q) (omega arith), sub-same b q (b + p) (p + q) (omega arith)) (f (a + q) (b + p) (p + q))) z) y
 
+-- Two tests of one statement.
+pub same-test : (x y : Bool) → (x ≡ true) ↔ (y ≡ true) → x ≡ y
+same-test true true e = refl
+same-test true false e = sym (e .0 refl)
+same-test false true e = e .1 refl
+same-test false false e = refl
+
 module _ (a b B : ℕ) where
   pub bias-lt : (subℕ a B <ℤ subℕ b B) ↔ (a < b)
   bias-lt = Iff·trans (sub-lt a B b B) (λ h. omega arith, λ h. omega arith)
 
   pub bias-eq : (subℕ a B ≡ subℕ b B) ↔ (a ≡ b)
   bias-eq = Iff·trans (sub-eq a B b B) (λ h. omega arith, λ h. omega arith)
-
-  same-test : (x y : Bool) → (x ≡ true) ↔ (y ≡ true) → x ≡ y
-  same-test true true e = refl
-  same-test true false e = sym (e .0 refl)
-  same-test false true e = e .1 refl
-  same-test false false e = refl
 
   pub bias-ltZ : ltZ (subℕ a B) (subℕ b B) ≡ ltb a b
   unfolding Decides
@@ -93,14 +90,14 @@ module _ (B D a d : ℕ) where
   lifted-pass k = sub-line a B d D k
 
 -- the gain of a steeper line, over k passes
-gap : (k : ℕ) {d e : ℕ} → e ≤ d → k * d ≡ k * e + k * (d - e)
+pub gap : (k : ℕ) {d e : ℕ} → e ≤ d → k * d ≡ k * e + k * (d - e)
 gap k {d} {e} h = ap (λ (x : ℕ). k * x) (omega arith) ∙ mul-add k e (d - e)
 
 gain : (k : ℕ) {d e : ℕ} → e < d → k * e + k ≤ k * d
 gain k {d} {e} h = subst (λ (x : ℕ). x ≤ k * d) (mul-suc k e) (mul-le-mul-left k h)
 
 module _ (B D a d b e : ℕ) where
-  pass-lt : (k : ℕ) → (a + k * d < b + k * e) ↔ (onPass (lifted B D a d) k <ℤ onPass (lifted B D b e) k)
+  pub pass-lt : (k : ℕ) → (a + k * d < b + k * e) ↔ (onPass (lifted B D a d) k <ℤ onPass (lifted B D b e) k)
   pass-lt k = rw (lifted-pass B D a d k, lifted-pass B D b e k) (Iff·symm (bias-lt (a + k * d) (b + k * e) (B + k * D)))
 
   pass-eq : (k : ℕ) → (a + k * d ≡ b + k * e) ↔ (onPass (lifted B D a d) k ≡ onPass (lifted B D b e) k)
@@ -180,6 +177,15 @@ module _ (B D a d b e : ℕ) where
   unfolding judgeEqual
   equal-once h g = simp (bias-ltZ a b B, le-ltb a b (omega arith), bias-ltZ b a B, le-ltb b a (omega arith), bias-eqZ d e D, ne-eqb d e g)
 
+  -- and by which of the two is behind
+  below-meets : a < b → cond (ltb e d && eqb ((b - a) % (d - e)) 0) Changes AlwaysFalse ≡ judgeEqual (lifted B D a d) (lifted B D b e)
+  below-meets h =
+      by-cases (decLt e d)
+      (λ g. by-cases (ℕ-discrete ((b - a) % (d - e)) 0)
+      (λ z. rw (lt-ltb e d g, eq-eqb ((b - a) % (d - e)) 0 z, equal-below h, meets-once B D a d b e h g z) refl)
+      (λ z. rw (lt-ltb e d g, ne-eqb ((b - a) % (d - e)) 0 z, equal-below h, meets-over B D a d b e h g z) refl))
+      (λ g. rw (le-ltb e d (omega arith), equal-below h, meets-apart B D a d b e (omega arith)) refl)
+
   approach-from : b < a → PassMeans (cond (meets (lifted B D b e) (lifted B D a d)) Changes AlwaysFalse) (λ k. a + k * d ≡ b + k * e)
   approach-from h = means-iff _ _ _ (λ k. (sym, sym)) (approach B D b e a d h)
 
@@ -193,6 +199,18 @@ module _ (B D a d b e : ℕ) where
       (λ g. by-cases (ℕ-discrete d e)
       (λ z. rw (equal-always (omega arith) z) (λ k. ap (λ (x : ℕ). a + k * x) z ∙ omega arith))
       (λ z. rw (equal-once (omega arith) z) ((0, omega (arith, zero-mul d, zero-mul e)), (1, λ l. z (omega (arith, one-mul d, one-mul e)))))))
+
+-- Two lines that are not the same at first.
+pub equal-apart : (B D a d b e : ℕ) → (a ≡ b → ⊥) → {gap own other : ℕ} → gap ≡ (a - b) + (b - a) → own ≡ cond (ltb a b) d e → other ≡ cond (ltb a b) e d
+    → cond (ltb other own && eqb (gap % (own - other)) 0) Changes AlwaysFalse ≡ judgeEqual (lifted B D a d) (lifted B D b e)
+equal-apart B D a d b e h {gap} g o p =
+    by-cases (decLt a b)
+    (λ l. let k : (a - b) + (b - a) ≡ b - a = omega arith in rw (o, p, g, k, lt-ltb a b l) (below-meets B D a d b e l))
+    (λ l. let k : (a - b) + (b - a) ≡ a - b = omega arith in let m : b < a = by-cases (decLt b a) (λ q. q) (λ q. absurd (h (omega arith))) in
+    rw (o, p, g, k, le-ltb a b (omega arith)) (below-meets B D b e a d m ∙ equal-turned B D a d b e m))
+  where
+    equal-turned : (B D a d b e : ℕ) → b < a → judgeEqual (lifted B D b e) (lifted B D a d) ≡ judgeEqual (lifted B D a d) (lifted B D b e)
+    equal-turned B D a d b e m = equal-below B D b e a d m ∙ sym (equal-above B D a d b e m)
 
 -- ---- the verdicts
 

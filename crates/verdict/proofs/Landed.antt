@@ -1,31 +1,33 @@
 -- A term on the passes of a cycle row, looked at by where its shift lands, is what the run gives. Assumes nothing.
-use Prim.Native.Nat.{ℕ, suc, _+_, _*_, _-_, _≤_, _<_}
+use Prim.Native.Nat.{ℕ, suc, _+_, _*_, _-_, _≤_}
 use native.Mathlib.Omega.{arith}
 use mathlib.Core.Path.{_≡_, refl, sym, ap, ap₂, _∙_}
 use mathlib.Core.Bool.{true}
 use mathlib.Core.List.{List}
 use lib.IntN.{ℤ, pos, negsuc, subℕ}
-use Rattle.cltlb.specs.Run as cltlb
+use Rattle.cltlb.specs.Run.{Seen, under}
 use Rattle.cltlb.specs.Fits.{shiftFits, termFits}
 use Rattle.cltlb.specs.declared.Term.{Term}
 use Rattle.cltlb.specs.declared.Term.the-variants.{Constant, Reading}
 use Rattle.cltlb.proofs.Fits as fits
 use Rattle.fields.proofs.Differences.{sub-pos, sub-eq, pos-sub, negsuc-sub}
-use Rattle.plan.specs.Layout.{driftOf}
+use Rattle.plan.specs.Layout.{topOf, driftOf}
 use Rattle.plan.specs.Run.{readingOn, readingAt, runOf}
-use Rattle.plan.specs.inner.Lifted.{passes, lowered, seenOf}
-use Rattle.plan.specs.inner.Sizes.{allRows, farthest, Fitting}
+use Rattle.plan.specs.inner.Lifted.{lowered}
+use Rattle.plan.specs.inner.Sizes.{farthest, Fitting}
 use Rattle.plan.specs.declared.landing.Landing.{Landing}
-use Rattle.plan.specs.declared.lookup.Seen.the-variants.{Number}
 use Rattle.plan.specs.declared.sizes.Sizes.{Sizes}
 use Rattle.plan.proofs.Fits.{reached}
 use Rattle.plan.specs.inner.Landing.{landingRow, landingOff}
 use Rattle.plan.proofs.Landings.{lands-on-row, lands-off, reading-on-landing}
 use Rattle.plan.proofs.Shifts.{shifted, in-run}
+use Rattle.plan.proofs.Pinned.{sees-under}
 use Rattle.verdict.specs.Lines.{Line}
-use Rattle.verdict.specs.Rows.{channelLine, termLine}
+use Rattle.verdict.specs.Rows.{channelLine, termLine, termTop, judgeFrom}
+use Rattle.verdict.specs.Tops.{judgeUnder}
 use Rattle.verdict.specs.inner.Reach.{back, reach, latest}
-use Rattle.verdict.specs.inner.Landed.{shiftIn, Lands, LandsAt, landedLine}
+use Rattle.verdict.specs.inner.Landed.{shiftIn, Lands, BothLand, Reached, LandsAt, landedLine, judgeLanded}
+use Rattle.verdict.specs.declared.Comparison.{Comparison}
 
 -- ---- shifts of terms
 
@@ -66,7 +68,7 @@ module _ {plan : List ℕ} {z : Sizes} (f : Fitting plan z) where
 
   -- in reach of the lookups
   pub landing-reached : (l : Landing) (ahead k : ℕ) → LandsAt plan z l ahead k → z .start + 4 ≤ ahead → ahead ≤ farthest z
-      → (l .row < allRows z) × (4 ≤ k + l .off) × (k + l .off < passes + 4)
+      → Reached z l k
   unfolding LandsAt
   landing-reached l ahead k lands g h =
       let there = lands g in
@@ -75,35 +77,46 @@ module _ {plan : List ℕ} {z : Sizes} (f : Fitting plan z) where
 
   -- so are those of a term that does not reach before the cycle
   pub line-reached : (row : ℕ) → z .start ≤ row → (x : Term) (l : Landing) → Lands z row x l → (k : ℕ) → z .start + reach x ≤ row + k * z .cycle → row + k * z .cycle ≤ latest z
-      → (l .row < allRows z) × (4 ≤ k + l .off) × (k + l .off < passes + 4)
+      → Reached z l k
   line-reached row h x l there k g far =
       landing-reached l (row + k * z .cycle + there .code) k (lands-at row h x l there k)
       (read-inside x (z .start) (row + k * z .cycle) (there .code) g (there .is-code)) (omega (arith, there .small, f .a-cycle))
 
-  pub seen-landed : (channel : ℕ) (l : Landing) (ahead k a : ℕ) → LandsAt plan z l ahead k → z .start + 4 ≤ ahead
-      → lowered a ≡ readingOn plan channel (l .row) (k + l .off - 4) → seenOf (Number a) ≡ runOf plan channel (subℕ ahead 4)
-  unfolding LandsAt seenOf
-  seen-landed channel l ahead k a lands g e =
-      ap cltlb.number (e ∙ sym (lands g .2 channel)) ∙ in-run plan channel ahead (omega arith)
+  pub seen-landed : (channel : ℕ) (l : Landing) (ahead k top a : ℕ) → LandsAt plan z l ahead k → z .start + 4 ≤ ahead → pos top ≡ topOf plan channel
+      → lowered a ≡ readingOn plan channel (l .row) (k + l .off - 4) → {s : Seen} → s ≡ under (pos top) (lowered a) → s ≡ runOf plan channel (subℕ ahead 4)
+  unfolding LandsAt
+  seen-landed channel l ahead k top a lands g t e h =
+      sees-under plan channel top a h t (ap (under (topOf plan channel)) (e ∙ sym (lands g .2 channel)) ∙ in-run plan channel ahead (omega arith))
 
   -- the line of a term, by its landing
   pub landed-line-is : (row : ℕ) → z .start ≤ row → (x : Term) (l : Landing) → Lands z row x l → (k : ℕ) → z .start + reach x ≤ row + k * z .cycle
-      → (line : Line) → line ≡ landedLine plan x l k → line ≡ termLine plan x (row + k * z .cycle)
+      → landedLine plan x l k ≡ termLine plan x (row + k * z .cycle)
   unfolding termLine channelLine LandsAt
-  landed-line-is row h (Constant c) l there k g line e = e
-  landed-line-is row h (Reading channel shift) l there k g line e =
+  landed-line-is row h (Constant c) l there k g = refl
+  landed-line-is row h (Reading channel shift) l there k g =
       let low = read-inside (Reading channel shift) (z .start) (row + k * z .cycle) (there .code) g (there .is-code) in
       let lands = lands-at row h (Reading channel shift) l there k low in
       rw (shifted (row + k * z .cycle) (there .code) shift (there .is-code) ∙ sub-pos (row + k * z .cycle + there .code) 4 (omega arith), f .p-is, f .c-is)
-      (e ∙ ap₂ (λ (m n : ℤ). record { at = m; step = n }) (sym (lands .2 channel)) (ap (λ (r : ℕ). driftOf plan r channel) (lands .0)))
+      (ap₂ (λ (m n : ℤ). record { at = m; step = n }) (sym (lands .2 channel)) (ap (λ (r : ℕ). driftOf plan r channel) (lands .0)))
 
-  -- from a position on at which the term is not read before the cycle
-  module _ (t : ℕ) (x : Term) (l : Landing) (there : Lands z t x l) (g : z .start + reach x ≤ t) where
+  -- the verdict on two terms, by their landings
+  pub judged-landed : (row : ℕ) → z .start ≤ row → (x : Comparison) (left right : Landing) → BothLand z row x left right → (k : ℕ)
+      → (z .start + reach (x .left) ≤ row + k * z .cycle) × (z .start + reach (x .right) ≤ row + k * z .cycle)
+      → judgeLanded plan x left right k ≡ judgeFrom plan x (row + k * z .cycle)
+  judged-landed row h x left right there k g =
+      ap₂ (λ (X Y : Line). judgeUnder (x .relation) (termTop plan (x .left)) X (termTop plan (x .right)) Y)
+      (landed-line-is row h (x .left) left (there .0) k (g .0)) (landed-line-is row h (x .right) right (there .1) k (g .1))
+
+  -- from a position on at which neither term is read before the cycle
+  module _ (t : ℕ) (x : Comparison) (left right : Landing) (there : BothLand z t x left right) (g : (z .start + reach (x .left) ≤ t) × (z .start + reach (x .right) ≤ t)) where
     here : t ≡ t + 0 * z .cycle
     here = omega arith
 
-    pub from-reached : t ≤ latest z → (l .row < allRows z) × (4 ≤ 0 + l .off) × (0 + l .off < passes + 4)
-    from-reached far = line-reached t (omega arith) x l there 0 (omega arith) (omega arith)
+    pub from-reached : t ≤ latest z → Reached z left 0 × Reached z right 0
+    from-reached far = (
+      line-reached t (omega arith) (x .left) left (there .0) 0 (omega (arith, g .0)) (omega arith),
+      line-reached t (omega arith) (x .right) right (there .1) 0 (omega (arith, g .1)) (omega arith),
+    )
 
-    pub line-from : (line : Line) → line ≡ landedLine plan x l 0 → line ≡ termLine plan x t
-    line-from line e = landed-line-is t (omega arith) x l there 0 (omega arith) line e ∙ ap (termLine plan x) (sym here)
+    pub judged-from : judgeLanded plan x left right 0 ≡ judgeFrom plan x t
+    judged-from = judged-landed t (omega (arith, g .0)) x left right there 0 (omega (arith, g .0), omega (arith, g .1)) ∙ ap (judgeFrom plan x) (sym here)

@@ -4,6 +4,10 @@ pub mod Euclid
 pub mod Residues
 pub mod Minutes
 pub mod Relations
+pub mod PassesBelow
+pub mod Walks
+pub mod SomePasses
+pub mod UnderTops
 pub mod Lifts
 pub mod Cycles
 pub mod Verdicts

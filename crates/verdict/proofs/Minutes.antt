@@ -3,9 +3,9 @@ use Prim.Native.Nat.{ℕ, _+_, _*_, _-_, _/_, _%_, _≤_, _<_}
 use native.Mathlib.Nat.{div-add-mod'}
 use native.Mathlib.Decide.{decLt}
 use native.Mathlib.Omega.{arith}
-use mathlib.Core.Path.{_≡_, refl, sym, ap, ap₂, _∙_, subst}
+use mathlib.Core.Path.{_≡_, refl, sym, ap, ap₂, _∙_}
 use mathlib.Core.Bool.{true, cond}
-use mathlib.Core.Logic.{_↔_, inl, inr, ⊎-elim, Iff·rfl, Iff·trans, by-cases}
+use mathlib.Core.Logic.{_↔_, inl, inr, ⊎-elim, Iff·rfl, by-cases}
 use lib.Dec.{ltb}
 use lib.IntN.{ℤ, pos, subℕ, _+ℤ_, _-ℤ_}
 use borrow.Author.Tests.{lt-ltb, le-ltb, ltb-true}
@@ -13,12 +13,12 @@ use Rattle.cltlb.specs.Week.{week, minuteOf, inWindow}
 use Rattle.cltlb.proofs.Fits.{Ends}
 use Rattle.cltlb.proofs.Week.{minute-below, between, over-the-end}
 use Rattle.fields.proofs.Differences.{by-sub, sub-pos, sub-neg, sub-same, sub-add, sub-negate, pos-sub}
-use Rattle.verdict.specs.Lines.{Line}
+use Rattle.verdict.specs.Lines.{Line, onPass}
 use Rattle.verdict.specs.Divisors.{gcd}
 use Rattle.verdict.specs.Weeks.{minutesAfter, within, judgeSpaced, judgeWithin}
 use Rattle.verdict.specs.declared.Verdict.the-variants.{AlwaysTrue, AlwaysFalse, Changes}
-use Rattle.verdict.proofs.Passes.{PassMeans, means-iff}
-use Rattle.verdict.proofs.Decisions.{onPass, lifted, by-lifted, lifted-pass, Decides, Judges}
+use Rattle.verdict.proofs.Passes.{means-iff}
+use Rattle.verdict.proofs.Decisions.{lifted, by-lifted, lifted-pass, Decides, Judges}
 use Rattle.verdict.proofs.Euclid.{gcd-end, common-step}
 use Rattle.verdict.proofs.Residues.{below-means}
 
@@ -100,16 +100,18 @@ module _ (a d b e : ℕ) where
       both : (minuteOf (subℕ a b) + k * minuteOf (subℕ d e)) % 10080 ≡ ((a + b * 10079) % 10080 + k * ((d + e * 10079) % 10080)) % 10080
       both = ap₂ (λ (x y : ℕ). (x + k * y) % 10080) (minute-sub a b) (minute-sub d e)
 
+-- How far a line is after another on a pass.
+pub after-on-pass : (x y : Line) (k : ℕ)
+    → minutesAfter (onPass x k) (onPass y k) ≡ (minutesAfter (x .at) (y .at) + k * minutesAfter (x .step) (y .step)) % week
+after-on-pass = by-lifted (λ x y. (k : ℕ) → minutesAfter (onPass x k) (onPass y k) ≡ (minutesAfter (x .at) (y .at) + k * minutesAfter (x .step) (y .step)) % week)
+    (λ B D a d b e k. rw (after-bias a b B, after-bias d e D)
+    (ap₂ minutesAfter (lifted-pass B D a d k) (lifted-pass B D b e k) ∙ after-bias (a + k * d) (b + k * e) (B + k * D) ∙ after-pass a d b e k))
+
 pub within-judges : (n : ℕ) → Judges (judgeWithin n) (λ a b. minutesAfter a b < n)
 unfolding Judges judgeWithin
-within-judges n = by-lifted (λ x y. PassMeans (judgeWithin n x y) (λ k. minutesAfter (onPass x k) (onPass y k) < n)) (λ B D a d b e.
-    rw (after-bias a b B, after-bias d e D)
-    (means-iff _ _ _ (λ k. rw (on-pass B D a d b e k) Iff·rfl)
-    (below-means (minuteOf (subℕ d e)) (gcd week (minuteOf (subℕ d e))) (common-step (minuteOf (subℕ d e))) (minuteOf (subℕ a b)) n)))
-  where
-    on-pass : (B D a d b e k : ℕ) → minutesAfter (onPass (lifted B D a d) k) (onPass (lifted B D b e) k) ≡ (minuteOf (subℕ a b) + k * minuteOf (subℕ d e)) % week
-    on-pass B D a d b e k =
-        ap₂ minutesAfter (lifted-pass B D a d k) (lifted-pass B D b e k) ∙ after-bias (a + k * d) (b + k * e) (B + k * D) ∙ after-pass a d b e k
+within-judges n x y =
+    let d = minutesAfter (x .step) (y .step) in
+    means-iff _ _ _ (λ k. rw (after-on-pass x y k) Iff·rfl) (below-means d (gcd week d) (common-step d) (minutesAfter (x .at) (y .at)) n)
 
 -- as the code finds it, s being the first minutes after, m those of the steps, and g the spacing
 pub within-spaced : (n B D a d b e : ℕ) {m s g : ℕ} → m ≡ minuteOf (subℕ d e) → g ≡ gcd week m → s ≡ minuteOf (subℕ a b)

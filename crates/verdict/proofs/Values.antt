@@ -7,7 +7,7 @@ use mathlib.Core.Bool.{Bool, true, false, cond}
 use mathlib.Core.List.{List}
 use lib.Dec.{ltb, eqb}
 use lib.IntN.{ℤ, pos, subℕ}
-use borrow.Author.Tests.{lt-ltb, le-ltb}
+use borrow.Author.Tests.{lt-ltb, le-ltb, eqb-true}
 use Rattle.cltlb.specs.Run as cltlb
 use Rattle.cltlb.specs.Week.{week, minuteOf}
 use Rattle.cltlb.specs.Truth.{valueAt}
@@ -15,32 +15,36 @@ use Rattle.cltlb.specs.Fits.{shiftFits, termFits, atomFits}
 use Rattle.cltlb.specs.declared.Term.{Term}
 use Rattle.cltlb.specs.declared.Term.the-variants.{Constant, Reading}
 use Rattle.cltlb.specs.declared.Atom.{Atom}
-use Rattle.cltlb.specs.declared.Atom.the-variants.{Window}
+use Rattle.cltlb.specs.declared.Atom.the-variants as atom
 use Rattle.cltlb.proofs.Fits as fits
 use Rattle.fields.specs.inner.Biased.{bias, unbiased}
-use Rattle.plan.specs.Layout.{cycleRows, driftOf}
+use Rattle.plan.specs.Layout.{cycleRows, topOf, driftOf}
 use Rattle.plan.specs.inner.Sizes.{allRows, Fitting}
 use Rattle.plan.specs.Run.{readingOn, runOf}
 use Rattle.plan.specs.inner.Lifted.{valueBias, lowered, seenOf}
 use Rattle.plan.specs.declared.lookup.Seen.{Seen}
-use Rattle.plan.specs.declared.lookup.Seen.the-variants.{Number, BeforeRun}
+use Rattle.plan.specs.declared.lookup.Seen.the-variants.{Number, Pinned, BeforeRun}
 use Rattle.plan.specs.declared.sizes.Sizes.{Sizes}
 use Rattle.plan.proofs.Shifts.{shifted}
 use Rattle.fields.proofs.Differences.{pos-sub}
 use Rattle.verdict.specs.Weeks.{minutesAfter}
-use Rattle.verdict.specs.Comparisons.{comparison, comparisonOf, testOf, ofNumber, tested, judgeLines}
+use Rattle.verdict.specs.Comparisons.{comparison, comparisonOf, testOf, tested, judgeLines}
+use Rattle.verdict.specs.Tops.{judgeUnder}
 use Rattle.verdict.specs.Lines.{Line}
-use Rattle.verdict.specs.Rows.{termLine, join, joinFirst, testAt, judgeCycle, judgeRow, verdictOf}
-use Rattle.verdict.specs.inner.Landed.{lineOn, landedLine}
+use Rattle.verdict.specs.Rows.{termTop, judgeFrom, join, joinFirst, testAt, judgeCycle, judgeRow, verdictOf}
+use Rattle.verdict.specs.inner.Landed.{lineOn, landedLine, judgeLanded, NoTops}
 use Rattle.verdict.specs.inner.Reach.{back, reach, TermsFit, FitsSome}
 use Rattle.plan.specs.declared.landing.Landing.{Landing}
 use Rattle.verdict.specs.inner.Judgement.{Judgement}
 use Rattle.verdict.specs.declared.Comparison.{Comparison}
-use Rattle.verdict.specs.declared.Relation.the-variants.{Below, Same, Within}
+use Rattle.verdict.specs.declared.Relation.{Relation}
+use Rattle.verdict.specs.declared.Relation.the-variants as asked
 use Rattle.verdict.specs.declared.Verdict.{Verdict}
 use Rattle.verdict.specs.declared.Verdict.the-variants.{AlwaysTrue, AlwaysFalse}
 use Rattle.verdict.proofs.Decisions.{lifted, bias-ltZ, bias-eqZ}
+use Rattle.verdict.proofs.UnderTops.{judged-free}
 use Rattle.verdict.proofs.Minutes.{after-bias}
+use Rattle.verdict.proofs.Relations.{test-numbers, test-one, test-before}
 use Rattle.verdict.proofs.Cycles.{reach-le, Inside, cycle-same, inside-4}
 use Rattle.verdict.proofs.Verdicts.{judged, atom-terms}
 
@@ -65,6 +69,13 @@ module _ (plan : List ℕ) (x : Term) (t : ℕ) where
   unfolding valueAt
   sees-reading seen channel code shift e g h = rw e (h ∙ ap (runOf plan channel) (sym (shifted t code shift g)))
 
+-- the top of a reading
+pub top-reading : (plan : List ℕ) {x : Term} (channel : ℕ) (shift : ℤ) → x ≡ Reading channel shift → {r : ℕ} → pos r ≡ topOf plan channel → pos r ≡ termTop plan x
+top-reading plan channel shift e h = rw e h
+
+pub top-constant : (plan : List ℕ) {x : Term} {z : ℤ} → x ≡ Constant z → pos 0 ≡ termTop plan x
+top-constant plan e = rw e refl
+
 -- the line of a constant and of a channel
 pub line-constant : (plan : List ℕ) (x : Term) (l : Landing) (k a : ℕ) (z : ℤ) → x ≡ Constant z → lowered a ≡ z → lifted valueBias bias a bias ≡ landedLine plan x l k
 line-constant plan x l k a z e h = rw e (ap (λ (n : ℤ). record { at = n; step = pos 0 }) h)
@@ -79,38 +90,66 @@ line-channel plan channel row pass a d h k = ap₂ (λ (m n : ℤ). record { at 
 
 -- ---- comparisons of two values that are seen
 
-module _ (a b : Seen) where
-  pub none-left : (test : ℤ → ℤ → Bool) → a ≡ BeforeRun → false ≡ tested test (seenOf a) (seenOf b)
-  unfolding seenOf ofNumber tested
-  none-left test e = rw e refl
+-- two numbers
+module _ (m n : ℕ) where
+  pub number-below : ltb m n ≡ testOf asked.Below (lowered m) (lowered n)
+  number-below = sym (bias-ltZ m n valueBias)
 
-  pub none-right : (test : ℤ → ℤ → Bool) → b ≡ BeforeRun → false ≡ tested test (seenOf a) (seenOf b)
-  unfolding seenOf ofNumber tested
-  none-right test e = rw e (blank (seenOf a))
-    where
-      blank : (s : cltlb.Seen) → false ≡ tested test s cltlb.beforeRun
-      blank (cltlb.number n) = refl
-      blank cltlb.beforeRun = refl
+  pub number-same : eqb m n ≡ testOf asked.Same (lowered m) (lowered n)
+  number-same = sym (bias-eqZ m n valueBias)
 
-  module _ (m n : ℕ) (e : a ≡ Number m) (f : b ≡ Number n) where
-    pub tested-below : ltb m n ≡ tested (testOf Below) (seenOf a) (seenOf b)
-    unfolding seenOf ofNumber tested
-    tested-below = rw (e, f) (sym (bias-ltZ m n valueBias))
+  pub number-within : (r minutes : ℕ) → r ≡ minuteOf (subℕ m n) → ltb r minutes ≡ testOf (asked.Within minutes) (lowered m) (lowered n)
+  number-within r minutes h = rw (after-bias m n valueBias, ← h) refl
 
-    pub tested-same : eqb m n ≡ tested (testOf Same) (seenOf a) (seenOf b)
-    unfolding seenOf ofNumber tested
-    tested-same = rw (e, f) (sym (bias-eqZ m n valueBias))
+-- by what is seen
+module _ (relation : Relation) (a b : Seen) where
+  module _ (m : ℕ) (e : a ≡ Number m) where
+    pub tested-numbers : (n : ℕ) → b ≡ Number n → {r : Bool} → r ≡ testOf relation (lowered m) (lowered n) → r ≡ tested relation (seenOf a) (seenOf b)
+    unfolding seenOf
+    tested-numbers n f h = rw (e, f) (h ∙ sym (test-numbers relation (lowered m) (lowered n)))
 
-    pub tested-within : (r minutes : ℕ) → r ≡ minuteOf (subℕ m n) → ltb r minutes ≡ tested (testOf (Within minutes)) (seenOf a) (seenOf b)
-    unfolding seenOf ofNumber tested
-    tested-within r minutes h = rw (e, f) (rw (after-bias m n valueBias, ← h) refl)
+    pub tested-one : b ≡ Pinned → false ≡ tested relation (seenOf a) (seenOf b)
+    unfolding seenOf
+    tested-one f = rw (e, f) (sym (test-one relation (lowered m) .0))
+
+    pub tested-alone : b ≡ BeforeRun → false ≡ tested relation (seenOf a) (seenOf b)
+    unfolding seenOf
+    tested-alone f = rw (e, f) (sym (test-one relation (lowered m) .1))
+
+  pub tested-pinned : a ≡ Pinned → {r : Bool} → ((y : cltlb.Seen) → r ≡ tested relation cltlb.pinned y) → r ≡ tested relation (seenOf a) (seenOf b)
+  unfolding seenOf
+  tested-pinned e h = rw e (h (seenOf b))
+
+  pub tested-before : a ≡ BeforeRun → false ≡ tested relation (seenOf a) (seenOf b)
+  unfolding seenOf
+  tested-before e = rw e (sym (test-before relation (seenOf b)))
 
 pub test-is : (plan : List ℕ) (x : Comparison) (t : ℕ) (a b : Seen) → seenOf a ≡ valueAt (runOf plan) (x .left) t → seenOf b ≡ valueAt (runOf plan) (x .right) t
-    → tested (testOf (x .relation)) (seenOf a) (seenOf b) ≡ testAt plan x t
+    → tested (x .relation) (seenOf a) (seenOf b) ≡ testAt plan x t
 unfolding testAt
-test-is plan x t a b e f = ap₂ (tested (testOf (x .relation))) e f
+test-is plan x t a b e f = ap₂ (tested (x .relation)) e f
 
 -- ---- rows
+
+-- the verdict on two terms that have landed
+pub landed-is : (plan : List ℕ) (x : Comparison) (left right : Landing) (k : ℕ) {s t : ℤ} {X Y : Line} {r : Verdict} → r ≡ judgeUnder (x .relation) s X t Y
+    → s ≡ termTop plan (x .left) → X ≡ landedLine plan (x .left) left k → t ≡ termTop plan (x .right) → Y ≡ landedLine plan (x .right) right k
+    → r ≡ judgeLanded plan x left right k
+landed-is plan x left right k h s X t Y = rw (← s, ← X, ← t, ← Y) h
+
+-- and where there are no tops, by their lines alone
+pub landed-free : (plan : List ℕ) (x : Comparison) (left right : Landing) (k : ℕ) → NoTops plan x → {X Y : Line} {r : Verdict} → r ≡ judgeLines (x .relation) X Y
+    → X ≡ landedLine plan (x .left) left k → Y ≡ landedLine plan (x .right) right k → r ≡ judgeLanded plan x left right k
+landed-free plan x left right k none h X Y =
+    rw (none .0, none .1, ← X, ← Y) (h ∙ sym (judged-free (x .relation) _ _))
+
+-- Two tops whose sum is 0 are none.
+pub no-tops : (plan : List ℕ) (x : Comparison) (s t : ℕ) → pos s ≡ termTop plan (x .left) → pos t ≡ termTop plan (x .right) → eqb (s + t) 0 ≡ true → NoTops plan x
+no-tops plan x s t e f h =
+    let sum = eqb-true (s + t) 0 h in
+    let left : s ≡ 0 = omega arith in
+    let right : t ≡ 0 = omega arith in
+    (sym e ∙ ap pos left, sym f ∙ ap pos right)
 
 -- both terms of a comparison reach at most m positions back
 module _ (z : Sizes) (x : Comparison) (m : ℕ) (e : m ≡ max (reach (x .left)) (reach (x .right))) where
@@ -144,10 +183,9 @@ module _ {plan : List ℕ} {z : Sizes} (f : Fitting plan z) (x : Comparison) whe
   -- the passes from a position of the cycle on: from the n-th on neither term reaches before the cycle
   pub cycle-is : TermsFit z x → (row n : ℕ) → z .start ≤ row
       → (z .start + reach (x .left) ≤ row + n * z .cycle) × (z .start + reach (x .right) ≤ row + n * z .cycle)
-      → (X Y : Line) → X ≡ termLine plan (x .left) (row + n * z .cycle) → Y ≡ termLine plan (x .right) (row + n * z .cycle)
-      → (later : Verdict) → later ≡ judgeLines (x .relation) X Y → {r : Verdict} → r ≡ joinFirst (passTest plan x row) n later → r ≡ judgeCycle plan x 4 row
+      → (later : Verdict) → later ≡ judgeFrom plan x (row + n * z .cycle) → {r : Verdict} → r ≡ joinFirst (passTest plan x row) n later → r ≡ judgeCycle plan x 4 row
   unfolding judgeCycle
-  cycle-is g row n h k X Y ex ey later e j =
+  cycle-is g row n h k later e j =
       j ∙ from ∙ cycle-same plan x hC row n 4 inside (inside-4 plan x (z .channels) row (g .0) (g .1) hC (rw (f .p-is) h))
     where
       hC : 1 ≤ cycleRows plan
@@ -157,11 +195,7 @@ module _ {plan : List ℕ} {z : Sizes} (f : Fitting plan z) (x : Comparison) whe
       inside = rw (f .c-is) (record { left = rw (f .p-is) (k .0); right = rw (f .p-is) (k .1) })
 
       from : joinFirst (passTest plan x row) n later ≡ judgeCycle plan x n row
-      from =
-          ap (joinFirst (passTest plan x row) n)
-          (e ∙ ap₂ (judgeLines (x .relation))
-          (ex ∙ ap (λ (i : ℕ). termLine plan (x .left) (row + n * i)) (sym (f .c-is)))
-          (ey ∙ ap (λ (i : ℕ). termLine plan (x .right) (row + n * i)) (sym (f .c-is))))
+      from = ap (joinFirst (passTest plan x row) n) (e ∙ ap (λ (i : ℕ). judgeFrom plan x (row + n * i)) (sym (f .c-is)))
 
   module _ (row : ℕ) where
     pub on-cycle-row : z .start ≤ row → judgeCycle plan x 4 row ≡ judgeRow plan x row
@@ -175,16 +209,20 @@ module _ {plan : List ℕ} {z : Sizes} (f : Fitting plan z) (x : Comparison) whe
 -- ---- atoms
 
 -- a window, which is a comparison with the minute at which it begins
-module _ {x : Atom} {c from to : ℕ} {s : ℤ} (e : x ≡ Window c s from to) where
+module _ {x : Atom} {c from to : ℕ} {s : ℤ} (e : x ≡ atom.Window c s from to) where
   pub window-begins : FitsSome x → from < week
   window-begins f = fits.ends-fit from to (fits.window-fits (f .0) c s from to (ap (atomFits (f .0)) (sym e) ∙ f .1) .1) .from-fits
 
   pub window-comparison : {u z : ℤ} {m : ℕ} → u ≡ s → m ≡ minuteOf (subℕ to from) → z ≡ pos from
-      → comparison (Within m) (Reading c u) (Constant z) ≡ comparisonOf x
-  window-comparison g h k = rw (e, g, h, k) (ap (λ (i : ℕ). comparison (Within i) (Reading c s) (Constant (pos from))) (sym ends))
+      → comparison (asked.Within m) (Reading c u) (Constant z) ≡ comparisonOf x
+  window-comparison g h k = rw (e, g, h, k) (ap (λ (i : ℕ). comparison (asked.Within i) (Reading c s) (Constant (pos from))) (sym ends))
     where
       ends : minutesAfter (pos to) (pos from) ≡ minuteOf (subℕ to from)
       ends = ap₂ minutesAfter (pos-sub to) (pos-sub from) ∙ after-bias to from 0
+
+-- kind 14
+pub pinned-comparison : {x : Atom} {c : ℕ} {s : ℤ} → x ≡ atom.Pinned c s → {u : ℤ} → u ≡ s → comparison asked.Pinned (Reading c u) (Constant (pos 0)) ≡ comparisonOf x
+pinned-comparison e g = rw (e, g) refl
 
 -- the terms of the comparison that an atom is
 pub atom-fit : (z : Sizes) (x : Atom) → atomFits (z .channels) x ≡ true → {r : Comparison} → r ≡ comparisonOf x → TermsFit z r

@@ -13,8 +13,8 @@ use Rattle.cltlb.specs.Truth.{valueAt, Compared, Within, AtomHolds}
 use Rattle.cltlb.specs.Fits.{termFits, atomFits}
 use Rattle.cltlb.specs.declared.Term.the-variants.{Constant, Reading}
 use Rattle.cltlb.specs.declared.Atom.{Atom}
-use Rattle.cltlb.specs.declared.Atom.the-variants.{Less, Equal, Window}
-use Rattle.cltlb.proofs.Fits.{less-fits, equal-fits, window-fits, Ends, ends-fit}
+use Rattle.cltlb.specs.declared.Atom.the-variants.{Less, Equal, Window, Pinned}
+use Rattle.cltlb.proofs.Fits.{less-fits, equal-fits, window-fits, pinned-fits, Ends, ends-fit}
 use Rattle.plan.specs.Layout.{startRows, cycleRows}
 use Rattle.plan.specs.Positions.{rowOf, passOf}
 use Rattle.plan.specs.Run.{runOf}
@@ -23,13 +23,15 @@ use Rattle.verdict.specs.Meaning.{VerdictMeans}
 use Rattle.verdict.specs.Comparisons.{comparison, comparisonOf}
 use Rattle.verdict.specs.Weeks.{minutesAfter}
 use Rattle.verdict.specs.Rows.{testAt, judgeRow, atomAt, verdictOf}
+use Rattle.verdict.specs.inner.Reach.{reach, AsksLeft}
 use Rattle.verdict.specs.declared.Comparison.{Comparison}
 use Rattle.verdict.specs.declared.Relation.the-variants.{Below, Same}
 use Rattle.verdict.specs.declared.Verdict.{Verdict}
 use Rattle.verdict.specs.declared.Verdict.the-variants.{AlwaysTrue, AlwaysFalse, Changes}
 use Rattle.verdict.proofs.Passes.{PassMeans, means-one}
 use Rattle.verdict.proofs.Minutes.{window-within}
-use Rattle.verdict.proofs.Cycles.{same-number, ComparedAt, test-decides, cycle-means, inside-4}
+use Rattle.verdict.proofs.Relations.{same-number}
+use Rattle.verdict.proofs.Cycles.{ComparedAt, test-decides, cycle-means, inside-4}
 
 -- A verdict on the passes of a row is one on the row, where `at` gives all positions that lie on it.
 pub row-means : (P C row : ℕ) (at : ℕ → ℕ) → ((k : ℕ) → rowOf P C (at k) ≡ row) → ((t : ℕ) → rowOf P C t ≡ row → (k : ℕ) × (at k ≡ t))
@@ -122,12 +124,22 @@ module _ (plan : List ℕ) (hC : 1 ≤ cycleRows plan) (row : ℕ) (hr : row < s
       let fits = window-fits v c s from to f in
       verdict-iff (window-holds plan c s from to (ends-fit from to (fits .1)))
       (row-judged (comparisonOf (Window c s from to)) (fits .0) (constant-fits v (pos from)))
+  judged (Pinned c s) f = row-judged (comparisonOf (Pinned c s)) (pinned-fits v c s f) (constant-fits v (pos 0))
 
 -- The terms of an atom that fits.
 pub atom-terms : (v : ℕ) (x : Atom) → atomFits v x ≡ true → (termFits v (comparisonOf x .left) ≡ true) × (termFits v (comparisonOf x .right) ≡ true)
 atom-terms v (Less x y) f = less-fits v x y f
 atom-terms v (Equal x y) f = equal-fits v x y f
 atom-terms v (Window c s from to) f = (window-fits v c s from to f .0, constant-fits v (pos from))
+atom-terms v (Pinned c s) f = (pinned-fits v c s f, constant-fits v (pos 0))
+
+-- Of an atom that asks nothing of a right term that term is a constant.
+pub asks-left : (x : Atom) → AsksLeft (comparisonOf x)
+unfolding reach
+asks-left (Less x y) e = let z : _≡_ {A = ℕ} 0 1 = cc in absurd (omega arith)
+asks-left (Equal x y) e = let z : _≡_ {A = ℕ} 0 1 = cc in absurd (omega arith)
+asks-left (Window c s from to) e = refl
+asks-left (Pinned c s) e = refl
 
 -- The test of an atom that fits tells, at a position, its truth there.
 pub atom-tells : (plan : List ℕ) (v : ℕ) (x : Atom) → atomFits v x ≡ true → (t : ℕ) → (atomAt plan x t ≡ true) ↔ AtomHolds (runOf plan) x t
@@ -136,3 +148,4 @@ atom-tells plan v (Less x y) f t = test-decides plan (comparison Below x y) t
 atom-tells plan v (Equal x y) f t = test-decides plan (comparison Same x y) t
 atom-tells plan v (Window c s from to) f t =
     Iff·trans (test-decides plan (comparisonOf (Window c s from to)) t) (window-holds plan c s from to (ends-fit from to (window-fits v c s from to f .1)) t)
+atom-tells plan v (Pinned c s) f t = test-decides plan (comparisonOf (Pinned c s)) t

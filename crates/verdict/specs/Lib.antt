@@ -3,5 +3,7 @@ pub mod Lines
 pub mod Divisors
 pub mod Weeks
 pub mod Comparisons
+pub mod Stretches
+pub mod Tops
 pub mod Rows
 pub mod inner

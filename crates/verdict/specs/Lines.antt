@@ -1,8 +1,8 @@
--- The verdict on two numbers that each grow by a fixed step on every pass. Assumes nothing.
-use Prim.Native.Nat.{_%_}
-use mathlib.Core.Bool.{Bool, true, false, cond, _&&_}
+-- Numbers that grow by a fixed step on every pass, and the verdict on two of them. Assumes nothing.
+use Prim.Native.Nat.{ℕ, _%_}
+use mathlib.Core.Bool.{Bool, false, cond, _&&_}
 use lib.Dec.{eqb}
-use lib.IntN.{ℤ, pos, negsuc, natAbs, _-ℤ_}
+use lib.IntN.{ℤ, pos, negsuc, natAbs, _+ℤ_, _-ℤ_, _*ℤ_}
 use lib.Signed.{ltZ}
 use Rattle.verdict.specs.declared.Verdict.{Verdict}
 use Rattle.verdict.specs.declared.Verdict.the-variants.{AlwaysTrue, AlwaysFalse, Changes}
@@ -11,6 +11,18 @@ use Rattle.verdict.specs.declared.Verdict.the-variants.{AlwaysTrue, Alwa
 pub record Line : Type 0 where
   pub at : ℤ
   pub step : ℤ
+
+-- the number on the k-th pass after the first one
+unfoldable pub onPass : Line → ℕ → ℤ
+onPass x k = x .at +ℤ pos k *ℤ x .step
+
+-- a number that stays
+abbrev pub level : ℤ → Line
+level z = record { at = z; step = pos 0 }
+
+-- the line that is higher by 1
+abbrev pub raised : Line → Line
+raised x = record { at = x .at +ℤ pos 1; step = x .step }
 
 abbrev pub eqZ : ℤ → ℤ → Bool
 eqZ (pos a) (pos b) = eqb a b

@@ -3,4 +3,4 @@ pub mod Judgement
 pub mod Lifted
 pub mod Landed
 pub mod Reach
-pub mod Settled
+pub mod Walks

@@ -3,9 +3,12 @@ use cltlb::Term;
 
 pub mod bounds;
 pub mod early;
+pub mod laps;
 pub mod lines;
 pub mod rows;
+pub mod stretches;
 pub mod terms;
+pub mod tops;
 pub mod weeks;
 
 // What a comparison is on the passes of a row.
@@ -15,12 +18,13 @@ pub enum Verdict {
     Changes,
 }
 
-// What a comparison asks of its two numbers: that the left one is below the right one, or the same, or less than so many minutes
-// after it, whole weeks left aside.
+// What a comparison asks of its two terms: that they are numbers, the left one below the right one, or the same, or less than so many
+// minutes after it, whole weeks left aside; or that the left one is pinned, the right one being no matter.
 pub enum Relation {
     Below,
     Same,
     Within(u64),
+    Pinned,
 }
 
 // A comparison of two terms.

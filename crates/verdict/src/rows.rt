@@ -2,15 +2,15 @@
 ghost use mathlib.Core.Path.{_≡_};
 ghost use mathlib.Core.Bool.{true};
 ghost use Prim.Native.Nat.{_+_, _*_, _≤_, _<_};
+ghost use Rattle.cltlb.specs.Run as cltlb;
 ghost use Rattle.cltlb.specs.Fits.{atomFits};
 ghost use Rattle.plan.specs.Layout.{cycleRows};
 ghost use Rattle.plan.specs.inner.Sizes.{allRows, Fitting};
-ghost use Rattle.plan.specs.inner.Lifted.{seenOf};
+ghost use Rattle.plan.specs.inner.Lifted.{lowered, seenOf};
 ghost use Rattle.verdict.specs.Comparisons.{comparisonOf, testOf, tested};
-ghost use Rattle.verdict.specs.Rows.{joinFirst, testAt, judgeCycle, judgeRow, atomAt};
+ghost use Rattle.verdict.specs.Rows.{joinFirst, testAt, judgeFrom, judgeCycle, judgeRow, atomAt};
 ghost use Rattle.verdict.specs.inner.Reach.{reach, TermsFit, FitsSome, latest, latestFrom};
-ghost use Rattle.verdict.specs.inner.Landed.{BothLand};
-ghost use Rattle.verdict.specs.inner.Settled.{judgeFrom};
+ghost use Rattle.verdict.specs.inner.Landed.{BothLand, Reached, judgeLanded, NoTops};
 ghost use Rattle.verdict.specs.inner.Judgement.{Judgement};
 use crate::Comparison;
 use crate::Relation;
@@ -24,6 +24,8 @@ use crate::terms::landed_line;
 use crate::terms::reach_of;
 use crate::terms::seen_on;
 use crate::terms::seen_term;
+use crate::terms::top_in;
+use crate::tops::decide_under;
 use crate::weeks::minutes_after;
 use cltlb::Atom;
 use cltlb::Term;
@@ -32,20 +34,42 @@ use plan::landing::landing_of;
 use plan::lookup::Seen;
 use plan::sizes::Sizes;
 
-// The comparison of two values that are seen; false where one is before the run.
-fn compare(relation: Relation, a: Seen, b: Seen) -> bool
-    ensures { λ r. ⌜ r ≡ tested (testOf relation) (seenOf a) (seenOf b) ⌝ }
+// The test of two numbers; no number is pinned.
+fn compare_numbers(relation: Relation, m: u64, n: u64) -> bool
+    ensures { λ r. ⌜ r ≡ testOf relation (lowered m) (lowered n) ⌝ }
 {
-    let Seen::Number(m) = a else {
-        return false;
-    };
-    let Seen::Number(n) = b else {
-        return false;
-    };
     match relation {
         Relation::Below => m < n,
         Relation::Same => m == n,
         Relation::Within(minutes) => minutes_after(m, n) < minutes,
+        Relation::Pinned => false,
+    }
+}
+
+// The test where the left one is pinned.
+pub fn compare_pinned(relation: Relation) -> bool
+    ensures { λ r. ⌜ ((y : cltlb.Seen) → r ≡ tested relation cltlb.pinned y) ⌝ }
+{
+    match relation {
+        Relation::Below => false,
+        Relation::Same => false,
+        Relation::Within(_) => false,
+        Relation::Pinned => true,
+    }
+}
+
+// The test of what is seen of two terms.
+fn compare(relation: Relation, a: Seen, b: Seen) -> bool
+    ensures { λ r. ⌜ r ≡ tested relation (seenOf a) (seenOf b) ⌝ }
+{
+    match a {
+        Seen::Number(m) => match b {
+            Seen::Number(n) => compare_numbers(relation, m, n),
+            Seen::Pinned => false,
+            Seen::BeforeRun => false,
+        },
+        Seen::Pinned => compare_pinned(relation),
+        Seen::BeforeRun => false,
     }
 }
 
@@ -113,9 +137,84 @@ fn join_first(
     verdict
 }
 
-// The verdict on the passes from a position of the cycle on. Where the two shifts land is found once, ahead of the passes.
-pub fn judge_cycle(plan: &[u8], sizes: Sizes, comparison: Comparison, row: usize) -> Verdict
-    requires { ⌜ (Fitting (now plan) sizes) × (TermsFit sizes comparison) × (sizes .start ≤ row) × (row ≤ latestFrom sizes) ⌝ }
+// The verdict on all passes from pass k on, of a row from which the shifts of the two terms land so: that on their lines, under their
+// tops.
+fn judge_landed(
+    plan: &[u8],
+    sizes: Sizes,
+    comparison: Comparison,
+    left: Landing,
+    right: Landing,
+    k: usize,
+) -> Verdict
+    requires { ⌜ (Fitting (now plan) sizes) × (TermsFit sizes comparison) × (Reached sizes left k) × (Reached sizes right k) ⌝ }
+    ensures { λ r. ⌜ r ≡ judgeLanded (now (plan .entry)) comparison left right k ⌝ }
+{
+    let relation = comparison.relation;
+    let x = comparison.left;
+    let y = comparison.right;
+    decide_under(
+        relation,
+        top_in(plan, sizes, x),
+        landed_line(plan, sizes, x, left, k),
+        top_in(plan, sizes, y),
+        landed_line(plan, sizes, y, right, k),
+    )
+}
+
+// Neither term of a comparison is read on a channel that has a top.
+fn without_tops(plan: &[u8], sizes: Sizes, comparison: Comparison) -> bool
+    requires { ⌜ (Fitting (now plan) sizes) × (TermsFit sizes comparison) ⌝ }
+    ensures { λ r. ⌜ (r ≡ true → NoTops (now (plan .entry)) comparison) ⌝ }
+{
+    let x = comparison.left;
+    let y = comparison.right;
+    top_in(plan, sizes, x) + top_in(plan, sizes, y) == 0
+}
+
+// The verdict on the passes from position t on, neither term being read before the cycle there: that on the two lines that begin
+// there, where there are no tops, and else under them.
+fn from_free(plan: &[u8], sizes: Sizes, comparison: Comparison, t: usize) -> Verdict
+    requires { ⌜ (Fitting (now plan) sizes) × (TermsFit sizes comparison) × (sizes .start + reach (comparison .left) ≤ t) × (sizes .start + reach (comparison .right) ≤ t) × (t ≤ latest sizes) × (NoTops (now plan) comparison) ⌝ }
+    ensures { λ r. ⌜ r ≡ judgeFrom (now (plan .entry)) comparison t ⌝ }
+{
+    let relation = comparison.relation;
+    let x = comparison.left;
+    let y = comparison.right;
+    let left = landing_of(sizes, t, code_in(x));
+    let right = landing_of(sizes, t, code_in(y));
+    decide(
+        relation,
+        landed_line(plan, sizes, x, left, 0),
+        landed_line(plan, sizes, y, right, 0),
+    )
+}
+
+fn from_under(plan: &[u8], sizes: Sizes, comparison: Comparison, t: usize) -> Verdict
+    requires { ⌜ (Fitting (now plan) sizes) × (TermsFit sizes comparison) × (sizes .start + reach (comparison .left) ≤ t) × (sizes .start + reach (comparison .right) ≤ t) × (t ≤ latest sizes) ⌝ }
+    ensures { λ r. ⌜ r ≡ judgeFrom (now (plan .entry)) comparison t ⌝ }
+{
+    let x = comparison.left;
+    let y = comparison.right;
+    let left = landing_of(sizes, t, code_in(x));
+    let right = landing_of(sizes, t, code_in(y));
+    judge_landed(plan, sizes, comparison, left, right, 0)
+}
+
+pub fn judge_from(plan: &[u8], sizes: Sizes, comparison: Comparison, t: usize) -> Verdict
+    requires { ⌜ (Fitting (now plan) sizes) × (TermsFit sizes comparison) × (sizes .start + reach (comparison .left) ≤ t) × (sizes .start + reach (comparison .right) ≤ t) × (t ≤ latest sizes) ⌝ }
+    ensures { λ r. ⌜ r ≡ judgeFrom (now (plan .entry)) comparison t ⌝ }
+{
+    if without_tops(plan, sizes, comparison) {
+        return from_free(plan, sizes, comparison, t);
+    }
+    from_under(plan, sizes, comparison, t)
+}
+
+// The verdict on the passes from a position of the cycle on. Where there are no tops, it is found once, ahead of the passes, where the
+// two shifts land.
+fn cycle_free(plan: &[u8], sizes: Sizes, comparison: Comparison, row: usize) -> Verdict
+    requires { ⌜ (Fitting (now plan) sizes) × (TermsFit sizes comparison) × (sizes .start ≤ row) × (row ≤ latestFrom sizes) × (NoTops (now plan) comparison) ⌝ }
     ensures { λ r. ⌜ r ≡ judgeCycle (now (plan .entry)) comparison 4 row ⌝ }
 {
     let relation = comparison.relation;
@@ -132,22 +231,49 @@ pub fn judge_cycle(plan: &[u8], sizes: Sizes, comparison: Comparison, row: usize
     join_first(plan, sizes, comparison, left, right, row, n, later)
 }
 
-// The verdict on the passes from position t on, neither term being read before the cycle there: that on the two lines that begin
-// there.
-pub fn judge_from(plan: &[u8], sizes: Sizes, comparison: Comparison, t: usize) -> Verdict
-    requires { ⌜ (Fitting (now plan) sizes) × (TermsFit sizes comparison) × (sizes .start + reach (comparison .left) ≤ t) × (sizes .start + reach (comparison .right) ≤ t) × (t ≤ latestFrom sizes) ⌝ }
-    ensures { λ r. ⌜ r ≡ judgeFrom (now (plan .entry)) comparison t ⌝ }
+// The first n passes from a position on, each looked up as it comes, in front of the verdict on the later ones.
+fn join_tests(
+    plan: &[u8],
+    sizes: Sizes,
+    comparison: Comparison,
+    row: usize,
+    n: usize,
+    later: Verdict,
+) -> Verdict
+    requires { ⌜ (Fitting (now plan) sizes) × (TermsFit sizes comparison) × (row ≤ latestFrom sizes) × (n ≤ 4) ⌝ }
+    ensures { λ r. ⌜ r ≡ joinFirst (λ k. testAt (now (plan .entry)) comparison (row + k * cycleRows (now (plan .entry)))) n later ⌝ }
 {
-    let relation = comparison.relation;
+    let mut verdict = later;
+    let mut k = n;
+    while 0 < k {
+        k -= 1;
+        verdict = join(
+            test_at(plan, sizes, comparison, row + k * sizes.cycle),
+            verdict,
+        );
+    }
+    verdict
+}
+
+fn cycle_under(plan: &[u8], sizes: Sizes, comparison: Comparison, row: usize) -> Verdict
+    requires { ⌜ (Fitting (now plan) sizes) × (TermsFit sizes comparison) × (sizes .start ≤ row) × (row ≤ latestFrom sizes) ⌝ }
+    ensures { λ r. ⌜ r ≡ judgeCycle (now (plan .entry)) comparison 4 row ⌝ }
+{
     let x = comparison.left;
     let y = comparison.right;
-    let left = landing_of(sizes, t, code_in(x));
-    let right = landing_of(sizes, t, code_in(y));
-    decide(
-        relation,
-        landed_line(plan, sizes, x, left, 0),
-        landed_line(plan, sizes, y, right, 0),
-    )
+    let n = early_passes(sizes, row, larger(reach_of(x), reach_of(y)));
+    let later = from_under(plan, sizes, comparison, row + n * sizes.cycle);
+    join_tests(plan, sizes, comparison, row, n, later)
+}
+
+pub fn judge_cycle(plan: &[u8], sizes: Sizes, comparison: Comparison, row: usize) -> Verdict
+    requires { ⌜ (Fitting (now plan) sizes) × (TermsFit sizes comparison) × (sizes .start ≤ row) × (row ≤ latestFrom sizes) ⌝ }
+    ensures { λ r. ⌜ r ≡ judgeCycle (now (plan .entry)) comparison 4 row ⌝ }
+{
+    if without_tops(plan, sizes, comparison) {
+        return cycle_free(plan, sizes, comparison, row);
+    }
+    cycle_under(plan, sizes, comparison, row)
 }
 
 // The verdict on a comparison, on a row. A caller with many rows makes the comparison once.
@@ -189,6 +315,11 @@ pub fn comparison_of(atom: Atom) -> Comparison
             relation: Relation::Within(minutes_after(to as u64, from as u64)),
             left: Term::Reading { channel, shift },
             right: Term::Constant(from as i32),
+        },
+        Atom::Pinned { channel, shift } => Comparison {
+            relation: Relation::Pinned,
+            left: Term::Reading { channel, shift },
+            right: Term::Constant(0),
         },
     }
 }

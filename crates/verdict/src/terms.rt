@@ -1,17 +1,19 @@
-// A term at a position and on the passes of a cycle row: what is seen of it, its line from a pass on, and how far back it is read.
+// A term at a position and on the passes of a cycle row: what is seen of it, its top, its line from a pass on, and how far back it is
+// read.
 ghost use mathlib.Core.Path.{_≡_};
 ghost use Prim.Native.Nat.{_+_, _*_, _≤_, _<_};
-ghost use lib.IntN.{subℕ};
+ghost use lib.IntN.{pos, subℕ};
 ghost use mathlib.Core.Bool.{true};
 ghost use Rattle.cltlb.specs.Truth.{valueAt};
 ghost use Rattle.cltlb.specs.Fits.{shiftFits, termFits};
-ghost use Rattle.fields.specs.inner.Biased.{patterns, unbiased};
+ghost use Rattle.fields.specs.inner.Biased.{patterns, bias, unbiased};
 ghost use Rattle.plan.specs.inner.Sizes.{allRows, farthest, Fitting};
 ghost use Rattle.plan.specs.Run.{runOf};
-ghost use Rattle.plan.specs.inner.Lifted.{passes, lowered, seenOf};
+ghost use Rattle.plan.specs.inner.Lifted.{passes, lowered, valueEnd, seenOf};
+ghost use Rattle.verdict.specs.Rows.{termTop};
 ghost use Rattle.verdict.specs.inner.Reach.{back, reach, latest};
-ghost use Rattle.verdict.specs.inner.Lifted.{lineOf};
-ghost use Rattle.verdict.specs.inner.Landed.{shiftIn, Lands, LandsAt, lineOn, landedLine};
+ghost use Rattle.verdict.specs.inner.Lifted.{lineOf, Low};
+ghost use Rattle.verdict.specs.inner.Landed.{shiftIn, Lands, Reached, LandsAt, lineOn, landedLine};
 use crate::lines::LiftedLine;
 use cltlb::Term;
 use fields::BIAS;
@@ -23,6 +25,8 @@ use plan::lookup::Seen;
 use plan::lookup::drift_at;
 use plan::lookup::number_at;
 use plan::sizes::Sizes;
+use plan::tops::seen_under;
+use plan::tops::top_of;
 use plan::view::seen_through;
 
 // The least shift, -4, kept without a sign.
@@ -37,7 +41,7 @@ pub fn lift(z: i32) -> u64
 
 // A constant, lifted as the values of readings are.
 fn constant(z: i32) -> u64
-    ensures { λ r. ⌜ lowered r ≡ z ⌝ }
+    ensures { λ r. ⌜ (lowered r ≡ z) × (r < valueEnd) ⌝ }
 {
     lift(z) + LAST_PASS * BIAS
 }
@@ -68,6 +72,17 @@ pub fn reach_of(term: Term) -> usize
     match term {
         Term::Constant(_) => 0,
         Term::Reading { channel: _, shift } => back_of(shift),
+    }
+}
+
+// The top of a term; a constant has none.
+pub fn top_in(plan: &[u8], sizes: Sizes, term: Term) -> u64
+    requires { ⌜ (Fitting (now plan) sizes) × (termFits (sizes .channels) term ≡ true) ⌝ }
+    ensures { λ r. ⌜ (pos r ≡ termTop (now (plan .entry)) term) × (r < bias) ⌝ }
+{
+    match term {
+        Term::Constant(_) => 0,
+        Term::Reading { channel, shift: _ } => top_of(plan, sizes, channel),
     }
 }
 
@@ -109,7 +124,10 @@ fn seen_on_landing(
     if ahead < sizes.start + 4 {
         return seen_through(plan, sizes, channel, ahead);
     }
-    Seen::Number(number_at(plan, sizes, channel, landing.row, k + landing.off - 4))
+    seen_under(
+        top_of(plan, sizes, channel),
+        number_at(plan, sizes, channel, landing.row, k + landing.off - 4),
+    )
 }
 
 // What is seen of a term on pass k of a row from which its shift lands so.
@@ -140,7 +158,7 @@ pub fn seen_on(
 // The line of a channel from a row and a pass on.
 fn channel_line(plan: &[u8], sizes: Sizes, channel: usize, row: usize, pass: usize) -> LiftedLine
     requires { ⌜ (Fitting (now plan) sizes) × (channel < sizes .channels) × (row < allRows sizes) × (pass < passes) ⌝ }
-    ensures { λ r. ⌜ lineOf r ≡ lineOn (now (plan .entry)) channel row pass ⌝ }
+    ensures { λ r. ⌜ (lineOf r ≡ lineOn (now (plan .entry)) channel row pass) × (Low r) ⌝ }
 {
     LiftedLine {
         at: number_at(plan, sizes, channel, row, pass),
@@ -150,8 +168,8 @@ fn channel_line(plan: &[u8], sizes: Sizes, channel: usize, row: usize, pass: usi
 
 // The line of a term from pass k on, of a row from which its shift lands so.
 pub fn landed_line(plan: &[u8], sizes: Sizes, term: Term, landing: Landing, k: usize) -> LiftedLine
-    requires { ⌜ (Fitting (now plan) sizes) × (termFits (sizes .channels) term ≡ true) × (landing .row < allRows sizes) × (4 ≤ k + landing .off) × (k + landing .off < passes + 4) ⌝ }
-    ensures { λ r. ⌜ lineOf r ≡ landedLine (now (plan .entry)) term landing k ⌝ }
+    requires { ⌜ (Fitting (now plan) sizes) × (termFits (sizes .channels) term ≡ true) × (Reached sizes landing k) ⌝ }
+    ensures { λ r. ⌜ (lineOf r ≡ landedLine (now (plan .entry)) term landing k) × (Low r) ⌝ }
 {
     match term {
         Term::Constant(z) => LiftedLine {

@@ -9,24 +9,27 @@ use Rattle.fields.specs.LittleEndian.{numberAt, bytesOf}
 use Rattle.fields.specs.Pieces.{pieces}
 use Rattle.fields.specs.TwosComplement.{signedOf, signedAt, patternOf, signedFits}
 use Rattle.cltlb.specs.Week.{minuteOf}
+use Rattle.cltlb.specs.Run.{isTop, isPinned, under}
 use Rattle.cltlb.specs.Truth.{valueAt}
 use Rattle.rule.specs.Layout.{partCount, channelCount, kindPlace, operandPlace, kindByte}
 use Rattle.cltlb.specs.Fits.{shiftFits, termFits, windowFits, atomFits, namesLower, viewFits}
 use Rattle.rule.specs.Terms.{shiftOf, termAt}
-use Rattle.rule.specs.Operands.{allZero, bothTerms, windowOver, operandAt}
+use Rattle.rule.specs.Operands.{allZero, bothTerms, windowOver, pinnedOver, operandAt}
 use Rattle.rule.specs.Kinds.{shapeOf, kindUnknown, partOf}
 use Rattle.rule.specs.Take.{takenOperand, takeOf, partTaken, partsOf, viewsOf}
 use Rattle.rule.specs.Sheet.{isRefused, untakeable, sheetOutcome}
-use Rattle.plan.specs.Layout.{channels, startRows, cycleRows, leadRows, rows, storedRows, arrayLength, readings, drifts, cell, entry, storedReading, storedDrift, readingOf, driftOf}
+use Rattle.plan.specs.Layout.{channels, startRows, cycleRows, leadRows, rows, storedRows, arrayLength, entry, tops, topOf, anyBelow, negativeTop, topsFit, readings, drifts, cell, storedReading, storedDrift, readingOf, driftOf}
 use Rattle.plan.specs.Positions.{rowOf, passOf, last, after}
 use Rattle.plan.specs.Run.{readingOn, readingAt, leadAt, runOf}
-use Rattle.plan.specs.Bytes.{headOf, arrayOf, planOf}
+use Rattle.plan.specs.Bytes.{headOf, topsOf, arrayOf, planOf}
 use Rattle.plan.specs.Bytes as planBytes
-use Rattle.plan.specs.Refusals.{isZero, anyBelow, driftsAt, drifting, namedRow, planOutcome}
-use Rattle.verdict.specs.Lines.{judgeLess, meets, judgeEqual}
+use Rattle.plan.specs.Refusals.{isZero, driftsAt, drifting, namedRow, planOutcome}
+use Rattle.verdict.specs.Lines.{onPass, judgeLess, meets, judgeEqual}
 use Rattle.verdict.specs.Divisors.{euclid, gcd}
 use Rattle.verdict.specs.Weeks.{minutesAfter, judgeSpaced, judgeWithin}
-use Rattle.verdict.specs.Comparisons.{ofNumber, tested}
+use Rattle.verdict.specs.Comparisons.{ofNumber, seenPinned, ofNumbers, tested}
+use Rattle.verdict.specs.Stretches.{isAll, hasPass, common, passesBelow, passesAtMost, passesSame}
+use Rattle.verdict.specs.Tops.{passesFree, passesPinned, someFrom, someWithin, someOn, judgeOn, judgePinned, judgeFree, judgeUnder}
 use Rattle.verdict.specs.Rows.{channelLine, termLine, joinFirst, testAt, judgeCycle, judgeRow, atomAt, verdictOf}
 use Rattle.judge.specs.Judge.{verdictOn, judgeOutcome, judgedAs, judgeOf}
 use Rattle.inputs.specs.Outcome.{inputsOutcome}
@@ -98,7 +101,7 @@ given (settles rule plan laid scratch laid′ scratch′ word) bytes e =
 given (judges rule plan part row word) bytes e = judge-word rule plan part row (same-word e) (judge-promise rule plan part row refl)
 
 computed : map stated more ≡ map defined more
-unfolding stated defined more copies refusalWord checkWord makeWord settleWord judgeWord orAfter lowestFrom lowest _orElse_ unless refusedAt atLowest inTurnFrom inTurn numberAt signedOf signedAt patternOf signedFits minuteOf valueAt partCount channelCount kindPlace operandPlace kindByte shiftOf shiftFits termFits windowFits atomFits namesLower viewFits termAt allZero bothTerms windowOver operandAt shapeOf kindUnknown partOf takenOperand takeOf partTaken partsOf viewsOf isRefused untakeable sheetOutcome channels startRows cycleRows leadRows rows storedRows arrayLength readings drifts cell entry storedReading storedDrift readingOf driftOf rowOf passOf last after readingOn readingAt leadAt runOf isZero anyBelow driftsAt drifting namedRow planOutcome judgeLess meets judgeEqual euclid gcd minutesAfter judgeSpaced judgeWithin ofNumber tested channelLine termLine joinFirst testAt judgeCycle judgeRow atomAt verdictOf verdictOn inputsOutcome judgeOutcome judgedAs judgeOf markByte marked witnessOf aboveOne bytesOutcome tableOutcome markBeside operatorMark expected isCycleRow names witnessTwo running closesBy closes witnessOfOperator witnessInOrder steadyOutcome breaks equationOutcome closingOutcome witnessOutcome partOutcome markOf witnessAt partsOutcome checkOutcome answered checkOf bytesOf pieces tableOf zeroed following labelBy operatorLabel labelOf orNone lowestWitness labelTo madeMark madeWitness madeTable asNoTable openOutcome closingsOutcome lentOutcome makeOutcome make.answered makeOf leftBy bytesAfter planBytes.word headOf arrayOf planOf startAfter rowsAfter laidReading laidDrift laidOut tooLarge canBeLaid settlesAfter fewestPasses settle.lentOutcome settle.answered settleOf laidWith laidAfter scratchWith scratchAfter rule.sizesFit plan.sizesFit marks.sizesFit
+unfolding stated defined more copies refusalWord checkWord makeWord settleWord judgeWord orAfter lowestFrom lowest _orElse_ unless refusedAt atLowest inTurnFrom inTurn numberAt signedOf signedAt patternOf signedFits minuteOf isTop isPinned under valueAt partCount channelCount kindPlace operandPlace kindByte shiftOf shiftFits termFits windowFits atomFits namesLower viewFits termAt allZero bothTerms windowOver pinnedOver operandAt shapeOf kindUnknown partOf takenOperand takeOf partTaken partsOf viewsOf isRefused untakeable sheetOutcome channels startRows cycleRows leadRows rows storedRows arrayLength entry tops topOf anyBelow negativeTop topsFit readings drifts cell storedReading storedDrift readingOf driftOf rowOf passOf last after readingOn readingAt leadAt runOf isZero driftsAt drifting namedRow planOutcome onPass judgeLess meets judgeEqual euclid gcd minutesAfter judgeSpaced judgeWithin ofNumber seenPinned ofNumbers tested isAll hasPass common passesBelow passesAtMost passesSame passesFree passesPinned someFrom someWithin someOn judgeOn judgePinned judgeFree judgeUnder channelLine termLine joinFirst testAt judgeCycle judgeRow atomAt verdictOf verdictOn inputsOutcome judgeOutcome judgedAs judgeOf markByte marked witnessOf aboveOne bytesOutcome tableOutcome markBeside operatorMark expected isCycleRow names witnessTwo running closesBy closes witnessOfOperator witnessInOrder steadyOutcome breaks equationOutcome closingOutcome witnessOutcome partOutcome markOf witnessAt partsOutcome checkOutcome answered checkOf bytesOf pieces tableOf zeroed following labelBy operatorLabel labelOf orNone lowestWitness labelTo madeMark madeWitness madeTable asNoTable openOutcome closingsOutcome lentOutcome makeOutcome make.answered makeOf leftBy bytesAfter planBytes.word headOf topsOf arrayOf planOf startAfter rowsAfter laidReading laidDrift laidOut tooLarge canBeLaid settlesAfter fewestPasses settle.lentOutcome settle.answered settleOf laidWith laidAfter scratchWith scratchAfter rule.sizesFit plan.sizesFit marks.sizesFit
 computed = refl
 
 pub words : All Gives more

@@ -7,6 +7,7 @@ pub mod MorePlans
 pub mod MoreMarks
 pub mod Layouts
 pub mod SheetsRead
+pub mod SheetsPut
 pub mod PlansRead
 pub mod Handed
 pub mod More

@@ -6,25 +6,30 @@ use Rattle.fields.specs.inner.Ranges.{Bytes}
 use Rattle.worked_examples.specs.Rows.{All}
 use Rattle.worked_examples.specs.Calls.{Call, checks, makes, settles, judges, Gives}
 use Rattle.worked_examples.specs.SheetsRead.{sheets, ReadsAs}
+use Rattle.worked_examples.specs.SheetsPut.{sheetsPut, PutsAs}
 use Rattle.worked_examples.specs.PlansRead.{plans, sights, SizedAs, SeesAs}
 use Rattle.worked_examples.specs.Handed.{questionBytes, callBytes}
 use Rattle.worked_examples.specs.Table.{ruleE1, ruleE2, ruleE4, ruleE8, ruleE9-0, planA, planB, planE9, planE10, examples, marksE4-2}
-use Rattle.worked_examples.specs.MoreSheets.{ruleKinds, ruleRelease, rulePast, ruleWeak, ruleSince, ruleTrigger, ruleLimit, ruleMet, ruleReach, ruleEightChannels, ruleWindows, ruleHours, ruleFirstDay, ruleDayBefore, ruleBack, ruleNoParts, ruleLong, ruleNineChannels, ruleKind0, ruleKind14, ruleShiftedConstant, ruleShiftCode9, ruleForm2, ruleChannel1, ruleNamesItself, ruleSpareByte, ruleWindowConstant, ruleWindowFrom, ruleWindowTo, ruleWindowNone, ruleWindowSpare, ruleMostParts, ruleTooManyParts}
-use Rattle.worked_examples.specs.MorePlans.{planThree, planWeek, planLeap, planStartDrift, planNoCycle, planLong, planLead, planLeadDrift, planBehindLeadDrift, planSevenBytes, planMostLead, planTooMuchLead, planMostRows, planTooManyRows, planMostChannels, planTooManyChannels, planHigh}
-use Rattle.worked_examples.specs.MoreMarks.{marksKinds, marksLead, marksLeadSeen, marksRelease-1, marksRelease-0, marksRelease-spare, marksLong, marksByte2, marksBytes2, marksBroken, marksSpare, marksSpareBroken, marksLowerBroken, marksLowerSpare, marksPast, marksPastHeld, marksMetWrong, marksWeakHeld, marksSinceHeld, marksTriggerHeld, marksLimit, marksLimitBroken, marksLimitSpare, marksWindows, marksWindowsBroken, marksWindowsSpare, marksFirstDay, marksFirstDayWrong, lentFull, lentSevens, zeros, zerosFirstDay}
-use Rattle.worked_examples.specs.Layouts.{lentPlan, lentScratch, clearedScratch, laidA-0, laidA-1, laidB-1, laidLeap-1, laidLead-1}
+use Rattle.worked_examples.specs.MoreSheets.{ruleKinds, ruleRelease, rulePast, ruleWeak, ruleSince, ruleTrigger, ruleLimit, ruleMet, ruleReach, ruleEightChannels, ruleWindows, ruleHours, ruleFirstDay, ruleDayBefore, ruleBack, ruleNoParts, ruleLong, ruleNineChannels, ruleKind0, ruleKind15, ruleShiftedConstant, ruleShiftCode9, ruleForm2, ruleChannel1, ruleNamesItself, ruleSpareByte, ruleWindowConstant, ruleWindowFrom, ruleWindowTo, ruleWindowNone, ruleWindowSpare, rulePinned, rulePinnedBack, ruleUnder, ruleTopWindows, ruleCourse, rulePinnedConstant, rulePinnedChannel1, rulePinnedShiftCode9, rulePinnedTerms, rulePinnedSpare, ruleMostParts, ruleTooManyParts}
+use Rattle.worked_examples.specs.MorePlans.{planThree, planWeek, planLeap, planStartDrift, planNoCycle, planLong, planLead, planLeadDrift, planBehindLeadDrift, planSevenBytes, planMostLead, planTooMuchLead, planMostRows, planTooManyRows, planMostChannels, planTooManyChannels, planHigh, planThreeTop, planTop, planTopClock, planTopB, planTopE10, planTopHigh, planCourse, planTopNegative, planTopLowest, planTopShort, planTopLeftOut}
+use Rattle.worked_examples.specs.MoreMarks.{marksKinds, marksLead, marksLeadSeen, marksRelease-1, marksRelease-0, marksRelease-spare, marksLong, marksByte2, marksBytes2, marksBroken, marksSpare, marksSpareBroken, marksLowerBroken, marksLowerSpare, marksPast, marksPastHeld, marksMetWrong, marksWeakHeld, marksSinceHeld, marksTriggerHeld, marksLimit, marksLimitBroken, marksLimitSpare, marksWindows, marksWindowsBroken, marksWindowsSpare, marksFirstDay, marksFirstDayWrong, lentFull, lentSevens, zeros, zerosFirstDay, marksPinned, marksPinnedTrue, marksPinnedSpare, marksCourse, lentCourse, zerosPinned}
+use Rattle.worked_examples.specs.Layouts.{lentPlan, lentScratch, clearedScratch, laidA-0, laidA-1, laidB-1, laidLeap-1, laidLead-1, laidTopB-1}
 
 -- A refusal is number × 2^32 + part × 2^16 + row; beside it stand its number, part and row.
 unfoldable pub more : List Call
 more =
-    -- Accepted. Every kind: the whole rule, a window, is false at position 0, where it looks before the run.
-    checks ruleKinds planThree marksKinds 0
+    -- Accepted. Every kind: the whole rule, of kind 14, is false at position 0, where it looks before the run.
+    checks ruleKinds planThreeTop marksKinds 0
     -- R marked 1 is true at position 0.
     ∷ checks ruleRelease planE10 marksRelease-1 1
     -- Y does not see the lead-in.
     ∷ checks ruleE2 planLead marksLead 0
     -- Windows, on rows that drift by a day, a week and an hour back, none of which changes: the last one is false at position 0.
     ∷ checks ruleWindows planWeek marksWindows 0
+    -- Under a top: a reading that is at it for ever, one of a channel without a top, and the rule of the course.
+    ∷ checks rulePinned planTopE10 marksPinnedTrue 1
+    ∷ checks rulePinned planE10 marksPinned 0
+    ∷ checks ruleCourse planCourse marksCourse 1
     -- Refused. 1: no bytes, no parts, nine channels, a byte too many. It comes before all others.
     ∷ checks [] [] [] 4294967296  -- 1, 0, 0
     ∷ checks ruleNoParts [] [] 4294967296  -- 1, 0, 0
@@ -32,7 +37,7 @@ more =
     ∷ checks ruleLong [] [] 4294967296  -- 1, 0, 0
     -- 2: the lowest such part, and all kinds before an operand.
     ∷ checks ruleKind0 [] [] 8589934592  -- 2, 0, 0
-    ∷ checks ruleKind14 [] [] 8590000128  -- 2, 1, 0
+    ∷ checks ruleKind15 [] [] 8590000128  -- 2, 1, 0
     -- 3: each way to break the layout.
     ∷ checks ruleShiftedConstant [] [] 12884901888  -- 3, 0, 0
     ∷ checks ruleShiftCode9 [] [] 12884901888  -- 3, 0, 0
@@ -46,12 +51,23 @@ more =
     ∷ checks ruleWindowTo [] [] 12884901888  -- 3, 0, 0
     ∷ checks ruleWindowNone [] [] 12884901888  -- 3, 0, 0
     ∷ checks ruleWindowSpare [] [] 12884901888  -- 3, 0, 0
+    -- 3 of kind 14: a constant, no such channel, no such shift, a second term, a byte that is not zero at the end.
+    ∷ checks rulePinnedConstant [] [] 12884901888  -- 3, 0, 0
+    ∷ checks rulePinnedChannel1 [] [] 12884901888  -- 3, 0, 0
+    ∷ checks rulePinnedShiftCode9 [] [] 12884901888  -- 3, 0, 0
+    ∷ checks rulePinnedTerms [] [] 12884901888  -- 3, 0, 0
+    ∷ checks rulePinnedSpare [] [] 12884901888  -- 3, 0, 0
     -- 4: no bytes, seven bytes, no cycle row, a byte too many, a lead-in of five rows. It comes before 5.
     ∷ checks ruleE1 [] [] 17179869184  -- 4, 0, 0
     ∷ checks ruleE1 planSevenBytes [] 17179869184  -- 4, 0, 0
     ∷ checks ruleE1 planNoCycle [] 17179869184  -- 4, 0, 0
     ∷ checks ruleE1 planLong [] 17179869184  -- 4, 0, 0
     ∷ checks ruleEightChannels planTooMuchLead [] 17179869184  -- 4, 0, 0
+    -- 4 of tops: too few bytes for them, none, a negative one. It comes before 5 and 6, whatever its channel is.
+    ∷ checks ruleE1 planTopShort [] 17179869184  -- 4, 0, 0
+    ∷ checks ruleE1 planTopLeftOut [] 17179869184  -- 4, 0, 0
+    ∷ checks ruleE1 planTopNegative [] 17179869184  -- 4, 0, 0
+    ∷ checks ruleE1 planTopLowest [] 17179869184  -- 4, 0, 0
     -- 5: another V, 8 being allowed. It comes before 6.
     ∷ checks ruleEightChannels planA [] 21474836480  -- 5, 0, 0
     ∷ checks rulePast planStartDrift [] 21474836480  -- 5, 0, 0
@@ -73,6 +89,8 @@ more =
     ∷ checks ruleE2 planA marksLowerBroken 38654705665  -- 9, 0, 1
     -- Of a window that the drift steps over.
     ∷ checks ruleWindows planWeek marksWindowsBroken 38654836739  -- 9, 2, 3
+    -- Of kind 14, with a reading at its top.
+    ∷ checks rulePinned planTopE10 marksPinned 38654705664  -- 9, 0, 0
     -- 10: of a past part row P, of an atom the lowest changing row. It comes before 11 and before 9 of the same part, also where
     -- the part's own marks would close.
     ∷ checks rulePast planThree marksPast 42949738498  -- 10, 1, 2
@@ -87,14 +105,17 @@ more =
     -- Of a window the lowest changing row too; row 3 changes as well. The mark of row 0 is wrong in the second table.
     ∷ checks ruleFirstDay planWeek marksFirstDay 42949672961  -- 10, 0, 1
     ∷ checks ruleFirstDay planWeek marksFirstDayWrong 42949672961  -- 10, 0, 1
+    -- Of kind 14 too, where a reading comes to its top.
+    ∷ checks rulePinned planTopB marksPinned 42949672960  -- 10, 0, 0
     -- 11: a witness that is not needed, twice, and one that is no witness. It comes before 9 and before 10 of a higher part.
     ∷ checks ruleE4 planA marksSpare 47244705792  -- 11, 1, 0
     ∷ checks ruleRelease planE10 marksRelease-spare 47244771328  -- 11, 2, 0
     ∷ checks ruleRelease planE10 marksRelease-0 47244771328  -- 11, 2, 0
     ∷ checks ruleE4 planA marksSpareBroken 47244705792  -- 11, 1, 0
     ∷ checks ruleE2 planA marksLowerSpare 47244640256  -- 11, 0, 0
-    -- A window needs none.
+    -- A window needs none, and kind 14 needs none.
     ∷ checks ruleWindows planWeek marksWindowsSpare 47244705792  -- 11, 1, 0
+    ∷ checks rulePinned planTopE10 marksPinnedSpare 47244640256  -- 11, 0, 0
     -- The largest sizes are allowed, so that the next string is what is refused, and larger ones are not (E12).
     ∷ checks ruleMostParts [] [] 17179869184  -- 4, 0, 0
     ∷ checks ruleTooManyParts [] [] 4294967296  -- 1, 0, 0
@@ -105,12 +126,13 @@ more =
     ∷ checks ruleEightChannels planMostChannels [] 30064771072  -- 7, 0, 0
     ∷ checks ruleEightChannels planTooManyChannels [] 17179869184  -- 4, 0, 0
     -- Made, whatever the buffer held. Every kind: the witnesses of U and R, rows 3 and 2, are the lowest that serve.
-    ∷ makes ruleKinds planThree lentFull marksKinds 0
+    ∷ makes ruleKinds planThreeTop lentFull marksKinds 0
     -- U has witness 2; R marked 1 has none, though the buffer held one.
     ∷ makes ruleE4 planA lentSevens marksE4-2 1
     ∷ makes ruleRelease planE10 marksRelease-0 marksRelease-1 1
-    -- Windows have no witness.
+    -- Windows have no witness, and kind 14 has none.
     ∷ makes ruleWindows planWeek marksWindowsBroken marksWindows 0
+    ∷ makes ruleCourse planCourse lentCourse marksCourse 1
     -- 13: a byte too many, no bytes. It comes after 1 to 6 and before 14, and the buffer is as it was.
     ∷ makes ruleE1 planA marksLong marksLong 55834574848  -- 13, 0, 0
     ∷ makes rulePast planThree [] [] 55834574848  -- 13, 0, 0
@@ -119,6 +141,7 @@ more =
     ∷ makes rulePast planThree marksPast zeros 60129607682  -- 14, 1, 2
     ∷ makes ruleLimit planThree marksLimit zeros 60129607683  -- 14, 1, 3
     ∷ makes ruleFirstDay planWeek marksFirstDay zerosFirstDay 60129542145  -- 14, 0, 1
+    ∷ makes rulePinned planTopB marksPinned zerosPinned 60129542144  -- 14, 0, 0
     -- Settled, whatever the buffers held: after no pass; after one, when each cycle row has another before it that is of the cycle too.
     ∷ settles ruleE1 planA lentPlan lentScratch laidA-0 clearedScratch 0
     ∷ settles ruleE2 planA lentPlan lentScratch laidA-1 clearedScratch 1
@@ -126,6 +149,8 @@ more =
     -- After one: a window that looks before the run on pass 0 alone, and one that looks before the lead-in.
     ∷ settles ruleDayBefore planLeap lentPlan lentScratch laidLeap-1 clearedScratch 1
     ∷ settles ruleBack planLead lentPlan lentScratch laidLead-1 clearedScratch 1
+    -- After one, on which the reading has come to its top; the new plan keeps the top.
+    ∷ settles rulePinned planTopB lentPlan lentScratch laidTopB-1 clearedScratch 1
     -- 13: either buffer. It comes after 1 to 6 and before 15, and both buffers are as they were.
     ∷ settles ruleE1 planA planA lentScratch planA lentScratch 55834574848  -- 13, 0, 0
     ∷ settles ruleE8 planHigh lentPlan [] lentPlan [] 55834574848  -- 13, 0, 0
@@ -166,6 +191,46 @@ more =
     ∷ judges ruleBack planLead 0 0 0
     ∷ judges ruleBack planLead 0 1 1
     ∷ judges ruleBack planLead 1 1 2
+    -- Under a top of 9. A reading of 9 is pinned on every pass, and one of 8 on none.
+    ∷ judges ruleUnder planTop 6 1 1
+    ∷ judges ruleUnder planTop 6 2 0
+    -- 9 < 10, 9 = 9 and 9 = 9 of x with itself: a comparison with a pinned term is false. 8 = 8 is true. The constant 10 is above the top
+    -- and no reading, so that 10 = 10 is true.
+    ∷ judges ruleUnder planTop 0 1 0
+    ∷ judges ruleUnder planTop 3 1 0
+    ∷ judges ruleUnder planTop 4 1 0
+    ∷ judges ruleUnder planTop 4 2 1
+    ∷ judges ruleUnder planTop 5 1 1
+    -- Up to the top: 0, 3, 6, then pinned for ever, so that 9 is never seen.
+    ∷ judges ruleUnder planTop 0 3 2
+    ∷ judges ruleUnder planTop 1 3 2
+    ∷ judges ruleUnder planTop 3 3 0
+    ∷ judges ruleUnder planTop 4 3 2
+    ∷ judges ruleUnder planTop 6 3 2
+    -- The same readings without a top.
+    ∷ judges ruleUnder planE9 1 0 1
+    ∷ judges ruleUnder planE9 3 0 2
+    ∷ judges ruleUnder planE9 4 0 1
+    ∷ judges ruleUnder planE9 6 0 0
+    -- Down from the top: pinned twice, then 6, 3 and on.
+    ∷ judges ruleUnder planTop 0 4 2
+    ∷ judges ruleUnder planTop 3 4 0
+    ∷ judges ruleUnder planTop 6 4 2
+    -- Up to it on pass 1003: -1 < x on the three passes before, and 9 < x never.
+    ∷ judges ruleUnder planTop 1 5 2
+    ∷ judges ruleUnder planTop 2 5 0
+    ∷ judges ruleUnder planTop 6 5 2
+    -- Pinned in the lead-in, and before it nothing is seen.
+    ∷ judges rulePinnedBack planTop 0 0 1
+    ∷ judges rulePinnedBack planTop 1 0 0
+    -- The largest top.
+    ∷ judges rulePinned planTopHigh 0 0 2
+    -- Windows under a top of 9180. A day on each pass, 540 to 7740, and 9180 is pinned; 9180 for ever; a week back on each pass, pinned
+    -- three times, then minute 540 for ever.
+    ∷ judges ruleTopWindows planTopClock 0 0 2
+    ∷ judges ruleTopWindows planTopClock 1 0 0
+    ∷ judges ruleTopWindows planTopClock 1 1 0
+    ∷ judges ruleTopWindows planTopClock 0 2 2
     -- 12: no such part, no such row, also where the lead-in is counted, no atom. It comes after 1 to 6.
     ∷ judges ruleE1 planA 1 0 51539607552  -- 12, 0, 0
     ∷ judges ruleE1 planA 0 3 51539607552  -- 12, 0, 0
@@ -180,6 +245,8 @@ pub record MoreSaid : Type 0 where
   pub words : All Gives more
   -- every sheet that is not refused, E1 to E10's among them, and every plan reads as stated
   pub sheets-read : All ReadsAs sheets
+  -- parts of kind 14 are put as stated
+  pub parts-put : All PutsAs sheetsPut
   pub plans-read : All SizedAs plans
   pub runs : All SeesAs sights
   -- every byte string of both tables is bytes, E10's witness being any two bytes

@@ -6,11 +6,11 @@ use lib.IntN.{pos, negℤ}
 use Rattle.cltlb.specs.declared.Term.{Term}
 use Rattle.cltlb.specs.declared.Term.the-variants.{Constant, Reading}
 use Rattle.cltlb.specs.declared.Part.{Part}
-use Rattle.cltlb.specs.declared.Part.the-variants.{Less, Equal, Not, And, Or, Next, Until, Release, Yesterday, WeakYesterday, Since, Trigger, Window}
+use Rattle.cltlb.specs.declared.Part.the-variants.{Less, Equal, Not, And, Or, Next, Until, Release, Yesterday, WeakYesterday, Since, Trigger, Window, Pinned}
 use Rattle.rule.specs.Layout.{partCount, channelCount}
 use Rattle.rule.specs.Take.{partsOf}
 use Rattle.worked_examples.specs.Table.{ruleE1, ruleE2, ruleE3, ruleE4, ruleE5, ruleE6-4096, ruleE6-4093, ruleE7, ruleE8, ruleE9-10, ruleE9-9, ruleE9-0, ruleE10}
-use Rattle.worked_examples.specs.MoreSheets.{ruleKinds, ruleRelease, rulePast, ruleWeak, ruleSince, ruleTrigger, ruleLimit, ruleMet, ruleReach, ruleEightChannels, ruleWindows, ruleHours, ruleFirstDay, ruleDayBefore, ruleBack}
+use Rattle.worked_examples.specs.MoreSheets.{ruleKinds, ruleRelease, rulePast, ruleWeak, ruleSince, ruleTrigger, ruleLimit, ruleMet, ruleReach, ruleEightChannels, ruleWindows, ruleHours, ruleFirstDay, ruleDayBefore, ruleBack, rulePinned, rulePinnedBack, ruleUnder, ruleTopWindows, ruleCourse}
 
 -- the n parts of a sheet from part k on
 unfoldable pub partsFrom : List ℕ → ℕ → ℕ → List Part
@@ -51,6 +51,32 @@ everyKind =
     ∷ Since 0 1
     ∷ Trigger 0 1
     ∷ Window 2 (negℤ (pos 1)) 10078 10077
+    ∷ Pinned 2 (negℤ (pos 1))
+    ∷ []
+
+-- x < 10, -1 < x, 9 < x, x = 9, x = x, 10 = 10, x is pinned
+abbrev pub underTop : List Part
+underTop =
+    Less x (Constant (pos 10))
+    ∷ Less (Constant (negℤ (pos 1))) x
+    ∷ Less (Constant (pos 9)) x
+    ∷ Equal x (Constant (pos 9))
+    ∷ Equal x x
+    ∷ Equal (Constant (pos 10)) (Constant (pos 10))
+    ∷ Pinned 0 (pos 0)
+    ∷ []
+
+-- the rule of the course
+abbrev pub course : List Part
+course =
+    Pinned 0 (pos 0)
+    ∷ Not 0
+    ∷ Equal y (Constant (pos 1))
+    ∷ Not 2
+    ∷ Or 3 1
+    ∷ Release 1 4
+    ∷ Less (Constant (pos 1)) (Constant (pos 0))
+    ∷ Release 6 5
     ∷ []
 
 -- E1 to E10, then the sheets of more examples.
@@ -84,4 +110,9 @@ sheets =
     ∷ reads ruleFirstDay 1 (Window 0 (pos 0) 540 1020 ∷ [])
     ∷ reads ruleDayBefore 1 (Window 0 (negℤ (pos 1)) 540 9181 ∷ [])
     ∷ reads ruleBack 1 (Window 0 (negℤ (pos 3)) 0 10079 ∷ Window 0 (negℤ (pos 4)) 0 10079 ∷ [])
+    ∷ reads rulePinned 1 (Pinned 0 (pos 0) ∷ [])
+    ∷ reads rulePinnedBack 1 (Pinned 0 (negℤ (pos 1)) ∷ Pinned 0 (negℤ (pos 2)) ∷ [])
+    ∷ reads ruleUnder 1 underTop
+    ∷ reads ruleTopWindows 1 (Window 0 (pos 0) 540 1020 ∷ Window 0 (pos 0) 9000 9500 ∷ [])
+    ∷ reads ruleCourse 2 course
     ∷ []

@@ -4,7 +4,7 @@ use mathlib.Core.Bool.{_&&_}
 use mir.Syntax.{w32}
 use mir.ValLaws.{toZ-ofZ}
 use Rattle.cltlb.specs.Fits.{atomFits}
-use Rattle.cltlb.proofs.Fits.{fits-window}
+use Rattle.cltlb.proofs.Fits.{fits-window, fits-pinned}
 use borrow.Author.Needs.{needs}
 use Rattle.cltlb.proofs.atom_fits.Statement.{statement}
 use Rattle.cltlb.proofs.atom_fits.Tie as tie
@@ -49,6 +49,12 @@ term-fits-requires-5 c κs = search needs
 window-fits-requires : tie.Need-window-fits-requires
 window-fits-requires c κs = search needs
 
+enum-known-x-4 : tie.Need-enum-known-x-4
+enum-known-x-4 c = search needs
+
+term-fits-requires-6 : tie.Need-term-fits-requires-6
+term-fits-requires-6 c κs = search needs
+
 -- src/lib.rt:153:1
 returns : tie.Need-returns
 unfolding atomFits
@@ -72,6 +78,12 @@ returns-3 c =
     let known-told3 = c .before .before .known-told3 in
     fits-window _ (x3 .given .1) (toZ-ofZ w32 _ (record { sfits = known-told3 .given .1 .0 .1 })) (c .before .term-fits5 .ensures) (c .window-fits .ensures)
 
+returns-4 : tie.Need-returns-4
+returns-4 c =
+    let x4 = c .before .before .x4 in
+    let known-told4 = c .before .known-told4 in
+    fits-pinned _ (x4 .given .1) (toZ-ofZ w32 _ (record { sfits = known-told4 .given .1 .0 .1 })) (c .term-fits6 .ensures)
+
 pub atom-fits-spec : {M : Type 1} → statement M
 atom-fits-spec =
     tie.close
@@ -85,6 +97,9 @@ atom-fits-spec =
     enum-known-x-3
     term-fits-requires-5
     window-fits-requires
+    enum-known-x-4
+    term-fits-requires-6
     returns
     returns-2
-    returns-3)
+    returns-3
+    returns-4)

@@ -3,7 +3,7 @@ use mathlib.Core.Path.{ap, sym, _∙_}
 use mir.Syntax.{w32}
 use mir.ValLaws.{toZ-ofZ}
 use Rattle.cltlb.specs.Views.{viewOf}
-use Rattle.cltlb.proofs.Views.{view-window}
+use Rattle.cltlb.proofs.Views.{view-window, view-pinned}
 use borrow.Author.Needs.{needs}
 use Rattle.cltlb.proofs.view_of.Statement.{statement}
 use Rattle.cltlb.proofs.view_of.Tie as tie
@@ -104,6 +104,9 @@ two-requires-6 c κs = search needs
 enum-known-part-13 : tie.Need-enum-known-part-13
 enum-known-part-13 c = search needs
 
+enum-known-part-14 : tie.Need-enum-known-part-14
+enum-known-part-14 c = search needs
+
 -- src/lib.rt:97:1
 returns : tie.Need-returns
 returns c = sym (ap viewOf (c .before .part .given .1))
@@ -156,6 +159,9 @@ returns-12 c = c .two6 .ensures ∙ sym (ap viewOf (c .before .before .part12 .g
 returns-13 : tie.Need-returns-13
 returns-13 c = view-window (toZ-ofZ w32 _ (record { sfits = c .known-told13 .given .1 .0 .1 })) (c .before .part13 .given .1)
 
+returns-14 : tie.Need-returns-14
+returns-14 c = view-pinned (toZ-ofZ w32 _ (record { sfits = c .known-told14 .given .1 .0 .1 })) (c .before .part14 .given .1)
+
 pub view-of-spec : {M : Type 1} → statement M
 view-of-spec =
     tie.close
@@ -183,6 +189,7 @@ view-of-spec =
     enum-known-part-12
     two-requires-6
     enum-known-part-13
+    enum-known-part-14
     returns
     returns-2
     returns-3
@@ -195,4 +202,5 @@ view-of-spec =
     returns-10
     returns-11
     returns-12
-    returns-13)
+    returns-13
+    returns-14)

@@ -6,6 +6,6 @@ use Rattle.plan.specs.declared.sizes.Sizes.{Sizes}
 abbrev pub laidSizes : Sizes → ℕ → Sizes
 laidSizes z n = record { channels = z .channels; start = z .start + n * z .cycle; cycle = z .cycle; lead = z .lead }
 
--- the bytes of the largest plan: 8 channels on 260 rows that are stored, and the sizes
+-- the bytes of the largest plan: 8 channels on 260 rows that are stored, the sizes and the tops
 abbrev pub mostPlan : ℕ
-mostPlan = 16648
+mostPlan = 16680

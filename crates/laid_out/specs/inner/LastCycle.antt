@@ -3,9 +3,8 @@ use Prim.Native.Nat.{ℕ, _+_}
 use mathlib.Core.Bool.{Bool, not}
 use mathlib.Core.List.{List}
 use Rattle.fields.specs.TwosComplement.{signedFits}
-use Rattle.plan.specs.Layout.{channels, startRows, cycleRows}
+use Rattle.plan.specs.Layout.{channels, startRows, cycleRows, anyBelow}
 use Rattle.plan.specs.Run.{readingOn}
-use Rattle.plan.specs.Refusals.{anyBelow}
 
 module _ (plan : List ℕ) where
   -- the reading of a channel,

@@ -4,12 +4,13 @@ use mathlib.Core.Bool.{Bool, true, false, not, Bool·beq}
 use mathlib.Core.List.{List}
 use Rattle.fields.specs.inner.Biased.{unbiased}
 use Rattle.verdict.specs.Lines.{Line}
-use Rattle.verdict.specs.Comparisons.{testOf, judgeLines}
+use Rattle.verdict.specs.Comparisons.{testOf, tested, judgeLines}
+use Rattle.verdict.specs.Tops.{judgeUnder}
 use Rattle.verdict.specs.declared.Relation.{Relation}
 use Rattle.verdict.specs.declared.Verdict.{Verdict}
 use Rattle.verdict.specs.declared.Verdict.the-variants.{AlwaysTrue, AlwaysFalse, Changes}
 use Rattle.lanes.specs.declared.columns.Column.{Column}
-use Rattle.lanes.specs.inner.Columns.{numberIn, lineIn}
+use Rattle.lanes.specs.inner.Columns.{numberIn, lineIn, topIn, seenIn}
 
 -- the line that begins at a and gains d on each pass, both kept without a sign
 abbrev pub lineFrom : ℕ → ℕ → Line
@@ -34,3 +35,10 @@ valuesAgree relation values x y mark k = Bool·beq mark (testOf relation (number
 -- the mark says on every pass how the lines of two columns compare
 abbrev pub linesAgree : Relation → List ℕ → List ℕ → Column → Column → Bool → ℕ → Bool
 linesAgree relation values drifts x y mark k = verdictAgrees (judgeLines relation (lineIn values drifts x k) (lineIn values drifts y k)) mark
+
+-- and the same of what is seen in two columns with tops
+abbrev pub seenAgree : Relation → List ℕ → Column → Column → Bool → ℕ → Bool
+seenAgree relation values x y mark k = Bool·beq mark (tested relation (seenIn values x k) (seenIn values y k))
+
+abbrev pub underAgree : Relation → List ℕ → List ℕ → Column → Column → Bool → ℕ → Bool
+underAgree relation values drifts x y mark k = verdictAgrees (judgeUnder relation (topIn x) (lineIn values drifts x k) (topIn y) (lineIn values drifts y k)) mark

@@ -7,8 +7,7 @@ use Rattle.plan.specs.Positions.{rowOf}
 use Rattle.plan.specs.inner.Sizes.{allRows}
 use Rattle.plan.specs.declared.sizes.Sizes.{Sizes}
 use Rattle.table.specs.Layout.{marked}
-use Rattle.verdict.specs.Rows.{testAt}
-use Rattle.verdict.specs.inner.Settled.{judgeFrom}
+use Rattle.verdict.specs.Rows.{testAt, judgeFrom}
 use Rattle.verdict.specs.declared.Comparison.{Comparison}
 use Rattle.lanes.specs.inner.Agreement.{verdictAgrees}
 

@@ -6,8 +6,7 @@ use mathlib.Core.List.{List}
 use lib.Dec.{eqb}
 use lib.IntN.{pos}
 use Rattle.fields.specs.LittleEndian.{numberAt}
-use Rattle.plan.specs.Layout.{channels, leadRows, storedDrift}
-use Rattle.plan.specs.Refusals.{anyBelow}
+use Rattle.plan.specs.Layout.{channels, leadRows, anyBelow, storedDrift}
 
 -- the number at an index of an array is not 0
 unfoldable pub nonZero : List ℕ → ℕ → ℕ → Bool

@@ -3,7 +3,7 @@ use Prim.Native.Nat.{ℕ, _<_}
 use lib.IntN.{ℤ, subℕ}
 use Rattle.cltlb.specs.Run as cltlb
 use Rattle.plan.specs.declared.lookup.Seen.{Seen}
-use Rattle.plan.specs.declared.lookup.Seen.the-variants.{Number, BeforeRun}
+use Rattle.plan.specs.declared.lookup.Seen.the-variants.{Number, Pinned, BeforeRun}
 
 -- the passes that the lookups reach
 abbrev pub passes : ℕ
@@ -23,8 +23,10 @@ valueEnd = 4398046511104
 -- what is seen, of what the code keeps of it
 unfoldable pub seenOf : Seen → cltlb.Seen
 seenOf (Number n) = cltlb.number (lowered n)
+seenOf Pinned = cltlb.pinned
 seenOf BeforeRun = cltlb.beforeRun
 
 abbrev pub Small : Seen → Type 0
 Small (Number n) = n < valueEnd
+Small Pinned = Unit {0}
 Small BeforeRun = Unit {0}

@@ -1,10 +1,11 @@
 -- The sizes that are read from a plan, and plans whose sizes fit. Assumes nothing.
-use Prim.Native.Nat.{ℕ, _+_, _*_, _≤_}
+use Prim.Native.Nat.{ℕ, _+_, _*_, _≤_, _<_}
 use mathlib.Core.Path.{_≡_}
-use mathlib.Core.Bool.{cond}
+use mathlib.Core.Bool.{true, cond}
 use mathlib.Core.List.{List}
 use lib.ListN.{length}
-use Rattle.plan.specs.Layout.{channels, startRows, cycleRows, leadRows, headLength, arrayLength, sizesFit}
+use lib.Signed.{nonNeg}
+use Rattle.plan.specs.Layout.{channels, startRows, cycleRows, leadRows, headLength, arrayLength, topOf, sizesFit}
 use Rattle.plan.specs.inner.Lifted.{passes}
 use Rattle.plan.specs.declared.sizes.Sizes.{Sizes}
 use Rattle.plan.specs.declared.sizes.SizesRead.{SizesRead}
@@ -48,4 +49,5 @@ pub record Fitting (plan : List ℕ) (z : Sizes) : Type 0 where
   pub a-cycle : 1 ≤ z .cycle
   pub few-rows : allRows z ≤ 256
   pub few-lead : z .lead ≤ 4
-  pub whole : length plan ≡ headLength + 2 * arrayLength (z .channels) (allStored z)
+  pub whole : length plan ≡ headLength (z .channels) + 2 * arrayLength (z .channels) (allStored z)
+  pub no-negative : (channel : ℕ) → channel < z .channels → nonNeg (topOf plan channel) ≡ true

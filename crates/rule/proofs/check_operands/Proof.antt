@@ -51,7 +51,12 @@ add-at-2 c = let start = c .before .before .before .before .before in omega (ari
 
 -- src/lib.rt:145:13
 operand-sound-requires : tie.Need-operand-sound-requires Inv-loop μ-loop
-operand-sound-requires c κs = let start = c .before .before .before .before .before in omega (arith, law.known-length (now (start .args .sheet)) (start .args .parts) (start .pre .0))
+operand-sound-requires c κs = let start = c .before .before .before .before .before in
+    let sheet = now (start .args .sheet) in (
+      omega (arith, law.known-length sheet (start .args .parts) (start .pre .0)),
+      law.known-channels sheet (start .args .parts) (start .pre .0) (start .pre .1),
+      law.known-shape sheet (start .args .parts) (start .pre .0) (c .before .before .before .loop .n) (c .before .before .loop-test .taken) (c .shape-of .ensures),
+    )
 
 -- src/lib.rt:146:13
 returns : tie.Need-returns Inv-loop μ-loop

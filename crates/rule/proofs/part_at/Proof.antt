@@ -1,6 +1,6 @@
 use denote.Ref.{now}
 use native.Mathlib.Omega.{arith}
-use mathlib.Core.Path.{_∙_}
+use mathlib.Core.Path.{sym, _∙_}
 use Rattle.rule.proofs.SizesKnown.{counts-known}
 use Rattle.rule.proofs.Taking as law
 use borrow.Author.Needs.{needs}
@@ -49,7 +49,8 @@ add-at-2 c = let start = c .before .before .before .before .before in omega (ari
 
 -- src/lib.rt:61:8
 operand-sound-requires : tie.Need-operand-sound-requires
-operand-sound-requires c κs = let start = c .before .before .before .before .before in omega (arith, counts-known (now (start .args .sheet)) (start .pre .0), start .pre .1)
+operand-sound-requires c κs = let start = c .before .before .before .before .before in
+    let known = counts-known (now (start .args .sheet)) (start .pre .0) in (omega (arith, known, start .pre .1), known .3, sym (c .before .is-unknown .ensures) ∙ c .if1 .left)
 
 -- src/lib.rt:62:21
 part-on-requires : tie.Need-part-on-requires

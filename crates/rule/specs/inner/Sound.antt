@@ -1,7 +1,7 @@
 -- What is asked of the bytes of a term and of an operand before a part is made of them, and what is made then. Assumes nothing.
 use Prim.Native.Nat.{ℕ}
 use mathlib.Core.Path.{_≡_}
-use mathlib.Core.Bool.{Bool, false, _&&_}
+use mathlib.Core.Bool.{Bool, true, false, _&&_}
 use lib.Dec.{ltb}
 use Rattle.cltlb.specs.declared.Term.{Term}
 use Rattle.cltlb.specs.declared.Term.the-variants.{Constant, Reading}
@@ -10,15 +10,23 @@ use Rattle.cltlb.specs.Fits.{termFits, windowFits}
 use Rattle.rule.specs.declared.terms.TermRead.{TermRead}
 use Rattle.rule.specs.declared.terms.TermRead.the-variants as R
 use Rattle.rule.specs.declared.operands.Operand.{Operand}
-use Rattle.rule.specs.declared.operands.Operand.the-variants.{Terms, One, Two, Window}
+use Rattle.rule.specs.declared.operands.Operand.the-variants.{Terms, One, Two, Window, Pinned}
 use Rattle.rule.specs.declared.operands.OperandRead.{OperandRead}
 use Rattle.rule.specs.declared.operands.OperandRead.the-variants as O
+use Rattle.rule.specs.declared.operands.Shape.{Shape}
+use Rattle.rule.specs.declared.operands.Shape.the-variants as S
 use Rattle.rule.specs.Kinds.{partOf}
 
 -- a term, and one that fits V channels
 unfoldable pub termSound : ℕ → TermRead → Bool
 termSound v (R.Term x) = termFits v x
 termSound v R.Broken = false
+
+-- a constant, which always fits
+unfoldable pub constantSound : TermRead → Bool
+constantSound (R.Term (Constant z)) = true
+constantSound (R.Term (Reading channel shift)) = false
+constantSound R.Broken = false
 
 -- a reading, and one that fits
 unfoldable pub readingSound : ℕ → TermRead → Bool
@@ -32,6 +40,16 @@ operandFits v n (Terms x y) = termFits v x && termFits v y
 operandFits v n (One a) = ltb a n
 operandFits v n (Two a b) = ltb a n && ltb b n
 operandFits v n (Window channel shift from to) = termFits v (Reading channel shift) && windowFits from to
+operandFits v n (Pinned channel shift) = termFits v (Reading channel shift)
+
+-- the shapes of atoms, which name no part
+abbrev pub ofAtom : Shape → Bool
+ofAtom S.Comparison = true
+ofAtom S.NamesOne = false
+ofAtom S.NamesTwo = false
+ofAtom S.Window = true
+ofAtom S.Pinned = true
+ofAtom S.Unknown = false
 
 -- an operand, and one that fits
 unfoldable pub operandSound : ℕ → ℕ → OperandRead → Bool

@@ -3,7 +3,7 @@ use Rattle.fields.specs.inner.Ranges.{SignedFits}
 use Rattle.cltlb.specs.declared.Term.{Term}
 use Rattle.cltlb.specs.declared.Term.the-variants.{Constant, Reading}
 use Rattle.rule.specs.declared.operands.Operand.{Operand}
-use Rattle.rule.specs.declared.operands.Operand.the-variants.{Terms, One, Two, Window}
+use Rattle.rule.specs.declared.operands.Operand.the-variants.{Terms, One, Two, Window, Pinned}
 
 unfoldable pub WordTerm : Term → Type 0
 WordTerm (Constant z) = SignedFits 4 z
@@ -14,3 +14,4 @@ WordOperand (Terms x y) = WordTerm x × WordTerm y
 WordOperand (One a) = Unit {0}
 WordOperand (Two a b) = Unit {0}
 WordOperand (Window channel shift from to) = Unit {0}
+WordOperand (Pinned channel shift) = Unit {0}

@@ -1,3 +1,4 @@
+-- `runsettle::plan_length` meets its contract. Assumes nothing.
 use Prim.Native.Nat.{ℕ, _+_, _*_}
 use mathlib.Core.Path.{ap₂}
 use native.Mathlib.Omega.{arith}
@@ -26,40 +27,51 @@ u16-at-requires-3 c κs = search needs
 u16-at-requires-4 : tie.Need-u16-at-requires-4
 u16-at-requires-4 c κs = search needs
 
--- src/main.rt:21:24
+-- src/main.rt:21:9
+mul-result : tie.Need-mul-result
+mul-result c = search needs
+
+-- src/main.rt:21:5
 add-result : tie.Need-add-result
 add-result c = search needs
 
--- src/main.rt:21:19
+-- src/main.rt:21:32
 add-result-2 : tie.Need-add-result-2
 add-result-2 c = search needs
 
--- src/main.rt:21:14
-mul-result : tie.Need-mul-result
-mul-result c =
-    let u16-at4 = c .u16-at4 in
-    let u16-at3 = c .before .u16-at3 in
-    let u16-at2 = c .before .before .u16-at2 in
-    let u16-at = c .before .before .before .u16-at in
-    let u16-at4 = u16-at4 in let u16-at3 = u16-at3 in let u16-at2 = u16-at2 in let u16-at = u16-at in let small = product-small (u16-at .ensures .1) (u16-at2 .ensures .1) (u16-at3 .ensures .1) (u16-at4 .ensures .1) in omega arith
+-- src/main.rt:21:27
+add-result-3 : tie.Need-add-result-3
+add-result-3 c = search needs
 
--- src/main.rt:21:9
+-- src/main.rt:21:22
 mul-result-2 : tie.Need-mul-result-2
 mul-result-2 c =
     let u16-at4 = c .u16-at4 in
     let u16-at3 = c .before .u16-at3 in
     let u16-at2 = c .before .before .u16-at2 in
     let u16-at = c .before .before .before .u16-at in
-    let u16-at4 = u16-at4 in let u16-at3 = u16-at3 in let u16-at2 = u16-at2 in let u16-at = u16-at in let small = product-small (u16-at .ensures .1) (u16-at2 .ensures .1) (u16-at3 .ensures .1) (u16-at4 .ensures .1) in omega arith
+    let small = product-small (u16-at .ensures .1) (u16-at2 .ensures .1) (u16-at3 .ensures .1) (u16-at4 .ensures .1) in
+    omega (arith, u16-at .ensures .1)
 
--- src/main.rt:21:5
-add-result-3 : tie.Need-add-result-3
-add-result-3 c =
+-- src/main.rt:21:17
+mul-result-3 : tie.Need-mul-result-3
+mul-result-3 c =
     let u16-at4 = c .u16-at4 in
     let u16-at3 = c .before .u16-at3 in
     let u16-at2 = c .before .before .u16-at2 in
     let u16-at = c .before .before .before .u16-at in
-    let u16-at4 = u16-at4 in let u16-at3 = u16-at3 in let u16-at2 = u16-at2 in let u16-at = u16-at in let small = product-small (u16-at .ensures .1) (u16-at2 .ensures .1) (u16-at3 .ensures .1) (u16-at4 .ensures .1) in omega arith
+    let small = product-small (u16-at .ensures .1) (u16-at2 .ensures .1) (u16-at3 .ensures .1) (u16-at4 .ensures .1) in
+    omega (arith, u16-at .ensures .1)
+
+-- src/main.rt:21:5
+add-result-4 : tie.Need-add-result-4
+add-result-4 c =
+    let u16-at4 = c .u16-at4 in
+    let u16-at3 = c .before .u16-at3 in
+    let u16-at2 = c .before .before .u16-at2 in
+    let u16-at = c .before .before .before .u16-at in
+    let small = product-small (u16-at .ensures .1) (u16-at2 .ensures .1) (u16-at3 .ensures .1) (u16-at4 .ensures .1) in
+    omega (arith, u16-at .ensures .1)
 
 -- src/main.rt:13:1
 returns : tie.Need-returns
@@ -69,7 +81,7 @@ returns c =
     let u16-at3 = c .before .u16-at3 in
     let u16-at2 = c .before .before .u16-at2 in
     let u16-at = c .before .before .before .u16-at in
-    ap₂ (λ (v w : ℕ). 8 + 8 * (v * w)) (u16-at .ensures .0)
+    ap₂ (λ (v w : ℕ). 8 + 4 * v + 8 * (v * w)) (u16-at .ensures .0)
     (ap₂ _+_ (u16-at4 .ensures .0) (ap₂ _+_ (u16-at2 .ensures .0) (u16-at3 .ensures .0)))
 
 pub plan-length-spec : {M : Type 1} → statement M
@@ -80,9 +92,11 @@ plan-length-spec =
     u16-at-requires-2
     u16-at-requires-3
     u16-at-requires-4
+    mul-result
     add-result
     add-result-2
-    mul-result
-    mul-result-2
     add-result-3
+    mul-result-2
+    mul-result-3
+    add-result-4
     returns)

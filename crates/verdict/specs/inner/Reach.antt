@@ -9,6 +9,7 @@ use Rattle.cltlb.specs.declared.Term.the-variants.{Constant, Reading}
 use Rattle.cltlb.specs.declared.Atom.{Atom}
 use Rattle.plan.specs.declared.sizes.Sizes.{Sizes}
 use Rattle.verdict.specs.declared.Comparison.{Comparison}
+use Rattle.verdict.specs.declared.Relation.the-variants.{Pinned}
 
 -- how far back a shift and a term reach
 unfoldable pub back : ℤ → ℕ
@@ -26,6 +27,10 @@ FitsSome x = (v : ℕ) × (atomFits v x ≡ true)
 -- both terms of a comparison fit the plan's channels
 abbrev pub TermsFit : Sizes → Comparison → Type 0
 TermsFit z x = (termFits (z .channels) (x .left) ≡ true) × (termFits (z .channels) (x .right) ≡ true)
+
+-- a comparison that asks nothing of its right term does not reach back by that
+abbrev pub AsksLeft : Comparison → Type 0
+AsksLeft x = x .relation ≡ Pinned → reach (x .right) ≡ 0
 
 -- the latest position at which a term is looked at: what it reads, at most 4 later, is in reach of the lookups
 abbrev pub latest : Sizes → ℕ

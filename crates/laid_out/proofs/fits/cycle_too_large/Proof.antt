@@ -3,8 +3,8 @@ use Prim.Native.Nat.{_+_, _-_, _≤_}
 use native.Mathlib.Omega.{arith}
 use mathlib.Core.Path.{_≡_, sym, _∙_}
 use mathlib.Core.Bool.{false}
-use Rattle.plan.specs.Refusals.{anyBelow}
-use Rattle.plan.proofs.Drifts.{none-below, none-more}
+use Rattle.plan.specs.Layout.{anyBelow}
+use Rattle.plan.proofs.Searches.{none-below, none-more}
 use Rattle.laid_out.specs.inner.LastCycle.{rowTooLarge}
 use Rattle.laid_out.proofs.LastCycle.{row-large, cycle-fits}
 use borrow.Author.Needs.{needs}

@@ -8,66 +8,66 @@ use Rattle.lanes.proofs.rows.direct_lines.Tie as tie
 use Rattle.lanes.proofs.rows.direct_lines.Reads as reads
 use Rattle.lanes.proofs.rows.direct_lines.Lts as lts
 use Rattle.lanes.proofs.columns.column_of.Reads as column-of-reads
-use Rattle.lanes.proofs.sweeps.lines_agree.Reads as lines-agree-reads
+use Rattle.lanes.proofs.tops.under_agree.Reads as under-agree-reads
 use Rattle.table.proofs.bytes.place.Reads as place-reads
 
--- src/rows.rt:149:9
+-- src/rows.rt:138:9
 returns : tie.Need-returns
 returns c = law.none-swept _ _ _ (c .if1 .taken)
 
--- src/rows.rt:151:13
+-- src/rows.rt:140:13
 add-w : tie.Need-add-w
 add-w c =
     let start = c .before .before .before .before .before in
     omega (arith, law.few-all (start .pre .0))
 
--- src/rows.rt:152:16
+-- src/rows.rt:141:16
 add-lane : tie.Need-add-lane
 add-lane c =
     let start = c .before .before .before .before .before .before in
     omega (arith, law.few-all (start .pre .0))
 
--- src/rows.rt:153:17
+-- src/rows.rt:142:17
 add-first : tie.Need-add-first
 add-first c =
     let start = c .before .before .before .before .before .before .before in
     omega (arith, law.few-all (start .pre .0), start .pre .0 .few-rows)
 
--- src/rows.rt:161:9
+-- src/rows.rt:150:9
 column-of-requires : tie.Need-column-of-requires
 column-of-requires c κs =
     let start = c .before .before .before .before .before .before .before in
     let if1 = c .before .before .before .if1 in
     law.left-column (start .pre .0) (if1 .left)
 
--- src/rows.rt:162:9
+-- src/rows.rt:151:9
 column-of-requires-2 : tie.Need-column-of-requires-2
 column-of-requires-2 c κs =
     let start = c .before .before .before .before .before .before .before .before in
     let if1 = c .before .before .before .before .if1 in
     law.right-column (start .pre .0) (if1 .left)
 
--- src/rows.rt:164:9
+-- src/rows.rt:153:9
 place-requires : tie.Need-place-requires
 place-requires c κs =
     let start = c .before .before .before .before .before .before .before .before .before in
     let if1 = c .before .before .before .before .before .if1 in
     (law.at-place (start .pre .0) .0, law.at-place (start .pre .0) .1, law.at-place (start .pre .0) .2 (if1 .left))
 
--- src/rows.rt:165:9
-sub-lines-agree : tie.Need-sub-lines-agree
-sub-lines-agree c = search needs
+-- src/rows.rt:154:9
+sub-under-agree : tie.Need-sub-under-agree
+sub-under-agree c = search needs
 
--- src/rows.rt:157:5
-lines-agree-requires : tie.Need-lines-agree-requires
-lines-agree-requires c κs =
+-- src/rows.rt:146:5
+under-agree-requires : tie.Need-under-agree-requires
+under-agree-requires c κs =
     let start = c .before .before .before .before .before .before .before .before .before .before in
     let if1 = c .before .before .before .before .before .before .if1 in
     let column-of = c .before .before .column-of in
     let column-of2 = c .before .column-of2 in
-    (law.in-lanes (start .pre .0) (if1 .left) (column-of .result) (column-of2 .result) (column-of .ensures) (column-of2 .ensures) (start .pre .1), law.in-lanes (start .pre .0) (if1 .left) (column-of .result) (column-of2 .result) (column-of .ensures) (column-of2 .ensures) (start .pre .2 (if1 .left)), law.in-marks (start .pre .0) (if1 .left) _ (c .place .ensures))
+    (law.in-lanes (start .pre .0) (if1 .left) (column-of .result) (column-of2 .result) (column-of .ensures) (column-of2 .ensures) (start .pre .1), law.in-lanes (start .pre .0) (if1 .left) (column-of .result) (column-of2 .result) (column-of .ensures) (column-of2 .ensures) (start .pre .2 (if1 .left)), law.in-marks (start .pre .0) (if1 .left) _ (c .place .ensures), law.small-tops (start .pre .0) (if1 .left) (column-of .result) (column-of2 .result) (column-of .ensures) (column-of2 .ensures) .0, law.small-tops (start .pre .0) (if1 .left) (column-of .result) (column-of2 .result) (column-of .ensures) (column-of2 .ensures) .1)
 
--- src/rows.rt:132:1
+-- src/rows.rt:121:1
 returns-2 : tie.Need-returns-2
 returns-2 c =
     let start = c .before .before .before .before .before .before .before .before .before .before .before in
@@ -75,7 +75,7 @@ returns-2 c =
     let column-of = c .before .before .before .column-of in
     let column-of2 = c .before .before .column-of2 in
     let place = c .before .place in
-    law.lines-said (start .pre .0) (if1 .left) (column-of .result) (column-of2 .result) (column-of .ensures) (column-of2 .ensures) _ (place .ensures) (now (start .args .values)) (now (start .args .drifts)) (c .lines-agree .ensures)
+    law.lines-said (start .pre .0) (if1 .left) (column-of .result) (column-of2 .result) (column-of .ensures) (column-of2 .ensures) _ (place .ensures) (now (start .args .values)) (now (start .args .drifts)) (c .under-agree .ensures)
 
 pub direct-lines-spec : {M : Type 1} → statement M
 direct-lines-spec =
@@ -88,6 +88,6 @@ direct-lines-spec =
     column-of-requires
     column-of-requires-2
     place-requires
-    sub-lines-agree
-    lines-agree-requires
+    sub-under-agree
+    under-agree-requires
     returns-2)

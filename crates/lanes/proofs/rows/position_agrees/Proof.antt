@@ -6,7 +6,7 @@ use Rattle.lanes.proofs.rows.position_agrees.Statement.{statement}
 use Rattle.lanes.proofs.rows.position_agrees.Tie as tie
 use Rattle.lanes.proofs.rows.position_agrees.Reads as reads
 use Rattle.lanes.proofs.rows.position_agrees.Lts as lts
-use Rattle.lanes.proofs.rows.verdict_agrees.Reads as verdict-agrees-reads
+use Rattle.lanes.proofs.sweeps.verdict_agrees.Reads as verdict-agrees-reads
 use Rattle.table.proofs.sweeps.agree.Reads as agree-reads
 use Rattle.verdict.proofs.rows.judge_from.Reads as judge-from-reads
 use Rattle.verdict.proofs.rows.test_at.Reads as test-at-reads

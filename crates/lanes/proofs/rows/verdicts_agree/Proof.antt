@@ -3,7 +3,6 @@ use Prim.Native.Nat.{_+_, max, _≤_}
 use native.Mathlib.Omega.{arith}
 use mathlib.Core.Path.{_≡_, ap₂, _∙_}
 use Rattle.verdict.specs.inner.Reach.{reach}
-use Rattle.verdict.proofs.Landed.{shift-fits}
 use Rattle.verdict.proofs.Values.{farther-le, farther-in}
 use Rattle.lanes.proofs.AllRows as law
 use Rattle.lanes.proofs.AllRows.{Ranged}
@@ -21,7 +20,7 @@ use Rattle.lanes.proofs.rows.still_one_by_one.Reads as still-one-by-one
 use Rattle.table.proofs.bytes.place.Reads as place-reads
 use Rattle.table.proofs.sweeps.none_marked.Reads as none-marked-reads
 use Rattle.verdict.proofs.bounds.larger.Reads as larger-reads
-use Rattle.verdict.proofs.terms.code_in.Reads as code-in-reads
+use Rattle.lanes.proofs.columns.side_of.Reads as side-of-reads
 use Rattle.verdict.proofs.terms.reach_of.Reads as reach-of-reads
 
 -- src/rows.rt:177:13
@@ -29,12 +28,16 @@ add-w : tie.Need-add-w
 add-w c = search needs
 
 -- src/rows.rt:180:9
-code-in-requires : tie.Need-code-in-requires
-code-in-requires c κs = shift-fits _ _ (c .before .before .before .before .before .pre .4 .0)
+side-of-requires : tie.Need-side-of-requires
+side-of-requires c κs =
+    let start = c .before .before .before .before .before in
+    (start .pre .0, start .pre .4 .0)
 
 -- src/rows.rt:181:9
-code-in-requires-2 : tie.Need-code-in-requires-2
-code-in-requires-2 c κs = shift-fits _ _ (c .before .before .before .before .before .before .pre .4 .1)
+side-of-requires-2 : tie.Need-side-of-requires-2
+side-of-requires-2 c κs =
+    let start = c .before .before .before .before .before .before in
+    (start .pre .0, start .pre .4 .1)
 
 -- src/rows.rt:182:23
 reach-of-requires : tie.Need-reach-of-requires
@@ -56,7 +59,10 @@ larger-requires-2 c κs = search needs
 farther : (c : tie.After-larger) →
     let x = c .before .before .before .before .before .before .before .before .before .before .args .comparison in
     c .larger .result ≡ max (reach (x .left)) (reach (x .right))
-farther c = c .larger .ensures ∙ ap₂ max (c .before .before .reach-of .ensures) (c .before .reach-of2 .ensures)
+farther c =
+    let reach-of = c .before .before .reach-of in
+    let reach-of2 = c .before .reach-of2 in
+    c .larger .ensures ∙ ap₂ max (reach-of .ensures) (reach-of2 .ensures)
 
 few-back : (c : tie.After-larger) → c .larger .result ≤ 4
 few-back c =
@@ -66,29 +72,29 @@ few-back c =
 -- src/rows.rt:183:9
 ranges-of-requires : tie.Need-ranges-of-requires
 ranges-of-requires c κs =
-    let codes = c .before .before .before .before in
-    let start = codes .before .before .before .before .before .before .before in
-    (start .pre .0 .few-rows, few-back (c .before), omega (arith, c .larger2 .ensures, codes .before .code-in .ensures .1, codes .code-in2 .ensures .1))
+    let sides = c .before .before .before .before in
+    let start = sides .before .before .before .before .before .before .before in
+    (start .pre .0 .few-rows, few-back (c .before), omega (arith, c .larger2 .ensures, sides .before .side-of .ensures .few, sides .side-of2 .ensures .few))
 
 -- what is known once the ranges are found
 ranged : (c : tie.After-ranges-of) →
-    let codes = c .before .before .before .before .before in
-    let args = codes .before .before .before .before .before .before .before .args in
-    Ranged (now (args .plan)) (now (args .table)) (args .sizes) (args .n) (args .i) (args .comparison) (codes .before .code-in .result) (codes .code-in2 .result)
+    let sides = c .before .before .before .before .before in
+    let args = sides .before .before .before .before .before .before .before .args in
+    Ranged (now (args .plan)) (now (args .table)) (args .sizes) (args .n) (args .i) (args .comparison) (sides .before .side-of .result) (sides .side-of2 .result)
     (c .before .before .larger .result) (c .before .larger2 .result) (args .still) (c .ranges-of .result)
 ranged c =
-    let codes = c .before .before .before .before .before in
-    let code-in = codes .before .code-in in
-    let code-in2 = codes .code-in2 in
-    let start = codes .before .before .before .before .before .before .before in
+    let sides = c .before .before .before .before .before in
+    let side-of = sides .before .side-of in
+    let side-of2 = sides .side-of2 in
+    let start = sides .before .before .before .before .before .before .before in
     record {
       fitting = start .pre .0;
       sized = start .pre .2;
       present = start .pre .3;
       terms-fit = start .pre .4;
-      small = (code-in .ensures .1, code-in2 .ensures .1);
-      left-code = code-in .ensures .0;
-      right-code = code-in2 .ensures .0;
+      asks-left = start .pre .5;
+      left-side = side-of .ensures;
+      right-side = side-of2 .ensures;
       farther = farther (c .before .before);
       higher = c .before .larger2 .ensures;
       divided = c .ranges-of .ensures;
@@ -172,8 +178,8 @@ verdicts-agree-spec =
     tie.close
     (tie.spec
     add-w
-    code-in-requires
-    code-in-requires-2
+    side-of-requires
+    side-of-requires-2
     reach-of-requires
     reach-of-requires-2
     larger-requires

@@ -12,6 +12,7 @@ use Rattle.lanes.proofs.sweeps.less_lines.Reads as less-lines-reads
 use Rattle.lanes.proofs.sweeps.same_stay.Reads as same-stay-reads
 use Rattle.lanes.proofs.sweeps.same_values.Reads as same-values-reads
 use Rattle.lanes.proofs.weeks.within_lines.Reads as within-lines-reads
+use Rattle.table.proofs.sweeps.none_marked.Reads as none-marked-reads
 
 -- src/sweeps.rt:182:28
 enum-told : tie.Need-enum-told
@@ -41,6 +42,14 @@ enum-known-relation c = search needs
 within-lines-requires : tie.Need-within-lines-requires
 within-lines-requires c κs = search needs
 
+enum-told-3 : tie.Need-enum-told-3
+enum-told-3 c = search needs
+
+none-marked-requires : tie.Need-none-marked-requires
+none-marked-requires c κs =
+    let start = c .before .before .before .before .before in
+    (start .pre .2 .there, start .pre .2 .few)
+
 -- src/sweeps.rt:168:1
 returns : tie.Need-returns
 returns c =
@@ -69,6 +78,11 @@ returns-4 c =
     let relation = c .before .before .relation in
     law.lines-by (now (start .args .values)) (start .args .x) (start .args .y) (λ (k : ℕ). markIn (now (start .args .table)) (start .args .m + k)) (start .args .count) (relation .given .1) (now (start .args .drifts)) (c .within-lines .ensures)
 
+returns-5 : tie.Need-returns-5
+returns-5 c =
+    let start = c .before .before .before .before .before .before in
+    law.lines-none (now (start .args .values)) (start .args .x) (start .args .y) (λ (k : ℕ). markIn (now (start .args .table)) (start .args .m + k)) (start .args .count) (c .before .enum-told3 .given .1) (c .none-marked .ensures) (now (start .args .drifts))
+
 pub lines-agree-spec : {M : Type 1} → statement M
 lines-agree-spec =
     tie.close
@@ -80,7 +94,10 @@ lines-agree-spec =
     same-stay-requires
     enum-known-relation
     within-lines-requires
+    enum-told-3
+    none-marked-requires
     returns
     returns-2
     returns-3
-    returns-4)
+    returns-4
+    returns-5)

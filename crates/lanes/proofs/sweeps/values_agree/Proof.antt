@@ -11,6 +11,7 @@ use Rattle.lanes.proofs.sweeps.values_agree.Lts as lts
 use Rattle.lanes.proofs.sweeps.less_values.Reads as less-values-reads
 use Rattle.lanes.proofs.sweeps.same_values.Reads as same-values-reads
 use Rattle.lanes.proofs.weeks.within_values.Reads as within-values-reads
+use Rattle.table.proofs.sweeps.none_marked.Reads as none-marked-reads
 
 -- src/sweeps.rt:161:28
 enum-told : tie.Need-enum-told
@@ -36,6 +37,14 @@ enum-known-relation c = search needs
 within-values-requires : tie.Need-within-values-requires
 within-values-requires c κs = search needs
 
+enum-told-3 : tie.Need-enum-told-3
+enum-told-3 c = search needs
+
+none-marked-requires : tie.Need-none-marked-requires
+none-marked-requires c κs =
+    let start = c .before .before .before .before in
+    (start .pre .1 .there, start .pre .1 .few)
+
 -- src/sweeps.rt:148:1
 returns : tie.Need-returns
 returns c =
@@ -55,6 +64,11 @@ returns-3 c =
     let relation = c .before .before .relation in
     law.values-by (now (start .args .values)) (start .args .x) (start .args .y) (λ (k : ℕ). markIn (now (start .args .table)) (start .args .m + k)) (start .args .count) (relation .given .1) (c .within-values .ensures)
 
+returns-4 : tie.Need-returns-4
+returns-4 c =
+    let start = c .before .before .before .before .before in
+    law.values-none (now (start .args .values)) (start .args .x) (start .args .y) (λ (k : ℕ). markIn (now (start .args .table)) (start .args .m + k)) (start .args .count) (c .before .enum-told3 .given .1) (c .none-marked .ensures)
+
 pub values-agree-spec : {M : Type 1} → statement M
 values-agree-spec =
     tie.close
@@ -65,6 +79,9 @@ values-agree-spec =
     same-values-requires
     enum-known-relation
     within-values-requires
+    enum-told-3
+    none-marked-requires
     returns
     returns-2
-    returns-3)
+    returns-3
+    returns-4)

@@ -28,7 +28,7 @@ verdicts-agree-requires c κs =
     let start = c .before .before .before .before .before .before .before .before in
     let view = c .before .before .view in
     let comparison-of = c .comparison-of in
-    (start .pre .0 .fits, start .pre .2, start .pre .0 .sized, start .pre .0 .present, atom-fit (start .args .sizes) _ (law.atom-there (now (start .args .plan)) (now (start .args .table)) (start .pre .0 .fits) (start .args .i) _ (view .given .1) (start .args .n) (start .pre .0 .part-fits)) (comparison-of .ensures))
+    (start .pre .0 .fits, start .pre .2, start .pre .0 .sized, start .pre .0 .present, atom-fit (start .args .sizes) _ (law.atom-there (now (start .args .plan)) (now (start .args .table)) (start .pre .0 .fits) (start .args .i) _ (view .given .1) (start .args .n) (start .pre .0 .part-fits)) (comparison-of .ensures), law.asked (start .args .sizes .channels) _ (law.atom-there (now (start .args .plan)) (now (start .args .table)) (start .pre .0 .fits) (start .args .i) _ (view .given .1) (start .args .n) (start .pre .0 .part-fits)) (comparison-of .ensures))
 
 -- src/refusals.rt:72:24
 enum-known-view-2 : tie.Need-enum-known-view-2

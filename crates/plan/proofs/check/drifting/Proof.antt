@@ -4,7 +4,9 @@ use native.Mathlib.Omega.{arith}
 use mathlib.Core.Path.{_≡_, refl, sym}
 use mathlib.Core.Bool.{false}
 use denote.Ref.{now}
-use Rattle.plan.specs.Refusals.{anyBelow, driftsAt}
+use Rattle.plan.specs.Layout.{anyBelow}
+use Rattle.plan.specs.Refusals.{driftsAt}
+use Rattle.plan.proofs.Searches.{none-more}
 use Rattle.plan.proofs.Drifts as drifts
 use borrow.Author.Needs.{needs}
 use Rattle.plan.proofs.check.drifting.Statement.{statement}
@@ -47,7 +49,7 @@ loop-again c =
     let start = c .before .before .before .before .before .before in
     let loop = loop in
     let still = drifts.no-drift (now (start .args .plan)) (start .args .k) (loop .channel) (stored-drift .ensures .0) (c .if2 .left) in
-    (omega arith, drifts.none-more (driftsAt (now (start .args .plan)) (start .args .k)) (loop .channel) (loop .inv .1) still)
+    (omega arith, none-more (driftsAt (now (start .args .plan)) (start .args .k)) (loop .channel) (loop .inv .1) still)
 
 returns-2 : tie.Need-returns-2 Inv-loop μ-loop
 returns-2 c =

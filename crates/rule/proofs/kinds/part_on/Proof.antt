@@ -101,6 +101,18 @@ u16-at-requires-5 c κs = search needs
 enum-told-5 : tie.Need-enum-told-5
 enum-told-5 c = search needs
 
+-- src/kinds.rt:129:27
+channel-on-requires-2 : tie.Need-channel-on-requires-2
+channel-on-requires-2 c κs = search needs
+
+-- src/kinds.rt:129:27
+shift-on-requires-2 : tie.Need-shift-on-requires-2
+shift-on-requires-2 c κs = search needs
+
+-- src/kinds.rt:129:27
+enum-told-6 : tie.Need-enum-told-6
+enum-told-6 c = search needs
+
 -- src/kinds.rt:108:1
 returns : tie.Need-returns
 returns c =
@@ -137,8 +149,17 @@ returns-4 c =
 -- src/kinds.rt:108:1
 returns-5 : tie.Need-returns-5
 returns-5 c =
+    let start = c .before .before .before .before .before in
+    let enum-told5 = c .before .before .enum-told5 in
+    let channel-on2 = c .before .channel-on2 in
+    let shift-on2 = c .shift-on2 in
+    law.pinned-part (now (start .args .s)) (start .args .at) (start .args .kind) (enum-told5 .given .1) (channel-on2 .ensures) (toZ-ofZ w32 (shift-on2 .result) (record { sfits = shift-on2 .ok }) ∙ shift-on2 .ensures)
+
+-- src/kinds.rt:108:1
+returns-6 : tie.Need-returns-6
+returns-6 c =
     let start = c .before .before .before in
-    law.none-part (now (start .args .s)) (start .args .at) (start .args .kind) _ (c .enum-told5 .given .1)
+    law.none-part (now (start .args .s)) (start .args .at) (start .args .kind) _ (c .enum-told6 .given .1)
 
 pub part-on-spec : {M : Type 1} → statement M
 part-on-spec =
@@ -165,8 +186,12 @@ part-on-spec =
     add-u16-at-3
     u16-at-requires-5
     enum-told-5
+    channel-on-requires-2
+    shift-on-requires-2
+    enum-told-6
     returns
     returns-2
     returns-3
     returns-4
-    returns-5)
+    returns-5
+    returns-6)

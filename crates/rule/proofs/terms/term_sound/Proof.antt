@@ -1,48 +1,30 @@
--- `rule::terms::term_sound` meets its contract. Assumes nothing.
 use denote.Ref.{now}
+use Rattle.rule.specs.Terms.{termAt}
 use Rattle.rule.proofs.TermsSound as law
 use borrow.Author.Needs.{needs}
 use Rattle.rule.proofs.terms.term_sound.Statement.{statement}
 use Rattle.rule.proofs.terms.term_sound.Tie as tie
 use Rattle.rule.proofs.terms.term_sound.Reads as reads
 use Rattle.rule.proofs.terms.term_sound.Lts as lts
+use Rattle.rule.proofs.terms.constant_sound.Reads as constant-sound-reads
 use Rattle.rule.proofs.terms.reading_sound.Reads as reading-sound-reads
 
--- src/terms.rt:57:8
-shared-slice-read-if1 : tie.Need-shared-slice-read-if1
-shared-slice-read-if1 c = search needs
+-- src/terms.rt:67:8
+constant-sound-requires : tie.Need-constant-sound-requires
+constant-sound-requires c κs = search needs
 
--- src/terms.rt:58:18
-add-result : tie.Need-add-result
-add-result c = search needs
-
--- src/terms.rt:58:16
-shared-slice-read-result : tie.Need-shared-slice-read-result
-shared-slice-read-result c = search needs
-
--- src/terms.rt:58:9
+-- src/terms.rt:68:9
 returns : tie.Need-returns
-returns c =
-    let start = c .before .before .before .before in
-    law.constant-sound (now (start .args .s)) (start .args .at) (start .args .v) (c .before .if1 .taken)
+returns c = law.sound-constant (c .before .before .before .args .v) (termAt (now (c .before .before .before .args .s)) (c .before .before .before .args .at)) (c .before .constant-sound .ensures) (c .if1 .taken)
 
--- src/terms.rt:60:5
+-- src/terms.rt:70:5
 reading-sound-requires : tie.Need-reading-sound-requires
 reading-sound-requires c κs = search needs
 
--- src/terms.rt:53:1
+-- src/terms.rt:63:1
 returns-2 : tie.Need-returns-2
-returns-2 c =
-    let start = c .before .before .before .before in
-    law.other-sound (now (start .args .s)) (start .args .at) (start .args .v) (c .before .if1 .left) (c .reading-sound .ensures)
+returns-2 c = law.sound-reading (c .before .before .before .before .args .v) (termAt (now (c .before .before .before .before .args .s)) (c .before .before .before .before .args .at)) (c .before .before .constant-sound .ensures) (c .before .if1 .left) (c .reading-sound .ensures)
 
 pub term-sound-spec : {M : Type 1} → statement M
 term-sound-spec =
-    tie.close
-    (tie.spec
-    shared-slice-read-if1
-    add-result
-    shared-slice-read-result
-    returns
-    reading-sound-requires
-    returns-2)
+    tie.close (tie.spec constant-sound-requires returns reading-sound-requires returns-2)

@@ -7,6 +7,7 @@ use Rattle.cltlb.specs.declared.View.{View}
 use Rattle.cltlb.proofs.Fits.{atom-fits, operator-fits, view-more}
 use Rattle.plan.specs.declared.sizes.Sizes.{Sizes}
 use Rattle.table.proofs.Stores.{stored-sized}
+use Rattle.fields.proofs.ByteParts.{as-bytes}
 use Rattle.settling.proofs.Trying.{laid-rows, tried-view, operator-truth, operator-tried}
 use Rattle.laid_out.proofs.LastCycle.{few-passes}
 use borrow.Author.Needs.{needs}
@@ -52,10 +53,11 @@ label-operator-requires c κs =
 closes-made-requires : tie.Need-closes-made-requires
 closes-made-requires c κs =
     let start = c .before .before .before .before .before .before .before .before .before .before .before in
+    let shared-slice-known = c .before .before .before .before .before .before .before .before .before .before .shared-slice-known in
     let label-operator = c .before .before .before .label-operator in
     let laid-sizes = c .before .before .before .before .before .laid-sizes in
     let view2 = c .before .before .before .before .before .before .before .view2 in
-    (stored-sized _ _ (label-operator .ensures) (start .pre .2), omega (arith, ap (λ (q : Sizes). q .start) (laid-sizes .ensures), ap (λ (q : Sizes). q .cycle) (laid-sizes .ensures), laid-rows (now (start .args .plan)) (start .pre .0) (start .args .passes) (start .pre .1) .0), omega (arith, ap (λ (q : Sizes). q .cycle) (laid-sizes .ensures), start .pre .0 .a-cycle), start .pre .3, operator-fits (start .args .sizes .channels) 64 _ (view-more (start .args .sizes .channels) (start .args .sizes .channels) (omega arith) (start .args .i) 64 (omega (arith, start .pre .3)) _ (subst (λ (q : View). viewFits (start .args .sizes .channels) (start .args .i) q ≡ true) (view2 .given .1) (start .pre .4))), operator-truth (now (start .args .plan)) (start .pre .0) (start .args .passes) (start .pre .1) (start .args .i) _ (subst (λ (q : View). viewFits (start .args .sizes .channels) (start .args .i) q ≡ true) (view2 .given .1) (start .pre .4)) (laid-sizes .ensures) (label-operator .ensures))
+    (stored-sized _ _ (label-operator .ensures) (start .pre .2), omega (arith, ap (λ (q : Sizes). q .start) (laid-sizes .ensures), ap (λ (q : Sizes). q .cycle) (laid-sizes .ensures), laid-rows (now (start .args .plan)) (start .pre .0) (start .args .passes) (start .pre .1) .0), omega (arith, ap (λ (q : Sizes). q .cycle) (laid-sizes .ensures), start .pre .0 .a-cycle), start .pre .3, operator-fits (start .args .sizes .channels) 64 _ (view-more (start .args .sizes .channels) (start .args .sizes .channels) (omega arith) (start .args .i) 64 (omega (arith, start .pre .3)) _ (subst (λ (q : View). viewFits (start .args .sizes .channels) (start .args .i) q ≡ true) (view2 .given .1) (start .pre .4))), operator-truth (now (start .args .plan)) (start .pre .0) (start .args .passes) (start .pre .1) (as-bytes (now (start .args .plan)) (λ i. omega (arith, shared-slice-known .given i))) (start .args .i) _ (subst (λ (q : View). viewFits (start .args .sizes .channels) (start .args .i) q ≡ true) (view2 .given .1) (start .pre .4)) (laid-sizes .ensures) (label-operator .ensures))
 
 -- src/parts.rt:48:1
 same-length : tie.Need-same-length
@@ -73,11 +75,12 @@ same-length-2 c = search needs
 returns-2 : tie.Need-returns-2
 returns-2 c =
     let start = c .before .before .before .before .before .before .before .before .before .before .before .before in
+    let shared-slice-known = c .before .before .before .before .before .before .before .before .before .before .before .shared-slice-known in
     let view2 = c .before .before .before .before .before .before .before .before .view2 in
     let laid-sizes = c .before .before .before .before .before .before .laid-sizes in
     let label-operator = c .before .before .before .before .label-operator in
     let closes-made = c .closes-made in
-    tried-view (view2 .given .1) (operator-tried (now (start .args .plan)) (start .pre .0) (start .args .passes) (start .pre .1) (start .args .i) _ (subst (λ (q : View). viewFits (start .args .sizes .channels) (start .args .i) q ≡ true) (view2 .given .1) (start .pre .4)) (laid-sizes .ensures) (label-operator .ensures) (closes-made .ensures))
+    tried-view (view2 .given .1) (operator-tried (now (start .args .plan)) (start .pre .0) (start .args .passes) (start .pre .1) (as-bytes (now (start .args .plan)) (λ i. omega (arith, shared-slice-known .given i))) (start .args .i) _ (subst (λ (q : View). viewFits (start .args .sizes .channels) (start .args .i) q ≡ true) (view2 .given .1) (start .pre .4)) (laid-sizes .ensures) (label-operator .ensures) (closes-made .ensures))
 
 pub try-view-spec : {M : Type 1} → statement M
 try-view-spec =

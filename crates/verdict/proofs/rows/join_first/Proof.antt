@@ -7,10 +7,6 @@ use Rattle.verdict.specs.Rows.{joinFirst}
 use Rattle.verdict.proofs.Values.{passTest, pass-joined, all-joined}
 use Rattle.verdict.proofs.rows.join_first.Statement.{statement}
 use Rattle.verdict.proofs.rows.join_first.Tie as tie
-use Rattle.verdict.proofs.rows.join_first.Reads as reads
-use Rattle.verdict.proofs.rows.join_first.Lts as lts
-use Rattle.verdict.proofs.early.join.Reads as join-reads
-use Rattle.verdict.proofs.rows.test_on.Reads as test-on-reads
 
 abbrev Inv-loop : tie.InvT-loop
 Inv-loop plan sizes comparison left right row n verdict₀ k₀ verdict k = (k ≤ 4) × (joinFirst (passTest plan comparison row) k₀ verdict₀ ≡ joinFirst (passTest plan comparison row) k verdict)
@@ -18,32 +14,26 @@ Inv-loop plan sizes comparison left right row n verdict₀ k₀ verdict k = (k �
 abbrev μ-loop : tie.MeasureT-loop
 μ-loop plan sizes comparison left right row n verdict₀ k₀ verdict k = k
 
--- src/rows.rt:102:5
 loop-holds : tie.Need-loop-holds Inv-loop μ-loop
 loop-holds c =
     let start = c .before in
     (start .pre .5, refl)
 
--- src/rows.rt:103:9
 sub-k : tie.Need-sub-k Inv-loop μ-loop
 sub-k c = omega arith
 
--- src/rows.rt:105:13
 test-on-requires : tie.Need-test-on-requires Inv-loop μ-loop
 test-on-requires c κs =
     let start = c .before .before .before in
     let loop = c .before .loop in
     (start .pre .0, start .pre .1, start .pre .2, start .pre .3, let few : (loop .k - 1) * start .args .sizes .cycle ≤ 4 * start .args .sizes .cycle = mul-le-mul-right (start .args .sizes .cycle) (omega arith) in omega (arith, few))
 
--- src/rows.rt:104:9
 join-requires : tie.Need-join-requires Inv-loop μ-loop
 join-requires c κs = tt
 
--- src/rows.rt:102:5
 loop-less : tie.Need-loop-less Inv-loop μ-loop
 loop-less c = omega arith
 
--- src/rows.rt:102:5
 loop-again : tie.Need-loop-again Inv-loop μ-loop
 loop-again c =
     let start = c .before .before .before .before .before in
@@ -51,7 +41,6 @@ loop-again c =
     let test-on = c .before .test-on in
     (omega arith, pass-joined (start .pre .0) (start .args .comparison) (start .args .row) (loop .k) (omega arith) _ (loop .verdict) (c .join .result) (test-on .result) (loop .inv .1) (test-on .ensures) (c .join .ensures))
 
--- src/rows.rt:87:1
 returns : tie.Need-returns Inv-loop μ-loop
 returns c =
     let loop = c .before .loop in

@@ -4,24 +4,16 @@ use Rattle.verdict.proofs.Values.{test-is}
 use borrow.Author.Needs.{needs}
 use Rattle.verdict.proofs.rows.test_on.Statement.{statement}
 use Rattle.verdict.proofs.rows.test_on.Tie as tie
-use Rattle.verdict.proofs.rows.test_on.Reads as reads
-use Rattle.verdict.proofs.rows.test_on.Lts as lts
-use Rattle.verdict.proofs.rows.compare.Reads as compare-reads
-use Rattle.verdict.proofs.terms.seen_on.Reads as seen-on-reads
 
--- src/rows.rt:81:9
 seen-on-requires : tie.Need-seen-on-requires
 seen-on-requires c κs = search needs
 
--- src/rows.rt:82:9
 seen-on-requires-2 : tie.Need-seen-on-requires-2
 seen-on-requires-2 c κs = search needs
 
--- src/rows.rt:79:5
 compare-requires : tie.Need-compare-requires
 compare-requires c κs = search needs
 
--- src/rows.rt:64:1
 returns : tie.Need-returns
 returns c =
     let start = c .before .before .before .before in

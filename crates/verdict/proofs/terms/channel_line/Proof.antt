@@ -11,7 +11,7 @@ drift-at-requires : tie.Need-drift-at-requires
 drift-at-requires c κs = search needs
 
 returns : tie.Need-returns
-returns c = line-channel _ _ _ _ (c .before .number-at .result) (c .drift-at .result) (c .before .number-at .ensures .0) (c .drift-at .ensures .0)
+returns c = (line-channel _ _ _ _ (c .before .number-at .result) (c .drift-at .result) (c .before .number-at .ensures .0) (c .drift-at .ensures .0), c .before .number-at .ensures .1)
 
 pub channel-line-spec : {M : Type 1} → statement M
 channel-line-spec = tie.close (tie.spec number-at-requires drift-at-requires returns)

@@ -12,33 +12,22 @@ use Rattle.verdict.proofs.Landed.{lands-at, one-code}
 use borrow.Author.Needs.{needs}
 use Rattle.verdict.proofs.terms.seen_on.Statement.{statement}
 use Rattle.verdict.proofs.terms.seen_on.Tie as tie
-use Rattle.verdict.proofs.terms.seen_on.Reads as reads
-use Rattle.verdict.proofs.terms.seen_on.Lts as lts
-use Rattle.verdict.proofs.terms.code_of.Reads as code-of-reads
-use Rattle.verdict.proofs.terms.constant.Reads as constant-reads
-use Rattle.verdict.proofs.terms.seen_on_landing.Reads as seen-on-landing-reads
 
--- src/terms.rt:127:24
 enum-known-term : tie.Need-enum-known-term
 enum-known-term c = search needs
 
--- src/terms.rt:127:43
 constant-requires : tie.Need-constant-requires
 constant-requires c κs = search needs
 
--- src/terms.rt:128:25
 enum-known-term-2 : tie.Need-enum-known-term-2
 enum-known-term-2 c = search needs
 
--- src/terms.rt:133:19
 mul-seen-on-landing : tie.Need-mul-seen-on-landing
 mul-seen-on-landing c = search needs
 
--- src/terms.rt:133:13
 add-seen-on-landing : tie.Need-add-seen-on-landing
 add-seen-on-landing c = search needs
 
--- src/terms.rt:133:37
 code-of-requires : tie.Need-code-of-requires
 code-of-requires c κs =
     let start = c .before .before .before .before .before in
@@ -46,11 +35,9 @@ code-of-requires c κs =
     let known-told2 = c .before .known-told2 in
     ap shiftFits (toZ-ofZ w32 _ (record { sfits = known-told2 .given .1 .0 .1 })) ∙ reading-fits _ _ _ (term2 .given .1) _ (start .pre .1) .1
 
--- src/terms.rt:133:13
 add-seen-on-landing-2 : tie.Need-add-seen-on-landing-2
 add-seen-on-landing-2 c = search needs
 
--- src/terms.rt:128:45
 seen-on-landing-requires : tie.Need-seen-on-landing-requires
 seen-on-landing-requires c κs =
     let start = c .before .before .before .before .before .before in
@@ -60,15 +47,13 @@ seen-on-landing-requires c κs =
     let same = one-code (start .pre .3 .code) (c .code-of .result) (start .pre .3 .is-code ∙ ap shiftIn (term2 .given .1)) code in
     (start .pre .0, reading-fits _ _ _ (term2 .given .1) _ (start .pre .1) .0, omega (arith, start .pre .0 .a-cycle, c .code-of .ensures .1), subst (λ (n : ℕ). LandsAt (now (start .args .plan)) (start .args .sizes) (start .args .landing) (start .args .row + start .args .k * start .args .sizes .cycle + n) (start .args .k)) same (lands-at (start .pre .0) (start .args .row) (start .pre .2) (start .args .term) (start .args .landing) (start .pre .3) (start .args .k)))
 
--- src/terms.rt:122:1
 returns : tie.Need-returns
 returns c =
     let start = c .before .before .before .before .before in
     let term = c .before .before .term in
     let known-told = c .before .known-told in
-    sees-constant _ _ (start .args .row + start .args .k * start .args .sizes .cycle) _ _ (term .given .1) (c .constant .ensures ∙ toZ-ofZ w32 _ (record { sfits = known-told .given .0 .1 }))
+    sees-constant _ _ (start .args .row + start .args .k * start .args .sizes .cycle) _ _ (term .given .1) (c .constant .ensures .0 ∙ toZ-ofZ w32 _ (record { sfits = known-told .given .0 .1 }))
 
--- src/terms.rt:122:1
 returns-2 : tie.Need-returns-2
 returns-2 c =
     let term2 = c .before .before .before .before .term2 in

@@ -38,7 +38,7 @@ returns : tie.Need-returns
 returns c =
     let start = c .before .before .before .before .before in
     let term = c .before .before .term in
-    sees-constant _ _ (start .args .t) _ _ (term .given .1) (c .constant .ensures ∙ toZ-ofZ w32 _ (record { sfits = c .before .known-told .given .0 .1 }))
+    sees-constant _ _ (start .args .t) _ _ (term .given .1) (c .constant .ensures .0 ∙ toZ-ofZ w32 _ (record { sfits = c .before .known-told .given .0 .1 }))
 
 returns-2 : tie.Need-returns-2
 returns-2 c =
