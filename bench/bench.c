@@ -11,14 +11,14 @@
  * for speed lays out the remainders of a channel once for all its windows. All tables are accepted ones:
  * acceptance is the slowest answer, as nothing is left out. The makers make that same
  * table. The settlers have cases of their own: of full size, that settle only when nearly
- * 256 rows are laid out, two by their last part and one by each part in turn, and a small
+ * 256 rows are laid out, most by their last part and one by each part in turn, and a small
  * one.
  *
- * The first figures are of nine cases of full size, 64 parts on 256 rows of 8 channels,
- * one of them with 4 lead-in rows. The others show how the time of the check grows with
- * the rows and with the parts, on rules of one mix throughout: where it grows as parts
- * times rows and no faster, the time for each part and row does not rise. At small sizes
- * it is larger by what is done once for each part or once for the plan.
+ * The first figures are of ten cases of full size, 64 parts on 256 rows of 8 channels,
+ * one of them with 4 lead-in rows and one under tops. The others show how the time of the
+ * check grows with the rows and with the parts, on rules of one mix throughout: where it
+ * grows as parts times rows and no faster, the time for each part and row does not rise.
+ * At small sizes it is larger by what is done once for each part or once for the plan.
  *
  * The two functions of a pair are called on the same bytes, in turn, many times in
  * each round, and all pairs that are shown together have their turn in each round.
@@ -238,7 +238,7 @@ static bool all_refuse(enum kind kind)
 
 static bool refusals_agree(void)
 {
-    static const enum kind kinds[] = { LESS,           EQUAL, WINDOW, YESTERDAY,
+    static const enum kind kinds[] = { LESS,           EQUAL, WINDOW, PINNED, YESTERDAY,
                                        WEAK_YESTERDAY, SINCE, TRIGGER };
     bool right = true;
     for (size_t i = 0; i < sizeof kinds / sizeof kinds[0]; i++)
@@ -329,6 +329,7 @@ static bool run_cases(void)
     right &= run_case("g  all kinds", all_kinds);
     right &= run_case("h  all shifts, 4 lead-in rows", after_lead_in);
     right &= run_case("m  windows of drifting clocks", drifting_clocks);
+    right &= run_case("o  tops reached late", late_tops);
     return right;
 }
 
@@ -380,6 +381,7 @@ static bool run_late_cases(void)
     right &= run_late_case("k  64 comparisons, crossing in turn", crossing_in_turn);
     right &= run_late_case("l  20 parts of all kinds, 16 rows", settling_soon);
     right &= run_late_case("n  windows, the last part crosses", clocks_late);
+    right &= run_late_case("p  tops, the last part is pinned", pinned_late);
     return right;
 }
 

@@ -96,6 +96,52 @@ static void clock_plan(int rows, int start)
         }
 }
 
+/* Channels under a top of 10000, but for one without and the last two:
+     UP        comes to it within 2000 passes, from below 1000; OTHER_UP too
+     HIGH      has none. It lies above 20000, and rises more slowly than UP
+     DOWN      comes below it after 5000 passes or more, from 60000
+     NEVER     lies below 0 and does not rise; LOWER lies below it and falls faster
+     BY_ROWS   has a top of 500. On every third row it is pinned for ever; on the others it
+               lies from 0 to 400, does not rise, and falls more slowly than LOWER
+     CLOCK     has a top of 20000, nearly two weeks, and comes there from below 100 by about
+               a day a pass: on no pass before is it within minutes 200 to 1400 of a week */
+enum { UP, OTHER_UP, HIGH, DOWN, NEVER, LOWER, BY_ROWS, CLOCK };
+enum { TOP = 10000, ROWS_TOP = 500, CLOCK_TOP = 20000 };
+
+static int32_t topped_reading(int row, int channel)
+{
+    static const int32_t from[] = { 0, 0, 20000, 60000, -1000, -3000, 0, 0 };
+    if (channel == BY_ROWS)
+        return row % 3 == 0 ? 2 * ROWS_TOP + below(1000) : below(400);
+    return from[channel] + below(channel == CLOCK ? 100 : 1000);
+}
+
+static int32_t topped_drift(int row, int channel)
+{
+    static const int32_t least[] = { 5, 5, 0, -9, -4, -9, -4, 0 };
+    if (channel == CLOCK)
+        return row % 97 ? 1443 : 1446;
+    return below(5) + (channel == BY_ROWS && row % 3 == 0 ? 0 : least[channel]);
+}
+
+/* The start rows are as the last rows of the cycle, for what looks back. */
+static void topped_plan(int rows, int start)
+{
+    static const int32_t tops[] = { TOP, TOP, 0, TOP, TOP, TOP, ROWS_TOP, CLOCK_TOP };
+    start_plan(&plan, CHANNELS, start, rows - start);
+    for (int channel = 0; channel < CHANNELS; channel++)
+        write_top(&plan, channel, tops[channel]);
+    for (int row = start; row < rows; row++)
+        for (int channel = 0; channel < CHANNELS; channel++) {
+            int before = row - (rows - start);
+            int32_t number = topped_reading(row, channel);
+            write_reading(&plan, row, channel, number);
+            write_drift(&plan, row, channel, topped_drift(row, channel));
+            if (before >= 0)
+                write_reading(&plan, before, channel, number);
+        }
+}
+
 /* ---- Parts ---- */
 
 static void begin_rule(int parts)
@@ -137,6 +183,30 @@ static void write_clock(int part, int channel)
     struct formula f = { .kind = WINDOW, .left = reading(channel, part % 9 - 4) };
     f.from = part % 2 ? from : to;
     f.to = part % 2 ? to : from;
+    try_formula(part, f);
+}
+
+/* Atoms under tops that are the same on every pass: false as no pass has all that they ask
+   for, though each is met on some; false or true by drifts and tops alone; and a window that
+   comes to its top before it comes inside. */
+static void write_topped(int part, int which)
+{
+    static const struct {
+        enum kind kind;
+        int left, right;
+    } atoms[] = { { LESS, HIGH, UP },       { EQUAL, OTHER_UP, HIGH }, { LESS, DOWN, OTHER_UP },
+                  { PINNED, BY_ROWS, 0 },   { LESS, LOWER, BY_ROWS },  { LESS, LOWER, NEVER },
+                  { WINDOW, CLOCK, 0 },     { EQUAL, UP, DOWN },       { LESS, NEVER, HIGH },
+                  { PINNED, NEVER, 0 } };
+    enum { ATOMS = sizeof atoms / sizeof atoms[0] };
+    struct formula f = { .kind = atoms[which % ATOMS].kind };
+    f.left = reading(atoms[which % ATOMS].left, part % 9 - 4);
+    if (f.kind == LESS || f.kind == EQUAL)
+        f.right = reading(atoms[which % ATOMS].right, part / 9 % 9 - 4);
+    if (f.kind == WINDOW) {
+        f.from = 200 + below(500);
+        f.to = f.from + 1 + below(700);
+    }
     try_formula(part, f);
 }
 
@@ -246,6 +316,17 @@ void drifting_clocks(int parts, int rows)
             write_closing_operator(part, (enum kind)(NOT + part / 8 % 10));
 }
 
+void late_tops(int parts, int rows)
+{
+    topped_plan(rows, 16);
+    begin_rule(parts);
+    for (int part = 0; part < parts; part++)
+        if (part % 8 != 7)
+            write_topped(part, part - part / 8);
+        else
+            write_closing_operator(part, (enum kind)(NOT + part / 8 % 10));
+}
+
 /* The shifts of the two sides in another order: nine parts have all of each, and so
    have nine of every other part. */
 static void write_mixed_shifts(int part, enum kind kind)
@@ -286,7 +367,7 @@ void build_case(struct sheets *sheets, builder *build, int parts, int rows)
 /* x is 1 up to row P and 0 after it, y is 1 on the row before P alone, and z rises on
    one cycle row. On row P a part of Y, Z or S over x = 1 and y = 1 holds on pass 0 alone,
    and T over x = 0 and y = 0 fails on it alone. With the mark on row P the other way round
-   their marks close. */
+   their marks close. z has a top for kind 14 alone, as z = 5 would never hold under it. */
 void build_open_case(struct sheets *sheets, enum kind kind)
 {
     enum { PARTS = 3, START = 16, ROWS = 256, RISING = 200 };
@@ -298,6 +379,7 @@ void build_open_case(struct sheets *sheets, enum kind kind)
         write_reading(&plan, row, 0, 1);
     write_reading(&plan, START - 1, 1, 1);
     write_drift(&plan, RISING, 2, 1);
+    write_top(&plan, 2, kind == PINNED ? 5 : 0);
     start_rule(&rule, PARTS, CHANNELS);
     write_comparison(&rule, 0, EQUAL, reading(0, 0), constant(kind != TRIGGER));
     write_comparison(&rule, 1, EQUAL, reading(1, 0), constant(kind != TRIGGER));
@@ -328,6 +410,29 @@ void crossing_late(void)
             write_closing_operator(part, (enum kind)(NOT + part / 2 % 10));
         }
     write_comparison(&rule, PARTS - 1, LESS, reading(RISING, 0), constant(LIMIT));
+}
+
+/* The same under tops, some of which are reached by the channels that stay. The last part
+   tells when the one that rises is pinned. */
+void pinned_late(void)
+{
+    enum { PARTS = 64, START = 4, RISING = CHANNELS - 1, LIMIT = 250 };
+    steady_plan(START + 1, START);
+    write_drift(&plan, START, RISING, 1);
+    for (int channel = 0; channel < CHANNELS; channel++)
+        write_top(&plan, channel, channel == RISING ? LIMIT : 5 + channel);
+    begin_rule(PARTS);
+    for (int part = 0; part < PARTS - 1; part++)
+        if (part < 8 || part % 2 == 0) {
+            struct formula f = { .kind = part % 3 ? LESS : PINNED };
+            f.left = reading(part % RISING, part % 9 - 4);
+            if (f.kind == LESS)
+                f.right = reading((part + 3) % RISING, 0);
+            try_formula(part, f);
+        } else {
+            write_closing_operator(part, (enum kind)(NOT + part / 2 % 10));
+        }
+    write_pinned(&rule, PARTS - 1, reading(RISING, 0));
 }
 
 /* The same with windows. The channel that rises is read by the last part alone. */

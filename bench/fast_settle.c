@@ -11,7 +11,7 @@
  */
 #include "fast_settle.h"
 
-#include "plain.h"
+#include "plain_comparisons.h"
 #include "plain_layout.h"
 #include "plain_operators.h"
 #include "plain_windows.h"
@@ -63,15 +63,21 @@ static void start_search(struct search *s, const struct plan *plan, uint8_t *mar
         s->lanes[channel].end = -plan->lead;
 }
 
-/* False if there is no room. */
+/* As many passes more; false if there is no room for them all. */
+static bool lay_out_passes(struct search *s, int64_t passes)
+{
+    if (passes > s->most - s->passes)
+        return false;
+    int rows = (int)passes * s->plan->cycle;
+    s->passes += (int)passes;
+    s->start += rows;
+    s->rows += rows;
+    return true;
+}
+
 static bool lay_out_pass(struct search *s)
 {
-    if (s->passes == s->most)
-        return false;
-    s->passes++;
-    s->start += s->plan->cycle;
-    s->rows += s->plan->cycle;
-    return true;
+    return lay_out_passes(s, 1);
 }
 
 /* ---- Comparisons ---- */
@@ -96,26 +102,21 @@ static const int64_t *lane_of(struct search *s, int channel)
 }
 
 /* Lay out passes until the comparison is the same on every later pass of a cycle row. */
-static bool settle_row(struct search *s, int kind, const struct term *left,
-                       const struct term *right, int row)
+static bool settle_row(struct search *s, const struct comparison *c, int row)
 {
     const struct plan *plan = s->plan;
-    int lines_from = plan->start + reach_back(left, right);
+    int lines_from = plan->start + reach_back(c);
     int position = row + s->passes * plan->cycle;
     for (; position < lines_from; position += plan->cycle) {
-        if (judge_early_row(plan, kind, left, right, position) != CHANGES)
+        if (judge_early_row(plan, c, position) != CHANGES)
             return true;
         if (!lay_out_pass(s))
             return false;
     }
-    struct line x = line_at(plan, left, position), y = line_at(plan, right, position);
-    while (judge_lines(kind, x, y) == CHANGES) {
-        if (!lay_out_pass(s))
-            return false;
-        x.number += x.step;
-        y.number += y.step;
-    }
-    return true;
+    struct line x = line_at(plan, &c->left, position), y = line_at(plan, &c->right, position);
+    if (!c->under_tops && judge_lines(c->kind, x, y) != CHANGES)
+        return true;
+    return lay_out_passes(s, last_change(passes_of(c, x, y)));
 }
 
 static inline void compare_rows(int kind, const int64_t *x, size_t i, const int64_t *y, size_t j,
@@ -125,17 +126,27 @@ static inline void compare_rows(int kind, const int64_t *x, size_t i, const int6
         m[row] = compare(kind, x[i * row], y[j * row]);
 }
 
-static void mark_comparison(struct search *s, int kind, const struct term *left,
-                            const struct term *right, uint8_t *m)
+static inline void compare_rows_under_tops(const struct comparison *c, const int64_t *x,
+                                           const int64_t *y, uint8_t *m, int first, int rows)
 {
-    int seen = first_seen(s->plan, left, right), first = seen < s->rows ? seen : s->rows;
+    size_t i = c->left.is_reading, j = c->right.is_reading;
+    for (size_t row = (size_t)first; row < (size_t)rows; row++)
+        m[row] = compare_under_tops(c, x[i * row], y[j * row]);
+}
+
+static void mark_comparison(struct search *s, const struct comparison *c, uint8_t *m)
+{
+    const struct term *left = &c->left, *right = &c->right;
+    int seen = first_seen(s->plan, c), first = seen < s->rows ? seen : s->rows;
     const int64_t *x = &left->constant, *y = &right->constant;
     if (left->is_reading)
         x = lane_of(s, left->channel) + left->shift;
     if (right->is_reading)
         y = lane_of(s, right->channel) + right->shift;
     memset(m, 0, (size_t)first);
-    if (kind == LESS)
+    if (c->under_tops)
+        compare_rows_under_tops(c, x, y, m, first, s->rows);
+    else if (c->kind == LESS)
         compare_rows(LESS, x, left->is_reading, y, right->is_reading, m, first, s->rows);
     else
         compare_rows(EQUAL, x, left->is_reading, y, right->is_reading, m, first, s->rows);
@@ -143,18 +154,33 @@ static void mark_comparison(struct search *s, int kind, const struct term *left,
 
 static bool settle_comparison(struct search *s, int kind, const uint8_t *operand, uint8_t *m)
 {
-    struct term left = get_term(operand), right = get_term(operand + 6);
+    struct comparison c = get_comparison(s->plan, kind, operand);
     for (int row = s->plan->start; row < s->plan->rows; row++)
-        if (!settle_row(s, kind, &left, &right, row))
+        if (!settle_row(s, &c, row))
             return false;
-    mark_comparison(s, kind, &left, &right, m);
+    mark_comparison(s, &c, m);
     return true;
 }
 
 /* ---- Windows ---- */
 
-/* Lay out passes until no later pass of a cycle row has its reading before row P. What
-   then comes and goes does so for ever. */
+/* The pass from which on a window that is not always false without its top stays as it is;
+   FOREVER where it comes and goes for ever. Where the reading rises to its top, the passes
+   are gone through from there back to the last one inside. */
+static int64_t last_change_under_top(const struct window *w, int judged, struct line line)
+{
+    struct passes unpinned = passes_unpinned(line, w->term.top);
+    if (are_none(unpinned))
+        return 0;
+    if (unpinned.end == FOREVER)
+        return judged == CHANGES ? FOREVER : unpinned.from;
+    int64_t last = unpinned.end - 1;
+    int64_t back = first_inside(w, (struct line){ line.number + last * line.step, -line.step });
+    return back <= last ? last - back + 1 : 0;
+}
+
+/* Lay out passes until the window is the same on every later pass of a cycle row. What comes
+   and goes once no later pass has its reading before row P does so for ever. */
 static bool settle_window_row(struct search *s, const struct window *w, struct turn *turn, int row)
 {
     const struct plan *plan = s->plan;
@@ -168,13 +194,17 @@ static bool settle_window_row(struct search *s, const struct window *w, struct t
     }
     struct line line = line_at(plan, &w->term, position);
     turn_by(w, turn, (int32_t)line.step);
-    return judge_turn(w, turn, (int32_t)(line.number % WEEK)) != CHANGES;
+    int judged = judge_turn(w, turn, (int32_t)(line.number % WEEK));
+    if (w->term.top == NO_TOP || judged == ALWAYS_FALSE)
+        return judged != CHANGES;
+    return lay_out_passes(s, last_change_under_top(w, judged, line));
 }
 
-/* From position P + back on each is as it is a pass before. */
+/* Without a top each position from P + back on is as it is a pass before. */
 static void mark_window(const struct search *s, const struct window *w, uint8_t *m)
 {
-    int cycle = s->plan->cycle, once = s->plan->start + reach_of(w) + cycle, row = 0;
+    int cycle = s->plan->cycle, row = 0;
+    int once = w->term.top == NO_TOP ? s->plan->start + reach_of(w) + cycle : s->rows;
     for (; row < once && row < s->rows; row++)
         m[row] = window_at(s->plan, w, row);
     for (; row < s->rows; row++)
@@ -183,7 +213,7 @@ static void mark_window(const struct search *s, const struct window *w, uint8_t 
 
 static bool settle_window(struct search *s, const uint8_t *operand, uint8_t *m)
 {
-    struct window w = get_window(operand);
+    struct window w = get_window(s->plan, operand);
     struct turn turn = no_turn(&w);
     for (int row = s->plan->start; row < s->plan->rows; row++)
         if (!settle_window_row(s, &w, &turn, row))
@@ -237,9 +267,9 @@ static bool settle_parts(struct search *s, const uint8_t *rule)
     for (size_t i = 0; i < parts; i++) {
         uint8_t *m = s->marks + MOST_ROWS * i;
         const uint8_t *operand = operands + 12 * i;
-        bool settled = is_comparison(kinds[i]) ? settle_comparison(s, kinds[i], operand, m)
-                       : kinds[i] == WINDOW    ? settle_window(s, operand, m)
-                                               : settle_operator(s, kinds[i], operand, m);
+        bool settled = compares(kinds[i])   ? settle_comparison(s, kinds[i], operand, m)
+                       : kinds[i] == WINDOW ? settle_window(s, operand, m)
+                                            : settle_operator(s, kinds[i], operand, m);
         if (!settled)
             return false;
         s->marked[i] = s->rows;

@@ -10,7 +10,6 @@
  */
 #include "plain_check.h"
 
-#include "plain.h"
 #include "plain_operators.h"
 #include "plain_sweeps.h"
 #include "plain_window_rows.h"
@@ -18,25 +17,24 @@
 
 /* ---- Comparisons, row by row ---- */
 
-static int judge_row(const struct plan *plan, int kind, const struct term *left,
-                     const struct term *right, int row)
+static int judge_row(const struct plan *plan, const struct comparison *c, int row)
 {
     if (row < plan->start)
-        return truth_at(plan, kind, left, right, row);
-    if (row < plan->start + reach_back(left, right))
-        return judge_early_row(plan, kind, left, right, row);
-    return judge_lines(kind, line_at(plan, left, row), line_at(plan, right, row));
+        return truth_at(plan, c, row);
+    if (row < plan->start + reach_back(c))
+        return judge_early_row(plan, c, row);
+    return judge_comparison(c, line_at(plan, &c->left, row), line_at(plan, &c->right, row));
 }
 
 /* Refusals 10 and 9 for a comparison. */
-static uint64_t search_comparison(const struct plan *plan, int kind, const struct term *left,
-                                  const struct term *right, const uint8_t *m, size_t part)
+static uint64_t search_comparison(const struct plan *plan, const struct comparison *c,
+                                  const uint8_t *m, size_t part)
 {
     for (int row = plan->start; row < plan->rows; row++)
-        if (judge_row(plan, kind, left, right, row) == CHANGES)
+        if (judge_row(plan, c, row) == CHANGES)
             return refuse(10, part, (size_t)row);
     for (int row = 0; row < plan->rows; row++)
-        if (m[row] != truth_at(plan, kind, left, right, row))
+        if (m[row] != truth_at(plan, c, row))
             return refuse(9, part, (size_t)row);
     return 0;
 }
@@ -136,32 +134,34 @@ static uint64_t check_mark_bytes(const uint8_t *marks, size_t parts, size_t rows
 
 /* ---- The parts ---- */
 
-/* A part of the rule, with the marks of its own and of the parts that it names. */
+/* A part of the rule, with the marks of its own and of the parts that it names. Of the
+   comparison, the window and the parts named it has what its kind asks for, and no more is
+   written: that would take longer than the loops of a short part. */
 struct part {
     int kind;
-    struct term left, right;
-    struct window window;
-    const uint8_t *m, *a, *b;
     unsigned witness;
+    const uint8_t *m, *a, *b;
+    struct comparison comparison;
+    struct window window;
 };
 
-static struct part get_part(const uint8_t *rule, const uint8_t *marks, size_t rows, size_t number)
+static void get_part(const struct plan *plan, const uint8_t *rule, const uint8_t *marks,
+                     size_t number, struct part *part)
 {
-    size_t parts = get16(rule);
+    size_t parts = get16(rule), rows = (size_t)plan->rows;
     const uint8_t *operand = rule + 4 + parts + 12 * number;
-    struct part part = { .kind = rule[4 + number], .m = marks + number * rows };
-    part.witness = get16(marks + parts * rows + 2 * number);
-    if (is_comparison(part.kind)) {
-        part.left = get_term(operand);
-        part.right = get_term(operand + 6);
-    } else if (part.kind == WINDOW) {
-        part.window = get_window(operand);
+    part->kind = rule[4 + number];
+    part->witness = get16(marks + parts * rows + 2 * number);
+    part->m = marks + number * rows;
+    if (compares(part->kind)) {
+        part->comparison = get_comparison(plan, part->kind, operand);
+    } else if (part->kind == WINDOW) {
+        part->window = get_window(plan, operand);
     } else {
         /* Where one part is named the second field is 0, and b is not used. */
-        part.a = marks + get16(operand) * rows;
-        part.b = marks + get16(operand + 2) * rows;
+        part->a = marks + get16(operand) * rows;
+        part->b = marks + get16(operand + 2) * rows;
     }
-    return part;
 }
 
 /* How windows are held against their marks. */
@@ -170,9 +170,9 @@ enum windows { SWEPT, ROW_BY_ROW };
 /* No refusal 10 or 9, by the sweeps or by the rows of a window, and no refusal 11. */
 static bool part_is_clear(struct lanes *lanes, enum windows windows, const struct part *part)
 {
-    if (is_comparison(part->kind))
+    if (compares(part->kind))
         return part->witness == NO_WITNESS &&
-               comparison_is_clear(lanes, part->kind, &part->left, &part->right, part->m);
+               comparison_is_clear(lanes, &part->comparison, part->m);
     if (part->kind == WINDOW)
         return part->witness == NO_WITNESS &&
                (windows == SWEPT ? window_is_clear(lanes, &part->window, part->m)
@@ -185,8 +185,8 @@ static bool part_is_clear(struct lanes *lanes, enum windows windows, const struc
 static uint64_t search_part(const struct plan *plan, const struct part *part, size_t number)
 {
     uint64_t refused =
-        is_comparison(part->kind)
-            ? search_comparison(plan, part->kind, &part->left, &part->right, part->m, number)
+        compares(part->kind)
+            ? search_comparison(plan, &part->comparison, part->m, number)
         : part->kind == WINDOW
             ? search_window(plan, &part->window, part->m, number)
         : is_past(part->kind)
@@ -204,11 +204,12 @@ static uint64_t check_parts(const struct plan *plan, const uint8_t *rule, const 
                             enum windows windows)
 {
     struct lanes lanes;
+    struct part part;
     size_t parts = get16(rule), rows = (size_t)plan->rows;
     bool bytes_are_marks = false;
     start_lanes(&lanes, plan);
     for (size_t i = 0; i < parts; i++) {
-        struct part part = get_part(rule, marks, rows, i);
+        get_part(plan, rule, marks, i, &part);
         if (part_is_clear(&lanes, windows, &part))
             continue;
         uint64_t refused = bytes_are_marks ? 0 : check_mark_bytes(marks, parts, rows);
@@ -263,9 +264,9 @@ uint64_t plain_judge(const uint8_t *rule, size_t rule_len, const uint8_t *plan, 
         return refuse(12, 0, 0);
     const uint8_t *operand = rule + 4 + parts + 12 * part;
     if (rule[4 + part] == WINDOW) {
-        struct window w = get_window(operand);
+        struct window w = get_window(&p, operand);
         return (uint64_t)judge_window_row(&p, &w, (int)row);
     }
-    struct term left = get_term(operand), right = get_term(operand + 6);
-    return (uint64_t)judge_row(&p, rule[4 + part], &left, &right, (int)row);
+    struct comparison c = get_comparison(&p, rule[4 + part], operand);
+    return (uint64_t)judge_row(&p, &c, (int)row);
 }

@@ -10,7 +10,7 @@
 
 #include <string.h>
 
-enum { LAID_OUT_LENGTH = 16648, SCRATCH_LENGTH = 16516 };
+enum { LAID_OUT_LENGTH = 16680, SCRATCH_LENGTH = 16516 };
 
 static inline void put32(uint8_t *at, int32_t n)
 {
@@ -29,8 +29,9 @@ static inline void write_layout(const uint8_t *bytes, const struct plan *plan, i
     size_t still_bytes = row_bytes * ((size_t)plan->lead + start);
     size_t stored_bytes = row_bytes * (size_t)(plan->lead + plan->rows);
     const uint8_t *drifts = plan->drifts + cell_of(plan, plan->start, 0);
-    uint8_t *at = laid_out + 8 + stored_bytes;
-    memcpy(laid_out, bytes, 8 + stored_bytes);
+    size_t first_bytes = 8 + row_bytes + stored_bytes; /* sizes, tops and readings */
+    uint8_t *at = laid_out + first_bytes;
+    memcpy(laid_out, bytes, first_bytes);
     put16(laid_out + 2, start);
     for (int pass = 0; pass < passes; pass++)
         for (size_t i = 0; i < cycle_bytes; i += 4, at += 4)

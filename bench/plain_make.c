@@ -9,7 +9,7 @@
  */
 #include "plain_make.h"
 
-#include "plain.h"
+#include "plain_comparisons.h"
 #include "plain_operators.h"
 #include "plain_windows.h"
 
@@ -34,37 +34,33 @@ static void get_lines(const struct plan *plan, const struct term *term, int firs
    there is none. */
 static int make_comparison(const struct plan *plan, int kind, const uint8_t *operand, uint8_t *m)
 {
-    struct term left = get_term(operand), right = get_term(operand + 6);
+    struct comparison c = get_comparison(plan, kind, operand);
     struct line lefts[MOST_ROWS], rights[MOST_ROWS];
-    int back = reach_back(&left, &right), seen = first_seen(plan, &left, &right);
+    int back = reach_back(&c), seen = first_seen(plan, &c);
     int row = 0;
     for (; row < seen && row < plan->rows; row++)
         m[row] = 0;
-    get_lines(plan, &left, row, lefts);
-    get_lines(plan, &right, row, rights);
-    for (; row < plan->rows; row++)
-        m[row] = compare(kind, lefts[row].number, rights[row].number);
+    get_lines(plan, &c.left, row, lefts);
+    get_lines(plan, &c.right, row, rights);
+    compare_lines(&c, lefts, rights, row, plan->rows, m);
 
     row = plan->start;
     for (; row < plan->start + back && row < plan->rows; row++)
-        if (judge_early_row(plan, kind, &left, &right, row) == CHANGES)
+        if (judge_early_row(plan, &c, row) == CHANGES)
             return row;
-    for (; row < plan->rows; row++)
-        if (judge_lines(kind, lefts[row], rights[row]) == CHANGES)
-            return row;
-    return plan->rows;
+    return first_change(&c, lefts, rights, row, plan->rows);
 }
 
 /* ---- Windows ---- */
 
 /* The marks of a window. Gives the lowest cycle row on which it changes; W if there is
-   none. From row P + back on what is judged is the mark too, and by g a reading is on
-   every pass what it is on its row. */
+   none. From row P + back on what is judged is the mark too. */
 static int make_window(const struct plan *plan, const uint8_t *operand, uint8_t *m)
 {
-    struct window w = get_window(operand);
+    struct window w = get_window(plan, operand);
+    bool under_top = w.term.top != NO_TOP;
     struct turn turn = no_turn(&w);
-    int row = 0, early = plan->start + reach_of(&w);
+    int row = 0, early = plan->start + reach_of(&w), pass = 0;
     for (; row < plan->start; row++)
         m[row] = window_at(plan, &w, row);
     for (; row < early && row < plan->rows; row++) {
@@ -74,11 +70,11 @@ static int make_window(const struct plan *plan, const uint8_t *operand, uint8_t 
         m[row] = (uint8_t)judged;
     }
     for (int read = row + w.term.shift; row < plan->rows; row++, read++) {
-        while (read >= plan->rows)
-            read -= plan->cycle;
+        for (; read >= plan->rows; read -= plan->cycle)
+            pass++;
         ptrdiff_t at = cell_of(plan, read, w.term.channel);
-        turn_by(&w, &turn, get32(plan->drifts + at));
-        int judged = judge_turn(&w, &turn, get32(plan->readings + at));
+        int judged = judge_read(&w, under_top, &turn, get32(plan->readings + at),
+                                get32(plan->drifts + at), pass);
         if (judged == CHANGES)
             return row;
         m[row] = (uint8_t)judged;
@@ -120,7 +116,7 @@ uint64_t plain_make(const uint8_t *rule, size_t rule_len, const uint8_t *plan, s
         uint8_t *m = cells + i * rows;
         size_t witness = NO_WITNESS;
         int open;
-        if (is_comparison(kinds[i])) {
+        if (compares(kinds[i])) {
             open = make_comparison(&p, kinds[i], operand, m);
         } else if (kinds[i] == WINDOW) {
             open = make_window(&p, operand, m);

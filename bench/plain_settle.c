@@ -10,7 +10,7 @@
  */
 #include "plain_settle.h"
 
-#include "plain.h"
+#include "plain_comparisons.h"
 #include "plain_layout.h"
 #include "plain_operators.h"
 #include "plain_windows.h"
@@ -63,45 +63,40 @@ static bool make_comparison(const struct layout *layout, int kind, const uint8_t
                             uint8_t *m)
 {
     const struct plan *plan = layout->plan;
-    struct term left = get_term(operand), right = get_term(operand + 6);
+    struct comparison c = get_comparison(plan, kind, operand);
     struct line lefts[MOST_ROWS], rights[MOST_ROWS];
-    int lines_from = plan->start + reach_back(&left, &right);
-    int seen = first_seen(plan, &left, &right);
+    int lines_from = plan->start + reach_back(&c), seen = first_seen(plan, &c);
     int row = 0;
     for (; row < seen && row < layout->rows; row++)
         m[row] = 0;
-    get_lines(plan, &left, row, layout->rows, lefts);
-    get_lines(plan, &right, row, layout->rows, rights);
-    for (; row < layout->rows; row++)
-        m[row] = compare(kind, lefts[row].number, rights[row].number);
+    get_lines(plan, &c.left, row, layout->rows, lefts);
+    get_lines(plan, &c.right, row, layout->rows, rights);
+    compare_lines(&c, lefts, rights, row, layout->rows, m);
 
     row = layout->start;
     for (; row < lines_from && row < layout->rows; row++)
-        if (judge_early_row(plan, kind, &left, &right, row) == CHANGES)
+        if (judge_early_row(plan, &c, row) == CHANGES)
             return false;
-    for (; row < layout->rows; row++)
-        if (judge_lines(kind, lefts[row], rights[row]) == CHANGES)
-            return false;
-    return true;
+    return first_change(&c, lefts, rights, row, layout->rows) == layout->rows;
 }
 
 /* ---- Windows ---- */
 
 /* The marks of a window. Gives whether it closes. From position P + back on, of the plan
-   as it is, what is judged is the mark too, and by g a reading is on every pass what it is
-   on its row. */
+   as it is, what is judged is the mark too. */
 static bool make_window(const struct layout *layout, const uint8_t *operand, uint8_t *m)
 {
     const struct plan *plan = layout->plan;
-    struct window w = get_window(operand);
+    struct window w = get_window(plan, operand);
+    bool under_top = w.term.top != NO_TOP;
     struct turn turn = no_turn(&w);
     struct line lines[MOST_ROWS];
-    int early = plan->start + reach_of(&w), seen = first_in_sight(plan, &w), row = 0;
+    int early = plan->start + reach_of(&w), seen = first_in_sight(plan, &w), row = 0, pass = 0;
     for (; row < seen && row < layout->start; row++)
         m[row] = 0;
     get_lines(plan, &w.term, row, layout->start, lines);
     for (; row < layout->start; row++)
-        m[row] = is_inside(&w, lines[row].number);
+        m[row] = lines[row].number < w.term.top && is_inside(&w, lines[row].number);
     for (; row < early && row < layout->rows; row++) {
         int judged = judge_early_window(plan, &w, row);
         if (judged == CHANGES)
@@ -109,11 +104,11 @@ static bool make_window(const struct layout *layout, const uint8_t *operand, uin
         m[row] = (uint8_t)judged;
     }
     for (int read = row + w.term.shift; row < layout->rows; row++, read++) {
-        while (read >= plan->rows)
-            read -= plan->cycle;
+        for (; read >= plan->rows; read -= plan->cycle)
+            pass++;
         ptrdiff_t at = cell_of(plan, read, w.term.channel);
-        turn_by(&w, &turn, get32(plan->drifts + at));
-        int judged = judge_turn(&w, &turn, get32(plan->readings + at));
+        int judged = judge_read(&w, under_top, &turn, get32(plan->readings + at),
+                                get32(plan->drifts + at), pass);
         if (judged == CHANGES)
             return false;
         m[row] = (uint8_t)judged;
@@ -134,7 +129,7 @@ static bool passes_settle(const uint8_t *rule, const struct plan *plan, int pass
         const uint8_t *operand = operands + 12 * i;
         uint8_t *m = marks + MOST_ROWS * i;
         bool closes;
-        if (is_comparison(kinds[i])) {
+        if (compares(kinds[i])) {
             closes = make_comparison(&layout, kinds[i], operand, m);
         } else if (kinds[i] == WINDOW) {
             closes = make_window(&layout, operand, m);

@@ -7,40 +7,13 @@
  * row. From there on each term is a straight line in the pass, and each cycle row
  * comes once: there the truth must be the mark too, and no later pass may change it.
  * All of this is 32-bit arithmetic, as the lanes hold the positions after row W - 1 as
- * well.
- *
- * A window is looked at on the same positions. What it reads is laid out once for all
- * windows of the channel, as remainders by g (plain_windows.h). The same on every pass,
- * they leave no remainder to be found by the part.
+ * well. A comparison under tops has loops of its own (plain_top_sweeps.h).
  */
 #include "plain_sweeps.h"
 
+#include "plain_top_sweeps.h"
+
 #include <string.h>
-
-enum { BLOCK = 16 };
-
-/* Return whether the expression, which may use k, is 0 for all k below the count. The
-   last block is taken back from the end, with some rows a second time, so that none is
-   left over to be taken alone. */
-#define ALL_ZERO(type, count, expression)                                                          \
-    do {                                                                                           \
-        const size_t rows = (count), whole = rows - rows % BLOCK;                                  \
-        type any = 0;                                                                              \
-        for (size_t k = 0; k < whole; k++)                                                         \
-            any |= (type)(expression);                                                             \
-        if (whole == 0)                                                                            \
-            for (size_t k = 0; k < rows; k++)                                                      \
-                any |= (type)(expression);                                                         \
-        else if (whole < rows)                                                                     \
-            for (size_t k = rows - BLOCK; k < rows; k++)                                           \
-                any |= (type)(expression);                                                         \
-        return any == 0;                                                                           \
-    } while (0)
-
-static bool all_bytes_are(uint8_t byte, const uint8_t *bytes, size_t count)
-{
-    ALL_ZERO(uint8_t, count, bytes[k] ^ byte);
-}
 
 /* ---- Lanes ---- */
 
@@ -106,12 +79,14 @@ struct side {
     const int32_t *readings, *drifts;
     int32_t constant;
     int shift, step;
+    struct limits limits;
 };
 
 /* Gives false where the term does not fit. */
 static bool get_side(struct lanes *lanes, const struct term *term, struct side *side)
 {
     static const int32_t no_drift = 0;
+    side->limits = limits_of(term);
     if (!term->is_reading) {
         side->constant = (int32_t)term->constant;
         side->readings = &side->constant;
@@ -127,30 +102,15 @@ static bool get_side(struct lanes *lanes, const struct term *term, struct side *
     return lane->fits;
 }
 
-/* Some positions in a row, on rows in a row: the left readings x and drifts d, the
-   right ones y and e, the steps of the two sides, and the marks. */
-struct stretch {
-    const int32_t *x, *d, *y, *e;
-    int left_step, right_step;
-    const uint8_t *m;
-    size_t count;
-};
-
 static struct stretch get_stretch(const struct side *left, const struct side *right, int position,
                                   const uint8_t *m, int count)
 {
     int i = left->step * (position + left->shift), j = right->step * (position + right->shift);
     return (struct stretch){ left->readings + i, left->drifts + i, right->readings + j,
                              right->drifts + j,  left->step,       right->step,
-                             m,                  (size_t)count };
+                             m,                  (size_t)count,    left->limits,
+                             right->limits,      NULL };
 }
-
-/* In the sweeps i and j are the steps of the left and of the right side. They are
-   written out here, so that a sweep is compiled for each pair of them. */
-#define BY_STEPS(sweep, s)                                                                         \
-    ((s)->left_step == 0    ? sweep((s), 0, 1)                                                     \
-     : (s)->right_step == 0 ? sweep((s), 1, 0)                                                     \
-                            : sweep((s), 1, 1))
 
 static inline bool less_as_marked(const struct stretch *s, size_t i, size_t j)
 {
@@ -201,179 +161,74 @@ static inline bool never_meet(const struct stretch *s, size_t i, size_t j)
     return true;
 }
 
-static bool is_as_marked(int kind, const struct stretch *s)
+static bool is_as_marked(const struct comparison *c, const struct stretch *s)
 {
-    return kind == LESS ? BY_STEPS(less_as_marked, s) : BY_STEPS(equal_as_marked, s);
+    if (c->under_tops)
+        return is_as_marked_under_tops(c->kind, s);
+    return c->kind == LESS ? BY_STEPS(less_as_marked, s) : BY_STEPS(equal_as_marked, s);
 }
 
-static bool is_always_as_marked(int kind, const struct stretch *s)
+static bool is_always_as_marked(const struct comparison *c, struct stretch *s)
 {
-    if (kind == LESS)
+    if (c->under_tops)
+        return is_always_as_marked_under_tops(c->kind, s);
+    if (c->kind == LESS)
         return BY_STEPS(always_less_as_marked, s);
     return BY_STEPS(equal_as_marked, s) && BY_STEPS(never_meet, s);
 }
 
 /* The positions from the first that is seen to W - 1. */
-static bool rows_are_clear(const struct lanes *lanes, int kind, const struct side *left,
-                           const struct side *right, const uint8_t *m, int seen, int back)
+static bool rows_are_clear(const struct lanes *lanes, const struct comparison *c,
+                           const struct side *left, const struct side *right, const uint8_t *m,
+                           int seen, int back)
 {
     int rows = lanes->plan->rows, lines = lanes->plan->start + back;
     if (lanes->still || lines > rows)
         lines = rows;
     struct stretch before = get_stretch(left, right, seen, m + seen, lines - seen);
     struct stretch from = get_stretch(left, right, lines, m + lines, rows - lines);
-    return is_as_marked(kind, &before) && is_always_as_marked(kind, &from);
+    return is_as_marked(c, &before) && is_always_as_marked(c, &from);
+}
+
+/* One position, with the drifts that count on it. */
+static bool position_is_clear(const struct comparison *c, struct stretch *s, int32_t d, int32_t e)
+{
+    if (c->under_tops) {
+        s->d = &d;
+        s->e = &e;
+        return is_always_as_marked_under_tops(c->kind, s);
+    }
+    return c->kind == LESS ? fault_of_less(*s->x, d, *s->y, e, *s->m) == 0
+                           : *s->m == (*s->x == *s->y) && !meet(*s->x, d, *s->y, e);
 }
 
 /* The positions from W to W + back - 1, one by one, with the marks from row P on. Where
    a position comes before the lines, its drifts do not count. */
-static bool rows_after_are_clear(const struct lanes *lanes, int kind, const struct side *left,
-                                 const struct side *right, const uint8_t *m, int back)
+static bool rows_after_are_clear(const struct lanes *lanes, const struct comparison *c,
+                                 const struct side *left, const struct side *right,
+                                 const uint8_t *m, int back)
 {
     const struct plan *plan = lanes->plan;
     for (int k = 0, row = plan->start; k < back; k++) {
         struct stretch s = get_stretch(left, right, plan->rows + k, m + row, 1);
         bool is_line = !lanes->still && plan->cycle + k >= back;
-        int32_t d = is_line ? *s.d : 0, e = is_line ? *s.e : 0;
-        if (kind == LESS ? fault_of_less(*s.x, d, *s.y, e, *s.m) != 0
-                         : *s.m != (*s.x == *s.y) || meet(*s.x, d, *s.y, e))
+        if (!position_is_clear(c, &s, is_line ? *s.d : 0, is_line ? *s.e : 0))
             return false;
         row = row + 1 < plan->rows ? row + 1 : plan->start;
     }
     return true;
 }
 
-bool comparison_is_clear(struct lanes *lanes, int kind, const struct term *left,
-                         const struct term *right, const uint8_t *m)
+bool comparison_is_clear(struct lanes *lanes, const struct comparison *c, const uint8_t *m)
 {
-    int rows = lanes->plan->rows, back = reach_back(left, right);
-    int seen = first_seen(lanes->plan, left, right);
+    const struct term *left = &c->left, *right = &c->right;
+    int rows = lanes->plan->rows, back = reach_back(c), seen = first_seen(lanes->plan, c);
     struct side x, y;
     if (!left->is_reading && !right->is_reading)
-        return all_bytes_are(compare(kind, left->constant, right->constant), m, (size_t)rows);
+        return all_bytes_are(compare(c->kind, left->constant, right->constant), m, (size_t)rows);
     return seen <= rows && get_side(lanes, left, &x) && get_side(lanes, right, &y) &&
-           all_bytes_are(0, m, (size_t)seen) &&
-           rows_are_clear(lanes, kind, &x, &y, m, seen, back) &&
-           rows_after_are_clear(lanes, kind, &x, &y, m, back);
-}
-
-/* ---- Windows ---- */
-
-/* The remainders of the readings of a channel on some rows, by g, which divides the week.
-   A minute is below 2^14, and so the multiplication gives its quotient by g. */
-static void lay_out_remainders(const struct plan *plan, int channel, int row, int end, int g,
-                               int16_t *to)
-{
-    size_t stride = 4 * (size_t)plan->channels;
-    const uint8_t *at = plan->readings + cell_of(plan, row, channel);
-    uint64_t inverse = ((uint64_t)1 << 32) / (unsigned)g + 1;
-    for (; row < end; row++, at += stride) {
-        uint32_t minute = (uint32_t)rest(get32(at), WEEK);
-        to[row] = (int16_t)(minute - (uint32_t)(minute * inverse >> 32) * (uint32_t)g);
-    }
-}
-
-/* One stretch more, or a longer one. */
-static void add_stretch(struct minutes *minutes, int end, int g)
-{
-    struct stretch_of_g *last = &minutes->stretch[minutes->stretches - 1];
-    if (last->g != g)
-        last = &minutes->stretch[minutes->stretches++];
-    *last = (struct stretch_of_g){ end, (int16_t)g };
-}
-
-static void lay_out_minutes(const struct lanes *lanes, int channel, struct minutes *minutes)
-{
-    const struct plan *plan = lanes->plan;
-    size_t stride = 4 * (size_t)plan->channels;
-    int16_t *to = minutes->at + MOST_LEAD;
-    int first = lanes->still ? plan->rows : plan->start;
-    minutes->laid_out = true;
-    minutes->stretches = 1;
-    minutes->stretch[0] = (struct stretch_of_g){ first, WEEK };
-    lay_out_remainders(plan, channel, -plan->lead, first, WEEK, to);
-    while (first < plan->rows) {
-        const uint8_t *at = plan->drifts + cell_of(plan, first, channel);
-        int32_t drift = get32(at);
-        int end = first + 1, g = common_divisor(drift);
-        while (end < plan->rows && get32(at += stride) == drift)
-            end++;
-        lay_out_remainders(plan, channel, first, end, g, to);
-        add_stretch(minutes, end, g);
-        first = end;
-    }
-    for (int k = 0; k < ROWS_AFTER; k++) {
-        int row = plan->start + k % plan->cycle;
-        int32_t drift = get32(plan->drifts + cell_of(plan, row, channel));
-        add_stretch(minutes, plan->rows + k + 1, common_divisor(drift));
-        to[plan->rows + k] = to[row];
-    }
-}
-
-static const struct minutes *get_minutes(struct lanes *lanes, int channel)
-{
-    struct minutes *minutes = &lanes->minutes[channel];
-    if (!minutes->laid_out)
-        lay_out_minutes(lanes, channel, minutes);
-    return minutes;
-}
-
-/* 0 if a remainder by g is inside on every pass and marked 1, or on none and marked 0. In
-   16 bits at each step, so that eight rows are taken at a time. */
-static inline int16_t fault_of_window(int16_t at, int16_t from, int16_t g, int16_t inside,
-                                      int16_t length, int16_t mark)
-{
-    int16_t s = (int16_t)(at - from);
-    s = (int16_t)(s + (int16_t)(-(s < 0) & g));
-    int16_t always = (int16_t)-(s < inside), once = (int16_t)-(s < length);
-    return (int16_t)((int16_t)(mark + always) | (int16_t)(mark + once));
-}
-
-/* Positions of one g in a row. */
-static bool stretch_is_as_marked(const struct window *w, int16_t g, const int16_t *at,
-                                 const uint8_t *m, size_t count)
-{
-    int16_t from = (int16_t)(w->from % g), length = (int16_t)w->length;
-    int16_t outside = (int16_t)(WEEK - g);
-    int16_t inside = (int16_t)(length > outside ? length - outside : 0);
-    ALL_ZERO(int16_t, count, fault_of_window(at[k], from, g, inside, length, m[k]));
-}
-
-/* The positions from the first to the end, with their marks in a row. */
-static bool positions_are_clear(const struct minutes *minutes, const struct window *w,
-                                const uint8_t *m, int first, int end)
-{
-    int shift = w->term.shift;
-    const struct stretch_of_g *stretch = minutes->stretch;
-    while (first < end) {
-        while (stretch->end <= first + shift)
-            stretch++;
-        int next = stretch->end - shift < end ? stretch->end - shift : end;
-        if (!stretch_is_as_marked(w, stretch->g, minutes->at + MOST_LEAD + first + shift, m,
-                                  (size_t)(next - first)))
-            return false;
-        m += next - first;
-        first = next;
-    }
-    return true;
-}
-
-/* Start rows that read a cycle row ahead are held to all its passes too: where one of them
-   differs, the window does not close. */
-bool window_is_clear(struct lanes *lanes, const struct window *w, const uint8_t *m)
-{
-    const struct plan *plan = lanes->plan;
-    const struct minutes *minutes = get_minutes(lanes, w->term.channel);
-    int back = reach_of(w), seen = first_in_sight(plan, w);
-    if (seen > plan->rows || !all_bytes_are(0, m, (size_t)seen) ||
-        !positions_are_clear(minutes, w, m + seen, seen, plan->rows))
-        return false;
-    for (int k = 0, row = plan->start; k < back; k++) {
-        if (!positions_are_clear(minutes, w, m + row, plan->rows + k, plan->rows + k + 1))
-            return false;
-        row = row + 1 < plan->rows ? row + 1 : plan->start;
-    }
-    return true;
+           all_bytes_are(0, m, (size_t)seen) && rows_are_clear(lanes, c, &x, &y, m, seen, back) &&
+           rows_after_are_clear(lanes, c, &x, &y, m, back);
 }
 
 /* ---- Operators ---- */

@@ -13,6 +13,7 @@
 #ifndef PLAIN_SWEEPS_H
 #define PLAIN_SWEEPS_H
 
+#include "plain_comparisons.h"
 #include "plain_windows.h"
 
 /* An atom is looked at on some positions after row W - 1, and reads ahead of them: so
@@ -34,12 +35,14 @@ struct stretch_of_g {
 };
 
 /* The readings of one channel for windows, at the same places: each as its remainder by
-   the g of its row, from 0 upward. Before row P nothing drifts, and g is 10080. */
+   the g of its row, from 0 upward. Before row P nothing drifts, and g is 10080. Under a top
+   there is also -1 or 0 for each: whether it is pinned neither there nor on a later pass, and
+   whether it is pinned there and on every later pass. */
 struct minutes {
     bool laid_out;
     int stretches;
     struct stretch_of_g stretch[LANE_LONGEST];
-    int16_t at[LANE_LONGEST];
+    int16_t at[LANE_LONGEST], never_pinned[LANE_LONGEST], ever_pinned[LANE_LONGEST];
 };
 
 /* A plan channel by channel. A lane is laid out when it is first read, and so are its
@@ -53,8 +56,7 @@ struct lanes {
 
 void start_lanes(struct lanes *lanes, const struct plan *plan);
 
-bool comparison_is_clear(struct lanes *lanes, int kind, const struct term *left,
-                         const struct term *right, const uint8_t *m);
+bool comparison_is_clear(struct lanes *lanes, const struct comparison *c, const uint8_t *m);
 
 bool window_is_clear(struct lanes *lanes, const struct window *w, const uint8_t *m);
 

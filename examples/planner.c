@@ -1,6 +1,6 @@
 /*
  * planner.c: a small planner that has its mark tables checked, then has them made,
- * and has plans settled for which none can be made.
+ * has plans settled for which none can be made, and uses the top of a channel.
  *
  * The rule: a pinned count is never averaged until a lower one has come, and
  * the plan begins on the count that was read last before it. A count is pinned
@@ -20,15 +20,32 @@
  * that it speaks of pinned counts. U also asks that a lower one does come. Part
  * 6 compares each row with the one before it. On row 0 that is the lead-in row,
  * with the count read last before the plan starts; without a lead-in row part 6
- * is false there.
+ * is false there. These plans give no tops, and 4095 stands in the rule.
+ *
+ * The same rule, but for part 6, with the top in the plan: channel 0 has the top
+ * 4095, and a count is pinned by what the plan says of its sensor. As parts:
+ *
+ *   0  count is pinned
+ *   1  not 0                            a lower one
+ *   2  averaged = 1
+ *   3  not 2
+ *   4  3 or 1
+ *   5  1 R 4                            not averaged until a lower one
+ *   6  1 < 0                            never
+ *   7  6 R 5                            part 5, always: the whole rule
+ *
+ * R does not ask that a lower one comes: if none does, none is averaged.
  *
  * The program writes rule.bin, plan.bin and marks.bin of its first plan into
  * the current folder, has the same bytes checked, and then shows five tables
  * that are answered otherwise. These marks are the planner's own. A planner
  * that has none needs the rule and the plan only: the program then has the
- * tables of the same four plans made. At the end it has two plans settled that
- * no table can be made for, and where that can be done the table of the new
- * plan made. Build and run, from the repository's root:
+ * tables of the same four plans made. Then it has two plans settled that no
+ * table can be made for, and where that can be done the table of the new plan
+ * made. At the end come three plans with a top; pinned-rule.bin, pinned-plan.bin
+ * and pinned-marks.bin are the rule and the first of these with the table made
+ * for it, and pinned-hasty.bin is the second plan. Build and run, from the
+ * repository's root:
  *
  *   cc -std=c11 -Wall -Wextra -o planner examples/planner.c target/staticlib/libendless_run.a
  *   ./planner
@@ -41,6 +58,9 @@
 enum { LIMIT = 4095, PARTS = 8, CHANNELS = 2, MOST_ROWS = 8 };
 enum { LOWER, AVERAGED, NOT_AVERAGED, UNTIL_LOWER, NEVER, ALWAYS, STAYED, WHOLE };
 
+/* The parts of the rule with the top in the plan, as many. */
+enum { T_PINNED, T_LOWER, T_AVERAGED, T_NOT_AVERAGED, T_EITHER, T_UNTIL_LOWER, T_NEVER, T_WHOLE };
+
 /* What the planner decides: rows of counts, some of them averaged. */
 struct row {
     int32_t count, averaged;
@@ -51,6 +71,7 @@ struct plan {
     int lead, start, cycle;
     struct row before[ENDLESS_RUN_MOST_LEAD]; /* lead-in rows, the latest last */
     struct row row[MOST_ROWS];                /* start rows, then cycle rows */
+    int32_t top;                              /* of the count; 0 for none */
 };
 
 /* A rule, a plan or a mark table, of up to the largest sizes: no rule and no mark
@@ -103,6 +124,17 @@ static void put_names(struct bytes *b, unsigned first, unsigned second)
         put1(b, 0);
 }
 
+/* Sizes and kinds of a rule; the operands follow. */
+static struct bytes start_rule(const uint8_t *kinds)
+{
+    struct bytes b = { 0, { 0 } };
+    put2(&b, PARTS);
+    put2(&b, CHANNELS);
+    for (int part = 0; part < PARTS; part++)
+        put1(&b, kinds[part]);
+    return b;
+}
+
 static struct bytes make_rule(void)
 {
     static const uint8_t kinds[PARTS] = {
@@ -111,11 +143,7 @@ static struct bytes make_rule(void)
         [NEVER] = ENDLESS_RUN_KIND_LESS,       [ALWAYS] = ENDLESS_RUN_KIND_RELEASE,
         [STAYED] = ENDLESS_RUN_KIND_EQUAL,     [WHOLE] = ENDLESS_RUN_KIND_AND,
     };
-    struct bytes b = { 0, { 0 } };
-    put2(&b, PARTS);
-    put2(&b, CHANNELS);
-    for (int part = 0; part < PARTS; part++)
-        put1(&b, kinds[part]);
+    struct bytes b = start_rule(kinds);
     put_channel(&b, 0, 0); /* LOWER */
     put_constant(&b, LIMIT);
     put_channel(&b, 1, 0); /* AVERAGED */
@@ -128,6 +156,30 @@ static struct bytes make_rule(void)
     put_channel(&b, 0, -1); /* STAYED */
     put_channel(&b, 0, 0);
     put_names(&b, ALWAYS, STAYED);
+    return b;
+}
+
+static struct bytes make_rule_of_top(void)
+{
+    static const uint8_t kinds[PARTS] = {
+        [T_PINNED] = ENDLESS_RUN_KIND_PINNED,  [T_LOWER] = ENDLESS_RUN_KIND_NOT,
+        [T_AVERAGED] = ENDLESS_RUN_KIND_EQUAL, [T_NOT_AVERAGED] = ENDLESS_RUN_KIND_NOT,
+        [T_EITHER] = ENDLESS_RUN_KIND_OR,      [T_UNTIL_LOWER] = ENDLESS_RUN_KIND_RELEASE,
+        [T_NEVER] = ENDLESS_RUN_KIND_LESS,     [T_WHOLE] = ENDLESS_RUN_KIND_RELEASE,
+    };
+    struct bytes b = start_rule(kinds);
+    put_channel(&b, 0, 0); /* T_PINNED: a term, and 6 zero bytes */
+    for (int i = 0; i < 6; i++)
+        put1(&b, 0);
+    put_names(&b, T_PINNED, 0); /* T_LOWER names one part */
+    put_channel(&b, 1, 0);      /* T_AVERAGED */
+    put_constant(&b, 1);
+    put_names(&b, T_AVERAGED, 0);
+    put_names(&b, T_NOT_AVERAGED, T_LOWER);
+    put_names(&b, T_LOWER, T_EITHER);
+    put_constant(&b, 1); /* T_NEVER */
+    put_constant(&b, 0);
+    put_names(&b, T_NEVER, T_UNTIL_LOWER);
     return b;
 }
 
@@ -157,6 +209,8 @@ static struct bytes make_plan(const struct plan *plan)
     put2(&b, (unsigned)plan->start);
     put2(&b, (unsigned)plan->cycle);
     put2(&b, (unsigned)plan->lead);
+    put4(&b, plan->top);
+    put4(&b, ENDLESS_RUN_NO_TOP); /* of channel 1 */
     put_readings(&b, plan->before, plan->lead);
     put_readings(&b, plan->row, rows);
     put_drifts(&b, plan->before, plan->lead);
@@ -301,7 +355,8 @@ static int write_file(const char *name, const struct bytes *b)
 static const struct plan patient = {
     1, 1, 4,
     { { 3000, 0, 0 } },
-    { { 3000, 1, 0 }, { 4095, 0, 0 }, { 4095, 0, 0 }, { 3900, 1, 0 }, { 3800, 1, 0 } }
+    { { 3000, 1, 0 }, { 4095, 0, 0 }, { 4095, 0, 0 }, { 3900, 1, 0 }, { 3800, 1, 0 } },
+    ENDLESS_RUN_NO_TOP
 };
 
 /* The same, but with nothing read before the start; the same, but row 2 averages a
@@ -332,10 +387,35 @@ static struct plan rising(void)
 static const struct plan sudden = {
     1, 0, 4,
     { { 4095, 0, 0 } },
-    { { 4095, 0, 0 }, { 4095, 0, 0 }, { 3900, 1, 0 }, { 3800, 1, 0 } }
+    { { 4095, 0, 0 }, { 4095, 0, 0 }, { 3900, 1, 0 }, { 3800, 1, 0 } },
+    ENDLESS_RUN_NO_TOP
 };
 
-/* ---- The three uses ---- */
+/* With the top in the plan: one start row, then a cycle of three, pinned twice and lower.
+   Row 2 rises from its top, and stays pinned. */
+static const struct plan topped = {
+    0, 1, 3,
+    { { 0, 0, 0 } },
+    { { 3000, 1, 0 }, { 4095, 0, 0 }, { 4095, 0, 1 }, { 3900, 1, 0 } },
+    LIMIT
+};
+
+/* The same, but row 2 averages a pinned count; the same, but row 3 rises to its top. */
+static struct plan topped_hasty(void)
+{
+    struct plan plan = topped;
+    plan.row[2].averaged = 1;
+    return plan;
+}
+
+static struct plan topped_rising(void)
+{
+    struct plan plan = topped;
+    plan.row[3].drift = 100;
+    return plan;
+}
+
+/* ---- The four uses ---- */
 
 /* The planner has marks of its own. */
 static int check_own_marks(const struct bytes *rule)
@@ -419,12 +499,49 @@ static void have_plans_settled(const struct bytes *rule)
     }
 }
 
+/* The plans say themselves what the highest count is. */
+static int use_top(const struct bytes *rule)
+{
+    struct plan next = topped;
+    struct bytes plan = make_plan(&next), made, laid_out;
+    printf("With the top in the plan (pinned-rule.bin, pinned-plan.bin, pinned-marks.bin):\n");
+    if (!have_made(rule, &plan, next.start + next.cycle, &made))
+        return 0;
+    check(rule, &plan, &made);
+    if (!write_file("pinned-rule.bin", rule) || !write_file("pinned-plan.bin", &plan) ||
+        !write_file("pinned-marks.bin", &made))
+        return 0;
+
+    printf("The same, but row 2 averages a pinned count (pinned-hasty.bin):\n");
+    next = topped_hasty();
+    plan = make_plan(&next);
+    if (!write_file("pinned-hasty.bin", &plan) ||
+        !have_made(rule, &plan, next.start + next.cycle, &made))
+        return 0;
+    check(rule, &plan, &made);
+
+    /* 3900, 4000, and pinned from 4100 on, while row 3 is averaged. */
+    printf("As the first of these, but row 3 rises by 100 on each pass, from 3900:\n");
+    next = topped_rising();
+    plan = make_plan(&next);
+    have_made(rule, &plan, next.start + next.cycle, &made);
+    uint64_t judged = endless_run_judge(rule->at, rule->len, plan.at, plan.len, T_PINNED, 3);
+    printf("  part %d judged on row 3: %s\n", T_PINNED, endless_run_judge_message(judged));
+    int passes = have_settled(rule, &plan, &laid_out);
+    if (passes < 0)
+        return 0;
+    printf("  passes laid out: %d\n", passes);
+    if (have_made(rule, &laid_out, next.start + (passes + 1) * next.cycle, &made))
+        check(rule, &laid_out, &made);
+    return 1;
+}
+
 int main(void)
 {
-    struct bytes rule = make_rule();
+    struct bytes rule = make_rule(), rule_of_top = make_rule_of_top();
     if (!check_own_marks(&rule))
         return 1;
     have_marks_made(&rule);
     have_plans_settled(&rule);
-    return 0;
+    return use_top(&rule_of_top) ? 0 : 1;
 }

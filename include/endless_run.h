@@ -3,14 +3,17 @@
  *
  * The checker answers questions about a rule and a plan. A rule is a formula
  * of linear temporal logic over comparisons of readings (CLTLB over the
- * integers with < and =) and over windows of the week, in which a reading in
- * minutes lies or does not. Comparisons and windows are the atoms of a rule:
- * the parts whose truth is read off the run. A plan is a finite description of
- * an endless run: start rows, then cycle rows that come again for ever, where
- * each coming again ("pass") adds a drift to every reading. It may have lead-in
- * rows as well: readings taken before the run begins, for atoms that look back.
- * A mark table claims the truth of every part of the rule on every row of the
- * plan, from the run's beginning on.
+ * integers with < and =), over windows of the week, in which a reading in
+ * minutes lies or does not, and over tests whether a reading is pinned.
+ * Comparisons, windows and these tests are the atoms of a rule: the parts whose
+ * truth is read off the run. A plan is a finite description of an endless run:
+ * start rows, then cycle rows that come again for ever, where each coming again
+ * ("pass") adds a drift to every reading. It may have lead-in rows as well:
+ * readings taken before the run begins, for atoms that look back. And it has a
+ * top for each channel, the highest count of its sensor: a reading at its top
+ * or above is pinned, and stands for no number. A mark table claims the truth
+ * of every part of the rule on every row of the plan, from the run's beginning
+ * on.
  *
  * endless_run_check() tells whether a mark table is right, on the whole of the
  * endless run. endless_run_judge() tells whether one atom of the rule has the
@@ -26,7 +29,7 @@
  * little-endian, and signed ones are two's complement.
  *
  *   rule   N, V             2 bytes each: parts (1 to 64), channels (1 to 8)
- *          kinds            N bytes, each 1 to 13
+ *          kinds            N bytes, each 1 to 14
  *          operands         N times 12 bytes
  *          length           4 + 13 * N
  *
@@ -34,11 +37,13 @@
  *                           more), cycle rows (1 or more), lead-in rows (0 to
  *                           4); the number of rows W = P + C, which does not
  *                           count L, is at most 256
+ *          tops             V signed 4-byte numbers, 0 or more: the top of each
+ *                           channel, 0 for none
  *          readings         (L + W) * V signed 4-byte numbers, row after row:
  *                           the L lead-in rows, then rows 0 to W - 1
  *          drifts           (L + W) * V signed 4-byte numbers, in the same
  *                           order, 0 in lead-in rows and start rows
- *          length           8 + 8 * V * (L + W)
+ *          length           8 + 4 * V + 8 * V * (L + W)
  *
  *   marks  N, W             2 bytes each: as in the rule and in the plan
  *          marks            N * W bytes, part after part: 1 true, 0 false
@@ -51,6 +56,17 @@
  * terms read them; Y, Z, S and T begin at position 0 and look no further back.
  * Lead-in rows have no number: marks, witnesses, judge and refusals speak of
  * rows 0 to W - 1.
+ *
+ * What a reading shows. Its exact value at a position is the row's reading plus
+ * the pass times its drift, as a whole number without limit. Where the top of
+ * its channel is 0 it shows that number. Where the top is another, it does so
+ * below the top only; at or above the top it is pinned, on a lead-in row, a
+ * start row or a cycle row alike. Before position -L there is nothing. A
+ * comparison is false where one of its terms is pinned or lies before position
+ * -L, x = x too; so is a window. A part of kind 14 is true exactly where its
+ * reading is pinned, and so false before position -L. Constants are never
+ * pinned. All other parts go by the truth of the parts that they name: "not" of
+ * a comparison with a pinned term is true.
  *
  *
  * WHAT HOLDS FOR ALL FOUR FUNCTIONS
@@ -112,12 +128,17 @@ extern "C" {
  * of an answer or of the interface that a caller could notice. In version 5
  * refusal 10 of endless_run_check() comes before 9 of the same part; what is
  * accepted is as in version 4. In version 6 a part may be of kind 13, a window
- * of the week; a rule without such a part is answered as in version 5.
+ * of the week; a rule without such a part is answered as in version 5. In
+ * version 7 a plan has tops behind its sizes, and a part may be of kind 14,
+ * true where a reading is pinned; a rule without such a part, on a plan whose
+ * tops are all 0, is answered as in version 6 on that plan without them. The
+ * buffer for the plan of endless_run_settle() is 32 bytes longer.
  */
-#define ENDLESS_RUN_VERSION 6
+#define ENDLESS_RUN_VERSION 7
 
 /* The kind byte of a part. The comments give its operand: two terms, one part,
-   two parts a and b in this order, or a term and two minutes of the week. */
+   two parts a and b in this order, a term and two minutes of the week, or a
+   term alone. */
 enum endless_run_kind {
     ENDLESS_RUN_KIND_LESS = 1,            /* two terms: left < right */
     ENDLESS_RUN_KIND_EQUAL = 2,           /* two terms: left = right */
@@ -131,7 +152,8 @@ enum endless_run_kind {
     ENDLESS_RUN_KIND_WEAK_YESTERDAY = 10, /* one part: Z a */
     ENDLESS_RUN_KIND_SINCE = 11,          /* two parts: a S b */
     ENDLESS_RUN_KIND_TRIGGER = 12,        /* two parts: a T b */
-    ENDLESS_RUN_KIND_WINDOW = 13          /* a term, from and to */
+    ENDLESS_RUN_KIND_WINDOW = 13,         /* a term, from and to */
+    ENDLESS_RUN_KIND_PINNED = 14          /* one term: it is at its top or above */
 };
 
 /* The form byte of a term. */
@@ -152,6 +174,11 @@ enum endless_run_form {
    of the week. */
 #define ENDLESS_RUN_WEEK 10080
 
+/* The top of a channel that has none: its readings are never pinned. The operand
+   of a part of kind 14 is a term of 6 bytes, which must be a reading, then 6 zero
+   bytes. */
+#define ENDLESS_RUN_NO_TOP 0
+
 /* The witness of a part that is asked for none. */
 #define ENDLESS_RUN_NO_WITNESS 65535
 
@@ -166,18 +193,18 @@ enum endless_run_form {
    are. Each size is evaluated once, and is not held against its range. */
 #define ENDLESS_RUN_RULE_LENGTH(parts) (4 + 13 * (size_t)(parts))
 #define ENDLESS_RUN_PLAN_LENGTH(channels, lead, rows) \
-    (8 + 8 * (size_t)(channels) * ((size_t)(lead) + (size_t)(rows)))
+    (8 + (size_t)(channels) * (4 + 8 * ((size_t)(lead) + (size_t)(rows))))
 #define ENDLESS_RUN_MARKS_LENGTH(parts, rows) (4 + (size_t)(parts) * ((size_t)(rows) + 2))
 
-/* The largest lengths in bytes: 836, 16648 and 16516. A longer rule, plan, mark
+/* The largest lengths in bytes: 836, 16680 and 16516. A longer rule, plan, mark
    table or buffer for one is always refused. */
 #define ENDLESS_RUN_LONGEST_RULE (4 + 13 * ENDLESS_RUN_MOST_PARTS)
 #define ENDLESS_RUN_LONGEST_PLAN \
-    (8 + 8 * ENDLESS_RUN_MOST_CHANNELS * (ENDLESS_RUN_MOST_LEAD + ENDLESS_RUN_MOST_ROWS))
+    (8 + ENDLESS_RUN_MOST_CHANNELS * (4 + 8 * (ENDLESS_RUN_MOST_LEAD + ENDLESS_RUN_MOST_ROWS)))
 #define ENDLESS_RUN_LONGEST_MARKS \
     (4 + ENDLESS_RUN_MOST_PARTS * ENDLESS_RUN_MOST_ROWS + 2 * ENDLESS_RUN_MOST_PARTS)
 
-/* The lengths in bytes of the two buffers of endless_run_settle(): 16648, room
+/* The lengths in bytes of the two buffers of endless_run_settle(): 16680, room
    for the longest plan, and 16516. */
 #define ENDLESS_RUN_LAID_OUT_LENGTH ENDLESS_RUN_LONGEST_PLAN
 #define ENDLESS_RUN_SETTLE_SCRATCH_LENGTH 16516
@@ -201,17 +228,19 @@ enum endless_run_refusal {
        length is not the one that its sizes give. */
     ENDLESS_RUN_RULE_SIZES = 1,
 
-    /* A kind byte is not 1 to 13. Part: the lowest such part. */
+    /* A kind byte is not 1 to 14. Part: the lowest such part. */
     ENDLESS_RUN_KIND = 2,
 
     /* An operand breaks the layout: a form, a shift code, a channel, a part
-       that is not lower than its user, a padding byte other than 0, or in a
-       window a constant for its term, a from or to above 10079, or a from that
-       is the same as to. Part: the lowest such part. */
+       that is not lower than its user, a padding byte other than 0, in a
+       window or a part of kind 14 a constant for its term, or in a window a
+       from or to above 10079, or a from that is the same as to. Part: the
+       lowest such part. */
     ENDLESS_RUN_OPERAND = 3,
 
-    /* The plan has fewer than 8 bytes, V, C, L or W is outside its range, or
-       the length is not the one that its sizes give. */
+    /* The plan has fewer than 8 bytes, V, C, L or W is outside its range, the
+       length is not the one that its sizes give, or a top is negative, also
+       that of a channel which the rule never reads. */
     ENDLESS_RUN_PLAN_SIZES = 4,
 
     /* The plan's V differs from the rule's. */
@@ -254,7 +283,8 @@ enum endless_run_refusal {
     ENDLESS_RUN_WITNESS = 11,
 
     /* The part or the row that the caller of endless_run_judge() named is
-       absent, or that part is no atom: neither a comparison nor a window. */
+       absent, or that part is no atom: no comparison, no window and not of kind
+       14. */
     ENDLESS_RUN_ABSENT = 12,
 
     /* The length of the buffer lent to endless_run_make() is not the one that
@@ -311,7 +341,8 @@ uint64_t endless_run_check(const uint8_t *rule, size_t rule_len,
                            const uint8_t *marks, size_t marks_len);
 
 /*
- * Judge one atom, a comparison or a window, on one row, over all passes.
+ * Judge one atom, a comparison, a window or a part of kind 14, on one row, over
+ * all passes.
  *
  *   rule, rule_len      the rule
  *   plan, plan_len      the plan
@@ -328,11 +359,13 @@ uint64_t endless_run_check(const uint8_t *rule, size_t rule_len,
  *   otherwise   a refusal, with number 1 to 6 or 12
  *
  * A start row comes once, so there the answer is never "changes". Readings are
- * whole numbers without limit: they never wrap, on however late a pass. Where
- * a shifted reading lies before position 0 it is that of a lead-in row, and
- * where it lies before position -L, before all lead-in rows, the comparison or
- * window is false. A lead-in row cannot be judged: row W and every row above is
- * absent, however many lead-in rows the plan has.
+ * whole numbers without limit: they never wrap, on however late a pass, and are
+ * held against their tops as such. So a reading that drifts up to its top on
+ * however late a pass, or down from it, may make an atom change. Where a
+ * shifted reading lies before position 0 it is that of a lead-in row, and where
+ * it lies before position -L, before all lead-in rows, the atom is false. A
+ * lead-in row cannot be judged: row W and every row above is absent, however
+ * many lead-in rows the plan has.
  */
 uint64_t endless_run_judge(const uint8_t *rule, size_t rule_len,
                            const uint8_t *plan, size_t plan_len,
@@ -405,24 +438,26 @@ uint64_t endless_run_make(const uint8_t *rule, size_t rule_len,
  * rule, the plan or the other.
  *
  * With n passes laid out the new plan has the sizes V, P + n * C, C and L. Its
- * lead-in rows are copied. Row t, start row or cycle row, has the readings at
- * position t of the first plan's run. The drifts of the cycle rows stay; all
- * others are 0. So it has the same reading as the first plan at every position,
- * lead-in included, and each part of the rule has the same truth there. It has
- * P + n * C + C rows and ENDLESS_RUN_PLAN_LENGTH(V, L, P + n * C + C) bytes, as
- * the sizes at its front say: endless_run_plan_length(laid_out) is that length,
- * to be given on as plan_len.
+ * tops and its lead-in rows are copied. Row t, start row or cycle row, has the
+ * readings at position t of the first plan's run, the exact ones also where
+ * they are pinned. The drifts of the cycle rows stay; all others are 0. So it
+ * has the same reading as the first plan at every position, lead-in included,
+ * and each part of the rule has the same truth there. It has P + n * C + C rows
+ * and ENDLESS_RUN_PLAN_LENGTH(V, L, P + n * C + C) bytes, as the sizes at its
+ * front say: endless_run_plan_length(laid_out) is that length, to be given on
+ * as plan_len.
  *
  * A part closes when it has on each cycle row the same truth on all passes.
  * Every part counts, also one that nobody names. So for the new plan
  * endless_run_make() makes a table, and with fewer passes laid out it would
  * answer 14. A window that a drift takes a reading into and out of comes and
- * goes for ever, and closes with no number of passes laid out. Where all drifts
- * are 0, the answer is at most 4 plus the deepest nesting of Y, Z, S and T in
- * any part, if there is room for as many passes. Once refusals 1 to 6 and 13
- * are cleared, the answer is refusal 15 exactly when no number n works with
- * which the new plan has 256 rows or fewer and all its readings fit 4 bytes,
- * also those of channels that the rule never reads.
+ * goes for ever, and closes with no number of passes laid out, unless the
+ * reading rises to a top. Where all drifts are 0, the answer is at most 4 plus
+ * the deepest nesting of Y, Z, S and T in any part, if there is room for as
+ * many passes. Once refusals 1 to 6 and 13 are cleared, the answer is refusal
+ * 15 exactly when no number n works with which the new plan has 256 rows or
+ * fewer and all its readings fit 4 bytes, also pinned ones and those of
+ * channels that the rule never reads.
  */
 uint64_t endless_run_settle(const uint8_t *rule, size_t rule_len,
                             const uint8_t *plan, size_t plan_len,
@@ -499,11 +534,11 @@ static inline const char *endless_run_refusal_message(unsigned number)
     case ENDLESS_RUN_RULE_SIZES:
         return "the rule's sizes or its length are wrong";
     case ENDLESS_RUN_KIND:
-        return "a kind byte of the rule is not 1 to 13";
+        return "a kind byte of the rule is not 1 to 14";
     case ENDLESS_RUN_OPERAND:
         return "an operand of the rule breaks the layout";
     case ENDLESS_RUN_PLAN_SIZES:
-        return "the plan's sizes or its length are wrong";
+        return "the plan's sizes or its length are wrong, or a top is negative";
     case ENDLESS_RUN_CHANNELS:
         return "the plan's number of channels is not the rule's";
     case ENDLESS_RUN_START_DRIFT:
@@ -519,7 +554,8 @@ static inline const char *endless_run_refusal_message(unsigned number)
     case ENDLESS_RUN_WITNESS:
         return "a witness is not in order";
     case ENDLESS_RUN_ABSENT:
-        return "there is no such part or row, or the part is no comparison and no window";
+        return "there is no such part or row, or the part is no comparison, no window "
+               "and no test for a pinned reading";
     case ENDLESS_RUN_BUFFER_LENGTH:
         return "a buffer's length is not the one it has to have";
     case ENDLESS_RUN_NO_TABLE:

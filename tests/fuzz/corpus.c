@@ -3,18 +3,20 @@
  *
  *   corpus FOLDER
  *
- * One input for each worked example. For each kind of part and some sizes of plan,
- * with and without lead-in rows, the true table of a rule with all kinds up to that
- * one, windows last. For Y, Z, S and T the true table on each plan of three rows of 0 and
- * 1, whether it closes or not, and the same with a part above that does not name it; and
- * each with a wrong mark, in that part or in one below. Less, equal and windows that
+ * One input for each worked example. For each kind of part and some sizes of plan, with
+ * and without lead-in rows, the true table of a rule with all kinds up to that one,
+ * windows and kind 14 last. For Y, Z, S and T the true table on each plan of three rows
+ * of 0 and 1, whether it closes or not, and the same with a part above that does not name
+ * it; and each with a wrong mark, in that part or in one below. Atoms of each kind that
  * change, with a wrong mark. For each L and each shift back the true table of comparisons
  * that look back, on a lead-in that goes on as the cycle does, on one that does not, and
  * on one that has a drift; and plans with a wrong L. Rules and plans that settle after
  * some passes, by Y, Z, S and T over one another or by a drift, or for which there is no
- * room; and lengths of the buffers of settle. Windows by both ends and over the end of the
- * week, with readings below 0 and at the ends of 32 bits, with drifts that share some
- * divisor with the week, and with faults in their operands.
+ * room; and lengths of the buffers of settle. Windows by both ends and over the end of
+ * the week, with readings below 0 and at the ends of 32 bits, with drifts that share some
+ * divisor with the week, and with faults in their operands. Readings that rise to a top
+ * or fall from it, on an early pass, on a late one or never, held against a number,
+ * against one another and against a window; and wrong tops and operands.
  */
 #include "../support/examples.h"
 
@@ -70,6 +72,8 @@ static void all_kinds(enum kind last)
         int part = kind - 1;
         if (kind == WINDOW)
             write_window(&rule, part, reading(0, -1), 5, 6);
+        else if (kind == PINNED)
+            write_pinned(&rule, part, reading(1, -1));
         else if (kind == EQUAL)
             write_comparison(&rule, part, EQUAL, reading(0, -1), constant(6));
         else if (names_two_parts((enum kind)kind))
@@ -79,10 +83,12 @@ static void all_kinds(enum kind last)
     }
 }
 
-/* The lead-in and start rows have the readings of the first pass of the cycle. */
+/* The lead-in and start rows have the readings of the first pass of the cycle. On some
+   plans the first cycle row is at its top for ever. */
 static void steady_plan(int lead, int start, int cycle)
 {
     start_plan_with_lead(&plan, 2, lead, start, cycle);
+    write_top(&plan, 1, start % 2 ? 0 : 30);
     for (int row = -lead; row < start + cycle; row++) {
         int of_cycle = ((row - start) % cycle + cycle) % cycle;
         write_reading(&plan, row, 0, of_cycle % 2 ? 6 : 5);
@@ -98,13 +104,14 @@ static void write_kinds(void)
                                     { 0, 7, 1 }, { 0, 1, 5 }, { 1, 0, 2 }, { 2, 1, 3 },
                                     { 3, 2, 2 }, { 4, 0, 1 } };
     char name[64];
-    for (int kind = LESS; kind <= WINDOW; kind++)
+    for (int kind = LESS; kind <= PINNED; kind++)
         for (int i = 0; i < 10; i++) {
             all_kinds((enum kind)kind);
             steady_plan(sizes[i][0], sizes[i][1], sizes[i][2]);
             write_true_marks_of(&marks, &space, &rule, &plan);
             snprintf(name, sizeof name, "kinds-%d-plan-%d", kind, i);
-            write_input(name, kind == WINDOW ? 12 : (unsigned)kind % 2, (unsigned)sizes[i][1]);
+            write_input(name, kind >= WINDOW ? (unsigned)kind - 1 : (unsigned)kind % 2,
+                        (unsigned)sizes[i][1]);
         }
 }
 
@@ -160,7 +167,8 @@ static void write_wrong_marks(const char *name, int part)
     }
 }
 
-/* x < 1 or x = 1, or the window of minute 1, on three rows, one of which rises from 0. */
+/* x < 1 or x = 1, or the window of minute 1, or pinned under a top of 1, on three rows, one
+   of which rises from 0. */
 static void write_changing(enum kind kind, int start, int rising)
 {
     struct formula f = { .kind = kind, .left = reading(0, 0), .right = constant(1), .from = 1,
@@ -170,6 +178,7 @@ static void write_changing(enum kind kind, int start, int rising)
     write_formula(&rule, 0, &f);
     write_unary(&rule, 1, NOT, 0);
     start_plan(&plan, 1, start, 3 - start);
+    write_top(&plan, 0, kind == PINNED);
     write_drift(&plan, rising, 0, 1);
     write_true_marks_of(&marks, &space, &rule, &plan);
     snprintf(name, sizeof name, "changing-%d-start-%d-row-%d", (int)kind, start, rising);
@@ -300,6 +309,68 @@ static void write_wrong_windows(void)
     write_input("clock-from-is-to", 1, 1);
     *kind_byte(&rule, 1) = 14;
     write_input("clock-kind-14", 1, 1);
+    *kind_byte(&rule, 1) = 15;
+    write_input("clock-kind-15", 1, 1);
+}
+
+/* Two channels under tops, one of which drifts: whether it is pinned, now and two positions
+   back, the same against a number and a window, and the two against each other. */
+static void write_topped(const char *name, int32_t top, int32_t read, int32_t drift)
+{
+    start_rule(&rule, 7, 2);
+    write_pinned(&rule, 0, reading(0, 0));
+    write_pinned(&rule, 1, reading(0, -2));
+    write_comparison(&rule, 2, LESS, reading(0, 0), constant(top));
+    write_comparison(&rule, 3, EQUAL, reading(0, -1), reading(0, -1));
+    write_window(&rule, 4, reading(0, 0), 480, 1020);
+    write_comparison(&rule, 5, LESS, reading(1, 0), reading(0, 0));
+    write_binary(&rule, 6, SINCE, 0, 5);
+    start_plan_with_lead(&plan, 2, 1, 1, 1);
+    write_top(&plan, 0, top);
+    write_top(&plan, 1, 100);
+    for (int row = -1; row < 2; row++) {
+        write_reading(&plan, row, 0, read);
+        write_reading(&plan, row, 1, 99 + row);
+    }
+    write_drift(&plan, 1, 0, drift);
+    write_true_marks_of(&marks, &space, &rule, &plan);
+    write_input(name, (unsigned)drift % 6, 1);
+}
+
+static void write_all_topped(void)
+{
+    static const int32_t tops[] = { 0, 1, 100, 481, 4095, INT32_MAX };
+    static const int32_t reads[] = { 0, 99, 100, 480, 4094, 4100, INT32_MIN, INT32_MAX };
+    static const int32_t drifts[] = { 0, 1, -1, 50, -50, 1440, -WEEK, INT32_MAX, INT32_MIN };
+    char name[64];
+    for (int i = 0; i < 6; i++)
+        for (int k = 0; k < 8; k++)
+            for (int n = 0; n < 9; n++) {
+                snprintf(name, sizeof name, "top-%d-reading-%d-drift-%d", i, k, n);
+                write_topped(name, tops[i], reads[k], drifts[n]);
+            }
+}
+
+/* A negative top on either channel, a plan without tops, and another byte at each place of
+   the operand of kind 14. */
+static void write_wrong_tops(void)
+{
+    char name[64];
+    for (int channel = 0; channel < 2; channel++) {
+        write_topped("top", 100, 99, 1);
+        top_bytes(&plan, channel)[3] |= 0x80;
+        snprintf(name, sizeof name, "top-negative-%d", channel);
+        write_input(name, 0, 1);
+    }
+    write_topped("top", 100, 99, 1);
+    resize(&plan, plan.len - 8);
+    write_input("top-none", 0, 1);
+    for (int i = 0; i < 12; i++) {
+        write_topped("top", 100, 99, 1);
+        operand_bytes(&rule, 0)[i] ^= i == 0 ? 1 : 0x80;
+        snprintf(name, sizeof name, "top-operand-%d", i);
+        write_input(name, 0, 1);
+    }
 }
 
 int main(int argc, char **argv)
@@ -319,11 +390,14 @@ int main(int argc, char **argv)
     write_all_late();
     write_clocks();
     write_wrong_windows();
+    write_all_topped();
+    write_wrong_tops();
     for (int start = 0; start < 3; start++)
         for (int rising = start; rising < 3; rising++) {
             write_changing(LESS, start, rising);
             write_changing(EQUAL, start, rising);
             write_changing(WINDOW, start, rising);
+            write_changing(PINNED, start, rising);
         }
     for (int kind = YESTERDAY; kind <= TRIGGER; kind++)
         for (int start = 0; start < 3; start++)

@@ -207,7 +207,7 @@ static bool same_buffers(const struct buffers *a, const struct buffers *b)
 static struct slice plan_at(const uint8_t *at)
 {
     size_t rows = field2(at + 2) + field2(at + 4);
-    return (struct slice){ at, 8 + 8 * field2(at) * (field2(at + 6) + rows) };
+    return (struct slice){ at, 8 + field2(at) * (4 + 8 * (field2(at + 6) + rows)) };
 }
 
 /* Is a table made for the plan laid out? */

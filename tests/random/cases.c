@@ -7,8 +7,8 @@
 
 struct sheet case_rule, case_plan, case_marks;
 struct truth case_truth;
-const char *const kind_names[WINDOW + 1] = { "",  "less", "equal", "not", "and", "or", "X",
-                                             "U", "R",    "Y",     "Z",   "S",   "T",  "window" };
+const char *const kind_names[KINDS] = { "",  "less", "equal", "not", "and", "or",     "X",     "U",
+                                        "R", "Y",    "Z",     "S",   "T",   "window", "pinned" };
 
 static int32_t clamp(int64_t n)
 {
@@ -123,6 +123,8 @@ static void make_plan(enum plan_style style, int channels, int lead, int start, 
         write_rows_before(before);
         decode_plan(slice_of(&case_plan), channels, &case_truth.plan);
     }
+    if (chance(40))
+        write_some_tops();
 }
 
 void make_still_plan(int channels)
@@ -176,6 +178,8 @@ static struct formula some_comparison(void)
 
 struct formula some_atom(void)
 {
+    if (chance(has_tops(&case_truth.plan) ? 25 : 3))
+        return some_pinned();
     return chance(25) ? some_window() : some_comparison();
 }
 

@@ -16,8 +16,9 @@
 extern struct sheet case_rule, case_plan, case_marks;
 extern struct truth case_truth;
 
-/* The name of a kind, for a count. */
-extern const char *const kind_names[WINDOW + 1];
+/* So many counts has what is counted kind by kind; and the name of a kind. */
+enum { KINDS = PINNED + 1 };
+extern const char *const kind_names[KINDS];
 
 /* Make a case with the dice as they are. */
 void make_case(void);
@@ -40,6 +41,12 @@ int32_t extreme_drift(void);
 struct formula some_window(void);
 int32_t weekly_reading(void);
 int32_t weekly_drift(void);
+
+/* Tops for some channels of the plan of the case, beside its readings or far from them,
+   whether a plan has any, and whether a reading is pinned (top_cases.c). */
+void write_some_tops(void);
+bool has_tops(const struct plan *plan);
+struct formula some_pinned(void);
 
 /* A plan for the case with readings of some channels and no drift. */
 void make_still_plan(int channels);

@@ -2,7 +2,7 @@
  * closing.c: parts that do not close, and wrong marks beside that.
  *
  * A part closes or not by its truth, whatever its own marks say, and within one part
- * refusal 10 comes before 9 and 11. Less, equal, windows, Y, Z, S and T can fail to close.
+ * refusal 10 comes before 9 and 11. Atoms, Y, Z, S and T can fail to close.
  * Each is tried with marks written by hand, with faults in other parts as well, and on
  * plans of up to three rows with all marks that a part can have.
  */
@@ -17,8 +17,8 @@ static struct sheet rule, plan, marks;
 enum { A, B, TRIED, WHOLE, PARTS };
 enum { CHANNELS = 3, ROWS = 3 };
 
-static const enum kind open_kinds[] = { LESS,           EQUAL, WINDOW, YESTERDAY,
-                                        WEAK_YESTERDAY, SINCE, TRIGGER };
+static const enum kind open_kinds[] = { LESS,      EQUAL,          WINDOW, PINNED,
+                                        YESTERDAY, WEAK_YESTERDAY, SINCE,  TRIGGER };
 enum { OPEN_KINDS = sizeof open_kinds / sizeof open_kinds[0] };
 
 /* Bit r stands for row r. */
@@ -35,13 +35,14 @@ static unsigned rows_of(const char *of_rows)
     return rows;
 }
 
-/* z < 1 or z = 1, or the window of minute 1, holds on the row on pass 0 or does not, and is
-   the other thing on pass 1 if it changes there. */
+/* z < 1 or z = 1, or the window of minute 1, or pinned under a top of 1, holds on the row
+   on pass 0 or does not, and is the other thing on pass 1 if it changes there. */
 static void write_changing(enum kind kind, int row, bool holds, bool changes)
 {
     int on_pass_0 = kind == LESS ? !holds : holds;
+    bool falls = on_pass_0 == 1 && (kind == LESS || kind == PINNED);
     write_reading(&plan, row, 2, on_pass_0);
-    write_drift(&plan, row, 2, !changes ? 0 : on_pass_0 == 0 || kind != LESS ? 1 : -1);
+    write_drift(&plan, row, 2, !changes ? 0 : falls ? -1 : 1);
 }
 
 /* x = 1 and y = 1; of the kind a part over these two, or an atom of z and 1; and "not" the
@@ -64,6 +65,7 @@ static void write_tried(enum kind kind, int start, int rows, unsigned a, unsigne
 {
     write_rule(kind);
     start_plan(&plan, CHANNELS, start, rows - start);
+    write_top(&plan, 2, kind == PINNED);
     for (int row = 0; row < rows; row++) {
         write_reading(&plan, row, 0, on_row(a, row));
         write_reading(&plan, row, 1, on_row(b, row));
@@ -103,6 +105,7 @@ static const struct tried both_faults[OPEN_KINDS] = {
     { "less, both faults", LESS, "110", "001", "010", 10, 2 },
     { "equal, both faults", EQUAL, "110", "001", "111", 10, 2 },
     { "window, both faults", WINDOW, "110", "001", "111", 10, 2 },
+    { "pinned, both faults", PINNED, "110", "001", "010", 10, 2 },
     { "Y, its marks close", YESTERDAY, "100", "000", "000", 10, 1 },
     { "Z, its marks close", WEAK_YESTERDAY, "100", "000", "100", 10, 1 },
     { "S, its marks close", SINCE, "110", "100", "111", 10, 1 },
@@ -113,12 +116,15 @@ static const struct tried others[] = {
     { "less, two rows change", LESS, "010", "011", "001", 10, 1 },
     { "equal, two rows change", EQUAL, "010", "011", "001", 10, 1 },
     { "window, two rows change", WINDOW, "010", "011", "001", 10, 1 },
+    { "pinned, two rows change", PINNED, "010", "011", "001", 10, 1 },
     { "less changes, true marks", LESS, "110", "001", "110", 10, 2 },
     { "equal changes, true marks", EQUAL, "110", "001", "110", 10, 2 },
     { "window changes, true marks", WINDOW, "110", "001", "110", 10, 2 },
+    { "pinned changes, true marks", PINNED, "110", "001", "110", 10, 2 },
     { "less closes", LESS, "110", "000", "111", 9, 2 },
     { "equal closes", EQUAL, "110", "000", "010", 9, 0 },
     { "window closes", WINDOW, "110", "000", "010", 9, 0 },
+    { "pinned closes", PINNED, "110", "000", "111", 9, 2 },
 
     /* Neither the truth nor the marks close. */
     { "Y open both ways", YESTERDAY, "100", "000", "110", 10, 1 },

@@ -250,6 +250,9 @@ bool is_still(const struct plan *plan)
    a row are straight lines in the pass. */
 static bool same_run(const struct plan *a, const struct plan *b)
 {
+    for (int channel = 0; channel < a->channels; channel++)
+        if (a->top[channel] != b->top[channel])
+            return false;
     for (int position = -MOST_LEAD - 1; position < a->rows + b->rows + 2 * a->cycle; position++)
         if (!runs_agree(a, b, position))
             return false;
@@ -290,7 +293,7 @@ static const char *fault_in_layout(const struct rule *r, const struct plan *p, s
     if (new.cycle != p->cycle || new.start != p->start + passes * p->cycle)
         return "another number of passes is laid out";
     if (!same_run(p, &new))
-        return "the plan laid out has another run";
+        return "the plan laid out has another run, or other tops";
     if (!make_has_it(r, &new, rule, plan, true))
         return "make has it otherwise";
     if (passes > 0 && !is_open_after(r, *p, rule, passes - 1))

@@ -80,6 +80,8 @@ void test_closing(void);
 void test_lead_in(void);
 void test_windows(void);
 void test_window_rows(void);
+void test_tops(void);
+void test_top_rows(void);
 void test_making(void);
 void test_settling(void);
 void test_vectors(void);

@@ -143,10 +143,41 @@ static void windows(void)
         expect_made(of_week[i].name, &rule, &plan, &marks, verdict);
         put2(operand_bytes(&rule, 0) + 8, ENDLESS_RUN_WEEK);
         expect_check("no minute of the week", &rule, &plan, &marks, refusal(3, 0, 0));
-        *kind_byte(&rule, 0) = ENDLESS_RUN_KIND_WINDOW + 1;
+        *kind_byte(&rule, 0) = ENDLESS_RUN_KIND_PINNED + 1;
         expect_check("no kind", &rule, &plan, &marks, refusal(2, 0, 0));
     }
-    expect("version", ENDLESS_RUN_VERSION == 6 && ENDLESS_RUN_WEEK == 7 * 24 * 60);
+    expect("version", ENDLESS_RUN_VERSION == 7 && ENDLESS_RUN_WEEK == 7 * 24 * 60);
+}
+
+/* Kind 14 by the header's constants, under tops and under none: of y, which is 7 or 0, and
+   of x, which is 9 or 1. */
+static void pinned(void)
+{
+    static const struct {
+        const char *name, *marks;
+        int channel;
+        int32_t top;
+    } of_tops[] = {
+        { "pinned at the top", "100110", 1, 7 },     { "pinned above it", "100110", 1, 1 },
+        { "never at the top", "000000", 1, 8 },      { "always at the top", "111111", 0, 1 },
+        { "pinned on some rows", "110100", 0, 9 },   { "no top", "000000", 1, ENDLESS_RUN_NO_TOP },
+        { "the highest top", "000000", 0, INT32_MAX },
+    };
+    for (int i = 0; i < 7; i++) {
+        uint64_t verdict = of_tops[i].marks[0] == '1';
+        put_readings();
+        write_top(&plan, of_tops[i].channel, of_tops[i].top);
+        start_rule(&rule, 1, CHANNELS);
+        *kind_byte(&rule, 0) = ENDLESS_RUN_KIND_PINNED;
+        memset(operand_bytes(&rule, 0), 0, 12);
+        put_term(operand_bytes(&rule, 0), ENDLESS_RUN_FORM_READING, 0, of_tops[i].channel);
+        start_marks(&marks, 1, ROWS);
+        put_marks(0, of_tops[i].marks, ENDLESS_RUN_NO_WITNESS);
+        expect_check(of_tops[i].name, &rule, &plan, &marks, verdict);
+        expect_made(of_tops[i].name, &rule, &plan, &marks, verdict);
+        put_term(operand_bytes(&rule, 0), ENDLESS_RUN_FORM_CONSTANT, 0, of_tops[i].channel);
+        expect_check("pinned of a constant", &rule, &plan, &marks, refusal(3, 0, 0));
+    }
 }
 
 /* ---- Shifts and findings ---- */
@@ -317,7 +348,7 @@ static void settler(void)
            endless_run_passes(255) == 255 && endless_run_passes(256) == -1 &&
                endless_run_passes(UINT32_MAX) == -1 && endless_run_passes(UINT64_MAX) == -1);
     expect("lengths of the buffers",
-           sizeof laid_out == 16648 && ENDLESS_RUN_SETTLE_SCRATCH_LENGTH == 16516);
+           sizeof laid_out == 16680 && ENDLESS_RUN_SETTLE_SCRATCH_LENGTH == 16516);
 }
 
 /* ---- Messages ---- */
@@ -325,8 +356,8 @@ static void settler(void)
 /* A word of each refusal's text. */
 enum { REFUSALS = 15 };
 static const char *const words[REFUSALS + 1] = {
-    "",           "rule's",    "1 to 13",  "operand", "plan's",  "channels",   "lead-in or start",
-    "mark table", "mark byte", "equation", "passes",  "witness", "no window",  "buffer",
+    "",           "rule's",    "1 to 14",  "operand", "plan's",  "channels",   "lead-in or start",
+    "mark table", "mark byte", "equation", "passes",  "witness", "pinned",     "buffer",
     "no mark table", "no number of passes",
 };
 
@@ -402,6 +433,7 @@ void test_header(void)
 {
     kinds();
     windows();
+    pinned();
     shifts();
     sizes();
     maker();

@@ -56,6 +56,8 @@ static void make_late_plan(void)
         for (int channel = 0; channel < channels; channel++)
             write_late_cell(style, row, channel, row >= start);
     decode_plan(slice_of(&case_plan), channels, &case_truth.plan);
+    if (chance(40))
+        write_some_tops();
 }
 
 /* ---- Rules ---- */
@@ -80,6 +82,8 @@ static struct formula atom_back(void)
     struct formula f = { .kind = chance(80) ? EQUAL : LESS };
     f.left = reading(channel, chance(50) ? -4 : -below(5));
     f.right = constant(number == (int32_t)number ? (int32_t)number : p->reading[row][channel]);
+    if (chance(10))
+        return (struct formula){ .kind = PINNED, .left = f.left };
     return chance(25) ? window_of(f.left, number) : f;
 }
 

@@ -391,7 +391,7 @@ static void longest(int start, int period)
     for (int row = -MOST_LEAD; row < MOST_ROWS; row++)
         for (int channel = 0; channel < MOST_CHANNELS; channel++)
             write_reading(&plan, row, channel, (row_of(row, period) * 7 + channel * 3) % 5);
-    expect("longest plan", plan.len == 16648 && plan.len == ENDLESS_RUN_LONGEST_PLAN);
+    expect("longest plan", plan.len == 16680 && plan.len == ENDLESS_RUN_LONGEST_PLAN);
     write_true_marks_of(&marks, &truth_space, &rule, &plan);
     uint64_t verdict = *mark_byte(&marks, 63, 0);
     expect_made("longest plan", &rule, &plan, &marks, verdict);

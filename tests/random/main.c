@@ -5,9 +5,9 @@
  *   random [SEED [CASES]]
  *
  * The worked examples, the neighbours of each refusal, parts that do not close and have
- * wrong marks, lead-in rows, windows of the week, the tables that are made, the passes
- * that are laid out, worked vectors from the papers, the header's constants and functions,
- * then random cases against the second evaluator. The same seed gives the same cases.
+ * wrong marks, lead-in rows, windows of the week, tops, the tables that are made, the
+ * passes that are laid out, worked vectors from the papers, the header's constants and
+ * functions, then random cases against the second evaluator. The same seed gives the same cases.
  * The last line is 'N passed, M failed'; the exit status is 0 only if M is 0.
  */
 #include "expect.h"
@@ -33,6 +33,8 @@ int main(int argc, char **argv)
     run_group("lead-in rows", test_lead_in);
     run_group("windows of the week", test_windows);
     run_group("windows on the rows of a cycle", test_window_rows);
+    run_group("tops", test_tops);
+    run_group("tops on plans of more rows", test_top_rows);
     run_group("tables made", test_making);
     run_group("passes laid out", test_settling);
     run_group("worked vectors", test_vectors);

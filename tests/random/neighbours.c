@@ -2,10 +2,10 @@
  * neighbours.c: each refusal with its nearest neighbours that are accepted, and
  * the order of the refusals. E12, the full sizes, is among them.
  *
- * The base is a rule with one part of each kind, part k - 1 being of kind k, on
- * a plan of two start rows and two cycle rows. Its table is written by hand. The
- * refusals of make alone are in making.c, those of settle alone in settling.c; 9 and 10
- * on one part are in closing.c.
+ * The base is a rule with one part of each kind, part k - 1 being of kind k, on a plan
+ * of two start rows and two cycle rows, whose channel 1 has a top. Its table is written
+ * by hand. The refusals of make alone are in making.c, those of settle alone in
+ * settling.c; 9 and 10 on one part are in closing.c.
  */
 #include "expect.h"
 
@@ -15,7 +15,7 @@ static struct sheet rule, plan, marks;
 
 /* ---- The base ---- */
 
-enum { PARTS = 13 };
+enum { PARTS = 14 };
 
 static const char *const base_marks[PARTS] = {
     "1101", /*  0  y < 25 */
@@ -31,6 +31,7 @@ static const char *const base_marks[PARTS] = {
     "0011", /* 10  0 S 1 */
     "1101", /* 11  4 T 0 */
     "1010", /* 12  x from minute 5 to minute 6 */
+    "1010", /* 13  X X y is pinned, at 30 */
 };
 
 static void write_base_rule(void)
@@ -49,12 +50,14 @@ static void write_base_rule(void)
     write_binary(&rule, 10, SINCE, 0, 1);
     write_binary(&rule, 11, TRIGGER, 4, 0);
     write_window(&rule, 12, reading(0, 0), 5, 6);
+    write_pinned(&rule, 13, reading(1, 2));
 }
 
 static void write_base_plan(void)
 {
     static const int32_t x[4] = { 5, 6, 5, 6 }, y[4] = { 10, 20, 30, 20 };
     start_plan(&plan, 2, 2, 2);
+    write_top(&plan, 1, 30);
     for (int row = 0; row < 4; row++) {
         write_reading(&plan, row, 0, x[row]);
         write_reading(&plan, row, 1, y[row]);
@@ -166,17 +169,17 @@ static void rule_sizes(void)
 
 static void kinds(void)
 {
-    static const uint8_t wrong[] = { 0, 14, 15, 128, 255 };
+    static const uint8_t wrong[] = { 0, 15, 16, 128, 255 };
     for (size_t i = 0; i < sizeof wrong; i++)
         for (int part = 0; part < PARTS; part++) {
             *kind_byte(&rule, part) = wrong[i];
             refuse_all("kind byte", refusal(2, part, 0));
         }
     *kind_byte(&rule, 9) = 0;
-    *kind_byte(&rule, 4) = 14;
+    *kind_byte(&rule, 4) = 15;
     refuse_all("lowest wrong kind", refusal(2, 4, 0));
     operand_bytes(&rule, 0)[0] = 2;
-    *kind_byte(&rule, 11) = 14;
+    *kind_byte(&rule, 11) = 15;
     refuse_all("a kind before a lower operand", refusal(2, 11, 0));
 }
 
@@ -282,6 +285,44 @@ static void window_bytes(void)
     refuse_all("a window before the plan", refusal(3, WINDOW_PART, 0));
 }
 
+/* Every byte of the operand of kind 14. Only another shift, or another channel, is in
+   order. */
+static void pinned_bytes(void)
+{
+    enum { PINNED_PART = 13, CODE = 1, CHANNEL = 2, PADDING = 6 };
+    for (int i = 0; i < 12; i++) {
+        operand_bytes(&rule, PINNED_PART)[i] ^= 128;
+        refuse_all("a byte of kind 14, high bit", refusal(3, PINNED_PART, 0));
+    }
+    for (int i = PADDING; i < 12; i++) {
+        operand_bytes(&rule, PINNED_PART)[i] = 1;
+        refuse_all("padding of kind 14", refusal(3, PINNED_PART, 0));
+    }
+    write_pinned(&rule, PINNED_PART, constant(0));
+    refuse_all("kind 14 of a constant", refusal(3, PINNED_PART, 0));
+    write_pinned(&rule, PINNED_PART, constant(1));
+    operand_bytes(&rule, PINNED_PART)[CODE] = 6;
+    refuse_all("kind 14 of a shifted constant", refusal(3, PINNED_PART, 0));
+    operand_bytes(&rule, PINNED_PART)[0] = 2;
+    refuse_all("kind 14, form 2", refusal(3, PINNED_PART, 0));
+    operand_bytes(&rule, PINNED_PART)[CODE] = 9;
+    refuse_all("kind 14, shift code 9", refusal(3, PINNED_PART, 0));
+    operand_bytes(&rule, PINNED_PART)[CHANNEL] = 2;
+    refuse_all("kind 14 of an absent channel", refusal(3, PINNED_PART, 0));
+    put4(operand_bytes(&rule, PINNED_PART) + CHANNEL, -1);
+    refuse_all("kind 14 of channel -1", refusal(3, PINNED_PART, 0));
+    operand_bytes(&rule, PINNED_PART)[CHANNEL] = 0;
+    accept_with_true_marks("kind 14 of another channel");
+    operand_bytes(&rule, PINNED_PART)[CODE] = 8;
+    accept_with_true_marks("kind 14, shift code 8");
+    operand_bytes(&rule, PINNED_PART)[PADDING] = 1;
+    operand_bytes(&rule, 12)[11] = 1;
+    refuse_all("an operand below that of kind 14", refusal(3, 12, 0));
+    operand_bytes(&rule, PINNED_PART)[PADDING] = 1;
+    resize(&plan, 0);
+    refuse_all("kind 14 before the plan", refusal(3, PINNED_PART, 0));
+}
+
 static void operands(void)
 {
     terms_of(LESS, true);
@@ -299,6 +340,7 @@ static void operands(void)
     put2(operand_bytes(&rule, 5), 5);
     refuse_all("lowest wrong operand", refusal(3, 5, 0));
     window_bytes();
+    pinned_bytes();
     put2(operand_bytes(&rule, 9), 9);
     resize(&plan, 0);
     refuse_all("an operand before the plan", refusal(3, 9, 0));
@@ -324,13 +366,13 @@ static void accept_plan_of(const char *name, int channels, int start, int cycle)
    short enough to write. */
 static void refuse_plan_with_lead(const char *name, int channels, int lead, int start, int cycle)
 {
-    size_t len = 8 + 8 * (size_t)channels * (size_t)(lead + start + cycle);
+    size_t len = 8 + (size_t)channels * (4 + 8 * (size_t)(lead + start + cycle));
     start_plan(&plan, 1, 0, 1);
     put2(plan.at, (unsigned)channels);
     put2(plan.at + 2, (unsigned)start);
     put2(plan.at + 4, (unsigned)cycle);
     put2(plan.at + 6, (unsigned)lead);
-    resize(&plan, len < SHEET_LONGEST ? len : 16);
+    resize(&plan, len < SHEET_LONGEST ? len : 20);
     refuse_all(name, refusal(4, 0, 0));
 }
 
@@ -347,6 +389,13 @@ static void plan_sizes(void)
     }
     resize(&plan, 8);
     refuse_all("plan of sizes only", refusal(4, 0, 0));
+    for (size_t len = 9; len <= 16; len++) {
+        resize(&plan, len);
+        refuse_all("plan of sizes and tops", refusal(4, 0, 0));
+    }
+    memmove(plan.at + 8, plan.at + 16, plan.len - 16);
+    resize(&plan, plan.len - 8);
+    refuse_all("plan without tops", refusal(4, 0, 0));
     resize(&plan, plan.len - 1);
     refuse_all("plan one byte short", refusal(4, 0, 0));
     resize(&plan, plan.len + 1);
@@ -539,9 +588,9 @@ static void lead_drifts(void)
 
 static void mark_sizes(void)
 {
-    static const int sizes[][2] = { { 12, 4 }, { 14, 4 }, { 13, 3 },  { 13, 5 },
-                                    { 0, 4 },  { 13, 0 }, { 4, 13 },  { 269, 4 },
-                                    { 13, 260 } };
+    static const int sizes[][2] = { { 13, 4 }, { 15, 4 }, { 14, 3 },  { 14, 5 },
+                                    { 0, 4 },  { 14, 0 }, { 4, 14 },  { 270, 4 },
+                                    { 14, 260 } };
     for (size_t len = 0; len < 4; len++) {
         resize(&marks, len);
         check("table of fewer than 4 bytes", refusal(7, 0, 0));
@@ -717,7 +766,7 @@ static void witnesses(void)
 
 static void absent(void)
 {
-    static const uint64_t no_part[] = { PARTS, 14, 63, 64, 65, 255, 256, 65536, (uint64_t)1 << 32,
+    static const uint64_t no_part[] = { PARTS, 15, 63, 64, 65, 255, 256, 65536, (uint64_t)1 << 32,
                                         (uint64_t)1 << 63, UINT64_MAX };
     static const uint64_t no_row[] = { 4, 5, 255, 256, 65536, (uint64_t)1 << 32, (uint64_t)1 << 63,
                                        UINT64_MAX };
@@ -737,6 +786,8 @@ static void absent(void)
     judge("part 1, row P", 1, 2, ALWAYS_TRUE);
     judge("part 12, row 0", 12, 0, ALWAYS_TRUE);
     judge("part 12, row W - 1", 12, 3, ALWAYS_FALSE);
+    judge("part 13, row 0", 13, 0, ALWAYS_TRUE);
+    judge("part 13, row W - 1", 13, 3, ALWAYS_FALSE);
 
     write_drift(&plan, 1, 0, 1);
     judge("a start drift before an absent part", 64, 0, refusal(6, 0, 1));
@@ -788,6 +839,9 @@ static void order(void)
     start_plan_with_lead(&plan, 1, 4, 2, 2);
     write_drift(&plan, -1, 0, 1);
     write_drift(&plan, 1, 0, 1);
+    write_top(&plan, 0, -1);
+    expect_check(name, &rule, &plan, &marks, refusal(4, 0, 0));
+    write_top(&plan, 0, 0);
     expect_check(name, &rule, &plan, &marks, refusal(5, 0, 0));
     start_plan_with_lead(&plan, 2, 4, 2, 2);
     write_drift(&plan, -1, 0, 1);

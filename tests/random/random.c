@@ -20,8 +20,11 @@ static struct {
     unsigned long accepted[2], refused[13], judged[3];
     unsigned long false_fixpoints; /* refused 11 where no witness would serve */
     unsigned long full_size;       /* accepted with 64 parts and 256 rows */
-    unsigned long kinds[14];       /* accepted with a part of the kind */
+    unsigned long kinds[KINDS];       /* accepted with a part of the kind */
     unsigned long window_operands; /* refused 3 for a window */
+    unsigned long pinned_operands; /* refused 3 for a part of kind 14 */
+    unsigned long tops;            /* refused 4, and right but for a negative top */
+    unsigned long topped;          /* accepted with a top */
     unsigned long lead[5];         /* accepted with so many lead-in rows */
     unsigned long led;             /* accepted, an atom true by a lead-in row */
     unsigned long unseen;          /* accepted, one that reaches before all lead-in rows */
@@ -91,14 +94,26 @@ static void count_drifts(void)
 
 static void count_accepted(uint64_t verdict)
 {
-    bool seen[14] = { false };
+    bool seen[KINDS] = { false };
     counts.accepted[verdict]++;
     count_lead(&case_truth.rule, &case_truth.plan);
     counts.full_size += case_truth.rule.parts == 64 && case_truth.plan.rows == 256;
+    counts.topped += has_tops(&case_truth.plan);
     for (int part = 0; part < case_truth.rule.parts; part++)
         seen[case_truth.rule.part[part].kind] = true;
-    for (int kind = LESS; kind <= WINDOW; kind++)
+    for (int kind = LESS; kind <= PINNED; kind++)
         counts.kinds[kind] += seen[kind];
+}
+
+/* Is the plan in order once its tops are 0? */
+static bool is_right_but_for_tops(void)
+{
+    static struct sheet plan;
+    struct plan p;
+    plan = case_plan;
+    for (int channel = 0; channel < case_truth.plan.channels; channel++)
+        write_top(&plan, channel, 0);
+    return decode_plan(slice_of(&plan), case_truth.rule.channels, &p) == 0;
 }
 
 static void count_check(uint64_t answer)
@@ -109,9 +124,13 @@ static void count_check(uint64_t answer)
         return;
     }
     counts.refused[number]++;
-    if (number == ENDLESS_RUN_OPERAND)
-        counts.window_operands +=
-            *kind_byte(&case_rule, (int)endless_run_part(answer)) == WINDOW;
+    if (number == ENDLESS_RUN_OPERAND) {
+        uint8_t kind = *kind_byte(&case_rule, (int)endless_run_part(answer));
+        counts.window_operands += kind == WINDOW;
+        counts.pinned_operands += kind == PINNED;
+    }
+    if (number == ENDLESS_RUN_PLAN_SIZES)
+        counts.tops += is_right_but_for_tops();
     if (number == ENDLESS_RUN_START_DRIFT)
         count_drifts();
     struct rule r;
@@ -137,7 +156,7 @@ static bool changes_late(const struct plan *p, const struct formula *f, int row)
     return true;
 }
 
-static void count_judge(uint64_t answer, uint64_t part, uint64_t row)
+static void count_judge(const char *name, uint64_t answer, uint64_t part, uint64_t row)
 {
     struct rule r;
     struct plan p;
@@ -153,12 +172,13 @@ static void count_judge(uint64_t answer, uint64_t part, uint64_t row)
         counts.led_always += answer == ALWAYS_TRUE;
         counts.led_once += answer == CHANGES && !changes_from(&p, f, (int)row, 1);
     }
+    count_top(name, &p, f, (int)row, answer);
     if (f->kind == WINDOW)
         count_window(&p, f, (int)row, answer);
     else if (answer == CHANGES)
         counts.late += changes_late(&p, f, (int)row);
     else if (f->kind == EQUAL && row >= (uint64_t)p.start)
-        counts.stepped_over += settled_pass(&p, f, (int)row) > LINES_FROM + 1;
+        counts.stepped_over += last_turn(&p, f, (int)row) > LINES_FROM + 1;
 }
 
 /* ---- Floors ---- */
@@ -174,6 +194,9 @@ static void print_counts(unsigned long cases)
         hold_to_floor(name, counts.refused[number], cases, refusal_floors[number]);
     }
     hold_to_floor("refused 3 for a window", counts.window_operands, cases, 10);
+    hold_to_floor("refused 3 for kind 14", counts.pinned_operands, cases, 5);
+    hold_to_floor("refused 4 for a top", counts.tops, cases, 10);
+    hold_to_floor("accepted with a top", counts.topped, cases, 500);
     hold_each("judged", counts.judged, 3, cases, 500);
     hold_to_floor("judged 2, alike on the first 1000 passes", counts.late, cases, 20);
     hold_to_floor("judged 0, an equality stepped over", counts.stepped_over, cases, 50);
@@ -186,7 +209,7 @@ static void print_counts(unsigned long cases)
     hold_to_floor("judged 2, other by a lead-in row alone", counts.led_once, cases, 20);
     hold_to_floor("refused 6 for a lead-in row", counts.lead_drifts, cases, 10);
     hold_to_floor("refused 6, a later start row has a drift too", counts.both_drifts, cases, 2);
-    for (int kind = LESS; kind <= WINDOW; kind++) {
+    for (int kind = LESS; kind <= PINNED; kind++) {
         snprintf(name, sizeof name, "accepted with a part of kind %s", kind_names[kind]);
         hold_to_floor(name, counts.kinds[kind], cases, 200);
     }
@@ -227,7 +250,7 @@ static void ask_about_part(const char *name, uint64_t part)
     if (case_truth.plan.lead > 0 && chance(40))
         row %= MOST_LEAD; /* where a shift may reach the lead-in */
     uint64_t answer = second_judge(slice_of(&case_rule), slice_of(&case_plan), part, row);
-    count_judge(answer, part, row);
+    count_judge(name, answer, part, row);
     if (!expect_judge(name, &case_rule, &case_plan, part, row, answer) && failed <= 3) {
         printf("  part %" PRIu64 ", row %" PRIu64 "\n", part, row);
         print_sheet("rule", &case_rule);
@@ -283,4 +306,5 @@ void test_random(uint64_t seed, unsigned long cases)
     print_make_counts(cases);
     print_settle_counts(cases);
     print_window_counts(cases);
+    print_top_counts(cases);
 }

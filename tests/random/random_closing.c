@@ -17,10 +17,10 @@
 /* ---- Counts ---- */
 
 static struct {
-    unsigned long open[14];        /* refused 10 for a part of the kind */
-    unsigned long both[14];        /* the same, and a mark of it is wrong */
-    unsigned long marks_close[14]; /* the same, and its own marks close */
-    unsigned long marks_open[14];  /* refused 9, its truth closes, and its own marks do not */
+    unsigned long open[KINDS];        /* refused 10 for a part of the kind */
+    unsigned long both[KINDS];        /* the same, and a mark of it is wrong */
+    unsigned long marks_close[KINDS]; /* the same, and its own marks close */
+    unsigned long marks_open[KINDS];  /* refused 9, its truth closes, and its own marks do not */
     unsigned long below_open[12];  /* refused 9 or 11, and a higher part does not close */
 } counts;
 
@@ -98,9 +98,9 @@ static void hold_kind(const char *name, enum kind kind, const unsigned long *of_
 
 void print_closing_counts(unsigned long cases)
 {
-    for (enum kind kind = LESS; kind <= WINDOW; kind++)
+    for (enum kind kind = LESS; kind <= PINNED; kind++)
         if (is_atom(kind) || is_past(kind)) {
-            unsigned long in_10000 = is_atom(kind) ? 150 : 20;
+            unsigned long in_10000 = kind == PINNED ? 40 : is_atom(kind) ? 150 : 20;
             hold_kind("refused 10 for kind", kind, counts.open, cases, 2 * in_10000);
             hold_kind("refused 10, a wrong mark too, kind", kind, counts.both, cases, in_10000);
         }

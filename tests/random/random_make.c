@@ -19,12 +19,12 @@
 static struct {
     unsigned long made[2], refused[15];
     unsigned long full_size;       /* made with 64 parts on 256 rows */
-    unsigned long kinds[14];       /* made with a part of the kind */
+    unsigned long kinds[KINDS];       /* made with a part of the kind */
     unsigned long false_fixpoints; /* made with a U or R that meets its equations otherwise too */
     unsigned long choices;         /* made with a witness that is not the only one to serve */
     unsigned long start_rows;      /* made with a witness where a start row has the same mark */
     unsigned long unasked;         /* made with none due where a cycle row has the mark */
-    unsigned long open[14];        /* refused 14 for a part of the kind */
+    unsigned long open[KINDS];        /* refused 14 for a part of the kind */
     unsigned long unnamed;         /* refused 14 for a part that nobody names */
     unsigned long both;            /* refused 13 where the right length gives 14 */
 } counts;
@@ -57,7 +57,7 @@ static void count_eventuality(const struct formula *f, int part)
 static void count_made(uint64_t verdict)
 {
     const struct rule *r = &truth_space.rule;
-    bool seen[14] = { false };
+    bool seen[KINDS] = { false };
     counts.made[verdict]++;
     counts.full_size += r->parts == 64 && truth_space.plan.rows == 256;
     for (int part = 0; part < r->parts; part++) {
@@ -66,7 +66,7 @@ static void count_made(uint64_t verdict)
         if (f->kind == UNTIL || f->kind == RELEASE)
             count_eventuality(f, part);
     }
-    for (int kind = LESS; kind <= WINDOW; kind++)
+    for (int kind = LESS; kind <= PINNED; kind++)
         counts.kinds[kind] += seen[kind];
 }
 
@@ -106,7 +106,7 @@ static void hold_made(unsigned long cases)
     hold_to_floor("made, one of several witnesses", counts.choices, cases, 500);
     hold_to_floor("made, a witness and a start row like it", counts.start_rows, cases, 500);
     hold_to_floor("made, a row like a witness where none is due", counts.unasked, cases, 50);
-    for (int kind = LESS; kind <= WINDOW; kind++) {
+    for (int kind = LESS; kind <= PINNED; kind++) {
         snprintf(name, sizeof name, "made with a part of kind %s", kind_names[kind]);
         hold_to_floor(name, counts.kinds[kind], cases, 1000);
     }
@@ -123,7 +123,7 @@ static void hold_refused(unsigned long cases)
         }
     hold_to_floor("make refused 13, 14 in the right length", counts.both, cases, 100);
     hold_to_floor("make refused 14, a part that nobody names", counts.unnamed, cases, 100);
-    for (enum kind kind = LESS; kind <= WINDOW; kind++)
+    for (enum kind kind = LESS; kind <= PINNED; kind++)
         if (is_atom(kind) || is_past(kind)) {
             snprintf(name, sizeof name, "make refused 14 for kind %s", kind_names[kind]);
             hold_to_floor(name, counts.open[kind], cases, 30);

@@ -27,7 +27,8 @@ static struct {
     unsigned long deep;      /* the same, nested 3 deep or more */
     unsigned long drifting;  /* settled by a pass or more, some drifts */
     unsigned long led[5];    /* settled by a pass or more, with so many lead-in rows */
-    unsigned long open[14];  /* settled, and with a pass fewer a part of the kind is open */
+    unsigned long open[KINDS];  /* settled, and with a pass fewer a part of the kind is open */
+    unsigned long topped[2]; /* settled by a pass or more, refused 15, under tops */
     unsigned long unnamed;   /* settled, and with a pass fewer only unreached ones are */
     unsigned long rows;      /* refused 15 for the rows */
     unsigned long too_large; /* refused 15 for a reading above 32 bits */
@@ -107,6 +108,7 @@ static void count_settled(const struct rule *r, const struct plan *p, int passes
     counts.bound += is_still(p) && passes == 4 + nesting;
     counts.deep += is_still(p) && passes == 4 + nesting && nesting >= 3;
     counts.drifting += !is_still(p);
+    counts.topped[0] += has_tops(p);
     counts.led[p->lead]++;
     counts.open[r->part[open].kind]++;
     counts.unnamed += !any_reached;
@@ -128,6 +130,7 @@ static bool is_read(const struct rule *r, int channel)
 static void count_no_room(const struct rule *r, struct plan p)
 {
     bool too_large = false, too_small = false, read = false;
+    counts.topped[1] += has_tops(&p);
     while (lay_out_pass(&p))
         ;
     if (p.rows + p.cycle > MOST_ROWS) {
@@ -174,7 +177,7 @@ static void hold_settled(unsigned long cases)
     hold_to_floor("settled by a pass, some drifts", counts.drifting, cases, 100);
     hold_each("settled by a pass, L", counts.led, MOST_LEAD + 1, cases, 100);
     hold_to_floor("settled for parts that are not reached", counts.unnamed, cases, 50);
-    for (enum kind kind = LESS; kind <= WINDOW; kind++)
+    for (enum kind kind = LESS; kind <= PINNED; kind++)
         if (is_atom(kind) || is_past(kind)) {
             snprintf(name, sizeof name, "settled for kind %s", kind_names[kind]);
             hold_to_floor(name, counts.open[kind], cases, 30);
@@ -193,6 +196,8 @@ void print_settle_counts(unsigned long cases)
         }
     hold_to_floor("settle refused 13, right lengths settle", counts.both[0], cases, 100);
     hold_to_floor("settle refused 13, right lengths give 15", counts.both[1], cases, 50);
+    hold_to_floor("settled by a pass, under tops", counts.topped[0], cases, 200);
+    hold_to_floor("settle refused 15, under tops", counts.topped[1], cases, 100);
     hold_to_floor("settle refused 15 for the rows", counts.rows, cases, 200);
     hold_to_floor("settle refused 15, a reading too large", counts.too_large, cases, 50);
     hold_to_floor("settle refused 15, a reading too small", counts.too_small, cases, 50);

@@ -341,9 +341,9 @@ static void plan_a(void)
     start_rule(&rule, 2, 1);
     write_comparison(&rule, 0, LESS, x(0), constant(25));
     write_unary(&rule, 1, YESTERDAY, 0);
-    read_hex(&plan, "01 00 01 00 02 00 00 00 | 0A 00 00 00 14 00 00 00 1E 00 00 00"
+    read_hex(&plan, "01 00 01 00 02 00 00 00 | 00 00 00 00 | 0A 00 00 00 14 00 00 00 1E 00 00 00"
                     "| 00 00 00 00 00 00 00 00 00 00 00 00");
-    read_hex(&due, "01 00 03 00 02 00 00 00"
+    read_hex(&due, "01 00 03 00 02 00 00 00 | 00 00 00 00"
                    "| 0A 00 00 00 14 00 00 00 1E 00 00 00 14 00 00 00 1E 00 00 00"
                    "| 00 00 00 00 00 00 00 00 00 00 00 00 00 00 00 00 00 00 00 00");
     expect_laid_out("plan A", &rule, &plan, &due, 1);
@@ -421,7 +421,7 @@ static void other_lengths(const char *name)
 {
     uint64_t thirteen = refusal(13, 0, 0);
     size_t wrong[] = { 0, 1, 8, endless_run_plan_length(plan.at), 2048, plan_bytes - 1,
-                       plan_bytes + 1, scratch_bytes - 1, scratch_bytes + 1, SHEET_LONGEST };
+                       plan_bytes + 1, scratch_bytes - 1, scratch_bytes + 1, 16648, SHEET_LONGEST };
     size_t count = sizeof wrong / sizeof wrong[0];
     for (size_t i = 0; i < count; i++) {
         settle_in(name, wrong[i], scratch_bytes, thirteen);
@@ -488,7 +488,7 @@ static void order(void)
     resize(&plan, 7);
     settle_in(name, 0, 0, refusal(1, 0, 0));
     rule = right_rule;
-    *kind_byte(&rule, 1) = 14;
+    *kind_byte(&rule, 1) = 15;
     operand_bytes(&rule, 0)[0] = 2;
     settle_in(name, 0, 0, refusal(2, 1, 0));
     *kind_byte(&rule, 1) = YESTERDAY;

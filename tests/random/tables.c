@@ -185,10 +185,10 @@ static void damage_rule(void)
     uint8_t *operand = operand_bytes(&case_rule, part), *kind = kind_byte(&case_rule, part);
     switch (below(5)) {
     case 0:
-        *kind = chance(50) ? 0 : (uint8_t)between(14, 255);
+        *kind = chance(50) ? 0 : (uint8_t)between(15, 255);
         break;
     case 1:
-        *kind = (uint8_t)between(1, 13);
+        *kind = (uint8_t)between(1, 14);
         break;
     case 2:
         put2(case_rule.at + 2 * size, (unsigned)between(0, 70));
@@ -226,7 +226,7 @@ static void damage_plan(void)
 {
     const struct plan *p = &case_truth.plan;
     int size = below(4);
-    switch (below(7)) {
+    switch (below(8)) {
     case 0:
         put2(case_plan.at + 2 * size, (unsigned)between(0, 300));
         break;
@@ -244,6 +244,9 @@ static void damage_plan(void)
         break;
     case 5:
         drift_in_rows(-p->lead, 0);
+        break;
+    case 6:
+        write_top(&case_plan, below(p->channels), -1 - (extreme_number() & INT32_MAX));
         break;
     default:
         drift_in_rows(-p->lead, p->start);

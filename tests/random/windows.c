@@ -582,15 +582,15 @@ static void layout(void)
     for (size_t i = 0; i < sizeof wrong / sizeof wrong[0]; i++) {
         write_fields(&wrong[i]);
         refuse_all("window out of order", refusal(3, 1, 0));
-        *kind_byte(&rule, 2) = i % 2 ? 14 : 0;
+        *kind_byte(&rule, 2) = i % 2 ? 15 : 0;
         refuse_all("a kind before a window's layout", refusal(2, 2, 0));
     }
 }
 
-/* Kinds 0, 14 and above with an operand that is a window's. */
+/* Kinds 0, 15 and above with an operand that is a window's. */
 static void kinds(void)
 {
-    static const uint8_t wrong[] = { 0, 14, 15, 141, 255 };
+    static const uint8_t wrong[] = { 0, 15, 16, 141, 255 };
     static const struct fields right = { 1, 4, 0, 0, 1, 0 };
     for (size_t i = 0; i < sizeof wrong; i++) {
         write_fields(&right);
@@ -599,8 +599,10 @@ static void kinds(void)
         operand_bytes(&rule, 0)[0] = 2;
         refuse_all("no kind, a lower operand out of order", refusal(2, 1, 0));
     }
-    /* A window's operand is no comparison's and no operator's. */
-    for (int kind = LESS; kind <= TRIGGER; kind++) {
+    /* A window's operand is no comparison's and no operator's, and none of kind 14. */
+    for (int kind = LESS; kind <= PINNED; kind++) {
+        if (kind == WINDOW)
+            continue;
         write_fields(&right);
         *kind_byte(&rule, 1) = (uint8_t)kind;
         refuse_all("another kind with a window's operand", refusal(3, 1, 0));

@@ -70,6 +70,7 @@ static bool equation(const struct table *table, int part, int row)
     case LESS:
     case EQUAL:
     case WINDOW:
+    case PINNED:
         return atom_holds(&table->plan, f, row);
     case NOT:
         return !m->mark[f->a][row];

@@ -4,8 +4,8 @@
  * It gives the answers of check, judge, make and settle by another way than the
  * checker and shares no code with it. Truth is found from the published sentences by
  * going through the positions of the run ("b at some j from t on, and a from t
- * to j - 1"), and an atom, a comparison or a window, is judged by looking at its
- * passes. It is made to be believed, not to be fast.
+ * to j - 1"), and an atom, a comparison, a window or a test for a pinned reading, is
+ * judged by looking at its passes. It is made to be believed, not to be fast.
  *
  *   sheets.c    the three byte layouts, refusals 1 to 8
  *   run.c       readings and atoms at a position, judging by passes
@@ -52,7 +52,8 @@ enum kind {
     WEAK_YESTERDAY = 10,
     SINCE = 11,
     TRIGGER = 12,
-    WINDOW = 13
+    WINDOW = 13,
+    PINNED = 14
 };
 
 /* A constant, or a channel read at a shifted position. */
@@ -63,8 +64,9 @@ struct term {
 };
 
 /* A part of the rule: a comparison of two terms; a window of the week, from a minute
-   up to another, in which the left term lies or does not, and whose right term is the
-   constant 0; or an operator over the formulas of one or two lower parts. */
+   up to another, in which the left term lies or does not; whether the left term is
+   pinned, the right one being the constant 0 as in a window; or an operator over the
+   formulas of one or two lower parts. */
 struct formula {
     enum kind kind;
     struct term left, right;
@@ -78,9 +80,10 @@ struct rule {
 };
 
 /* A stem of start rows, then a loop of cycle rows; and the readings of the lead-in
-   rows before them, the earliest first. */
+   rows before them, the earliest first. A top of 0 is none. */
 struct plan {
     int channels, start, cycle, rows, lead;
+    int32_t top[MOST_CHANNELS];
     int32_t lead_in[MOST_LEAD][MOST_CHANNELS];
     int32_t reading[MOST_ROWS][MOST_CHANNELS];
     int32_t drift[MOST_ROWS][MOST_CHANNELS];
@@ -92,7 +95,7 @@ struct marks {
     int witness[MOST_PARTS];
 };
 
-/* A part whose truth is read off the run: a comparison or a window. */
+/* A part whose truth is read off the run: a comparison, a window, or "pinned". */
 bool is_atom(enum kind kind);
 
 bool names_two_parts(enum kind kind);
@@ -127,15 +130,23 @@ int64_t position_of(const struct plan *plan, int row, int64_t pass);
 /* A window on a cycle row that comes and goes for ever. */
 #define NEVER_SETTLED INT64_MAX
 
-/* A pass from which on the atom has one and the same truth on a cycle row, or
-   NEVER_SETTLED. Of a comparison it may be as late as 2^37. */
-int64_t settled_pass(const struct plan *plan, const struct formula *f, int row);
-
 /* From this pass on no shift reaches a start row, a lead-in row or what lies before
    them. */
 enum { LINES_FROM = 4 };
 
-/* Do two passes of a cycle row, from this pass on, differ? */
+/* The first pass, from LINES_FROM on, from which on the atom has one and the same truth
+   on a cycle row, or NEVER_SETTLED. It may be as late as 2^37. */
+int64_t settled_pass(const struct plan *plan, const struct formula *f, int row);
+
+/* The last pass from LINES_FROM on at which the truth of the atom on a cycle row might
+   turn, as a term comes to its top or leaves it, or the two terms of a comparison meet
+   or part; LINES_FROM where there is none. */
+int64_t last_turn(const struct plan *plan, const struct formula *f, int row);
+
+/* Is the term, a reading or a constant, a pinned one at this position? */
+bool is_pinned(const struct plan *plan, const struct term *term, int64_t position);
+
+/* Do two passes of a cycle row differ, from this pass on, which is LINES_FROM at most? */
 bool changes_from(const struct plan *plan, const struct formula *f, int row, int64_t pass);
 
 /* The atom's truth on a row, over all passes. */
@@ -207,7 +218,7 @@ uint64_t second_make(struct truth *space, struct slice rule, struct slice plan, 
 
 /* ---- Passes laid out (settle.c) ---- */
 
-enum { LAID_OUT_LENGTH = 16648, SCRATCH_LENGTH = 16516 };
+enum { LAID_OUT_LENGTH = 16680, SCRATCH_LENGTH = 16516 };
 
 /* Lay out the first pass of the cycle as start rows. False, and the plan as it was,
    where it would have more than 256 rows or a reading of more than 32 bits. */

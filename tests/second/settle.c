@@ -4,10 +4,11 @@
  *
  * Laying out a pass makes start rows of the cycle rows and puts the cycle behind
  * them as it is one pass later: each reading with its drift added. The run stays the
- * same. 0, 1, 2 passes and on are tried in turn, and on each plan the truth of the
- * parts is found anew. Once a pass cannot be laid out no more are tried, as every
- * plan with more passes has the rows and readings of that one too. Nor are more tried
- * where a window comes and goes for ever, as it does so on the later passes too.
+ * same, and the tops too; a pinned reading is laid out as the number that it is. 0, 1, 2
+ * passes and on are tried in turn, and on each plan the truth of the parts is found
+ * anew. Once a pass cannot be laid out no more are tried, as every plan with more passes
+ * has the rows and readings of that one too. Nor are more tried where a window comes and
+ * goes for ever, as it does so on the later passes too.
  */
 #include "second.h"
 
@@ -66,7 +67,7 @@ static uint8_t *put_row(uint8_t *at, const struct plan *plan, const int32_t *num
 
 size_t plan_length(const struct plan *plan)
 {
-    return 8 + 8 * (size_t)plan->channels * (size_t)(plan->lead + plan->rows);
+    return 8 + (size_t)plan->channels * (4 + 8 * (size_t)(plan->lead + plan->rows));
 }
 
 void write_plan(const struct plan *plan, uint8_t *at)
@@ -76,6 +77,7 @@ void write_plan(const struct plan *plan, uint8_t *at)
     at = put(at, 2, plan->start);
     at = put(at, 2, plan->cycle);
     at = put(at, 2, plan->lead);
+    at = put_row(at, plan, plan->top);
     for (int row = 0; row < plan->lead; row++)
         at = put_row(at, plan, plan->lead_in[row]);
     for (int row = 0; row < plan->rows; row++)

@@ -39,7 +39,7 @@ static bool is_comparison(enum kind kind)
 
 bool is_atom(enum kind kind)
 {
-    return is_comparison(kind) || kind == WINDOW;
+    return is_comparison(kind) || kind == WINDOW || kind == PINNED;
 }
 
 bool names_two_parts(enum kind kind)
@@ -75,14 +75,22 @@ static bool decode_window(const uint8_t *at, int channels, struct formula *f)
            f->to < WEEK && f->from != f->to && all_zero(at + 10, 2);
 }
 
-/* Two terms; or a window's fields; or one part and 10 zero bytes; or two parts and 8
-   zero bytes. A named part has a lower number than its user. */
+/* A term that is a reading, and 6 zero bytes. */
+static bool decode_pinned(const uint8_t *at, int channels, struct formula *f)
+{
+    return decode_term(at, channels, &f->left) && f->left.is_reading && all_zero(at + 6, 6);
+}
+
+/* Two terms; or the fields of a window or of "pinned"; or one part and 10 zero bytes; or
+   two parts and 8 zero bytes. A named part has a lower number than its user. */
 static bool decode_operand(const uint8_t *at, int user, int channels, struct formula *f)
 {
     if (is_comparison(f->kind))
         return decode_term(at, channels, &f->left) && decode_term(at + 6, channels, &f->right);
     if (f->kind == WINDOW)
         return decode_window(at, channels, f);
+    if (f->kind == PINNED)
+        return decode_pinned(at, channels, f);
     f->a = field2(at);
     f->b = field2(at + 2);
     if (names_two_parts(f->kind))
@@ -105,7 +113,7 @@ uint64_t decode_rule(struct slice bytes, struct rule *rule)
 
     const uint8_t *kinds = bytes.at + 4, *operands = kinds + rule->parts;
     for (int i = 0; i < rule->parts; i++) {
-        if (kinds[i] < 1 || kinds[i] > 13)
+        if (kinds[i] < 1 || kinds[i] > 14)
             return refusal(2, i, 0);
         rule->part[i] = (struct formula){ .kind = (enum kind)kinds[i] };
     }
@@ -130,8 +138,16 @@ static uint64_t decode_plan_sizes(struct slice bytes, struct plan *plan)
         return refusal(4, 0, 0);
     if (plan->cycle < 1 || plan->rows > MOST_ROWS || plan->lead > MOST_LEAD)
         return refusal(4, 0, 0);
-    if (bytes.len != 8 + 8 * (size_t)plan->channels * (size_t)(plan->lead + plan->rows))
-        return refusal(4, 0, 0);
+    return bytes.len == plan_length(plan) ? 0 : refusal(4, 0, 0);
+}
+
+static uint64_t decode_tops(const uint8_t *tops, struct plan *plan)
+{
+    for (int channel = 0; channel < plan->channels; channel++) {
+        plan->top[channel] = field4(tops + 4 * channel);
+        if (plan->top[channel] < 0)
+            return refusal(4, 0, 0);
+    }
     return 0;
 }
 
@@ -164,12 +180,14 @@ static uint64_t refuse_drifts(const uint8_t *drifts, const struct plan *plan)
 uint64_t decode_plan(struct slice bytes, int channels, struct plan *plan)
 {
     uint64_t refused = decode_plan_sizes(bytes, plan);
+    if (!refused)
+        refused = decode_tops(bytes.at + 8, plan);
     if (refused)
         return refused;
     if (plan->channels != channels)
         return refusal(5, 0, 0);
 
-    const uint8_t *readings = bytes.at + 8;
+    const uint8_t *readings = bytes.at + 8 + 4 * plan->channels;
     const uint8_t *drifts = readings + 4 * (plan->lead + plan->rows) * plan->channels;
     decode_numbers(readings, drifts, plan);
     return refuse_drifts(drifts, plan);

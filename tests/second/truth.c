@@ -7,10 +7,10 @@
  * settled + C. Why a part settles, and by when:
  *
  *   Atoms        settle on each cycle row by the pass that run.c finds, hence
- *                by the latest of these passes. A comparison that changes only
- *                after very many passes, and a window that changes for ever, is
- *                called late. It is not followed to the end, nor are the parts
- *                above it: that it changes is known, and no more is asked of it.
+ *                by the latest of these passes. An atom that changes only after
+ *                very many passes, and a window that changes for ever, is called
+ *                late. It is not followed to the end, nor are the parts above it:
+ *                that it changes is known, and no more is asked of it.
  *   not and or   settle where the parts that they name have settled.
  *   X U R        likewise, since truth at t depends on positions from t on only.
  *   Y Z          settle one position later.
@@ -105,6 +105,7 @@ static bool by_sentence(const struct truth *truth, const struct formula *f, int6
     case LESS:
     case EQUAL:
     case WINDOW:
+    case PINNED:
         return atom_holds(&truth->plan, f, t);
     case NOT:
         return !holds(truth, f->a, t);
@@ -142,7 +143,7 @@ static int64_t atom_bound(const struct plan *plan, const struct formula *f, bool
         int64_t pass = settled_pass(plan, f, row);
         if (pass <= passes_followed(plan))
             latest = max(latest, pass);
-        else if (changes_from(plan, f, row, LINES_FROM))
+        else
             *late = true;
     }
     return position_of(plan, plan->start, latest);

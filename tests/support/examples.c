@@ -1,7 +1,7 @@
 /*
  * examples.c: the worked examples E1 to E11, E8 also with a lead-in row, the plan of
- * docs/FORMATS.md with two lead-in rows, and its worked tables in its order; and windows of
- * the week. E12 is about full sizes, and is tried where sizes are (neighbours.c).
+ * docs/FORMATS.md with two lead-in rows, and its worked tables in its order; windows of
+ * the week; and tops. E12 is about full sizes, and is tried where sizes are (neighbours.c).
  */
 #include "examples.h"
 
@@ -62,31 +62,54 @@
 #define ALL_BUT_THE_LAST ONE_PART "0D " X "00 00 5F 27 00 00 "       /* from 0 to 10079 */
 #define LAST_TIME_ON_MONDAY ONE_PART "0D " YESTERDAY_X "E0 01 FC 03 00 00 "
 
-/* ---- Plans: V, P, C, L, readings, drifts ---- */
+/* Pinned: a term, and 6 zero bytes. */
+#define IS_PINNED ONE_PART "0E " X "00 00 00 00 00 00 "
+
+/* A pinned count is never averaged until a lower one has come: channel 0 is the count,
+   channel 1 is 1 where it is averaged. */
+#define COURSE_RULE                                                                                \
+    "08 00 02 00 0E 03 02 03 05 08 01 08 " X "00 00 00 00 00 00 " NAMES_0 "01 04 01 00 00 00 " C_1 \
+    "02 00 00 00 00 00 00 00 00 00 00 00 " NAMES_3_1 "01 00 04 00 00 00 00 00 00 00 00 00 " C_1    \
+    C_0 "06 00 05 00 00 00 00 00 00 00 00 00 "
+
+/* ---- Plans: V, P, C, L, tops, readings, drifts ---- */
+
+#define NO_TOP "00 00 00 00 "
 
 #define PLAN_A                                                                                     \
-    "01 00 01 00 02 00 00 00 0A 00 00 00 14 00 00 00 1E 00 00 00 "                                 \
+    "01 00 01 00 02 00 00 00 " NO_TOP "0A 00 00 00 14 00 00 00 1E 00 00 00 "                       \
     "00 00 00 00 00 00 00 00 00 00 00 00"
 #define PLAN_K                                                                                     \
-    "01 00 03 00 02 00 00 00 0A 00 00 00 14 00 00 00 1E 00 00 00 14 00 00 00 1E 00 00 00 "         \
+    "01 00 03 00 02 00 00 00 " NO_TOP                                                              \
+    "0A 00 00 00 14 00 00 00 1E 00 00 00 14 00 00 00 1E 00 00 00 "                                 \
     "00 00 00 00 00 00 00 00 00 00 00 00 00 00 00 00 00 00 00 00"
-#define PLAN_M "01 00 00 00 02 00 00 00 14 00 00 00 1E 00 00 00 00 00 00 00 00 00 00 00"
+#define PLAN_M                                                                                     \
+    "01 00 00 00 02 00 00 00 " NO_TOP "14 00 00 00 1E 00 00 00 00 00 00 00 00 00 00 00"
 #define PLAN_D_BY(drift)                                                                           \
-    "01 00 01 00 04 00 00 00 14 00 00 00 14 00 00 00 0A 00 00 00 14 00 00 00 1E 00 00 00 "         \
+    "01 00 01 00 04 00 00 00 " NO_TOP                                                              \
+    "14 00 00 00 14 00 00 00 0A 00 00 00 14 00 00 00 1E 00 00 00 "                                 \
     "00 00 00 00 00 00 00 00 00 00 00 00 00 00 00 00 " drift
 #define PLAN_D PLAN_D_BY("05 00 00 00")
-#define ONE_ROW "01 00 00 00 01 00 00 00 "
+#define TOP_4095 "FF 0F 00 00 "
+#define ONE_ROW_UNDER(top) "01 00 00 00 01 00 00 00 " top
+#define ONE_ROW ONE_ROW_UNDER(NO_TOP)
 #define PLAN_B ONE_ROW "FE 0F 00 00 01 00 00 00"
 #define PLAN_B_AFTER(lead_in)                                                                      \
-    "01 00 00 00 01 00 01 00 " lead_in "FE 0F 00 00 00 00 00 00 01 00 00 00"
+    "01 00 00 00 01 00 01 00 " NO_TOP lead_in "FE 0F 00 00 00 00 00 00 01 00 00 00"
 #define PLAN_G_AFTER(lead, readings, drifts)                                                       \
-    "01 00 00 00 02 00 " lead readings "28 00 00 00 28 00 00 00 " drifts "0A 00 00 00 0A 00 00 00"
+    "01 00 00 00 02 00 " lead NO_TOP readings "28 00 00 00 28 00 00 00 " drifts                    \
+    "0A 00 00 00 0A 00 00 00"
 #define STILL_1 "00 00 00 00 "
 #define STILL_2 STILL_1 STILL_1
 #define PLAN_G PLAN_G_AFTER("02 00 ", "14 00 00 00 1E 00 00 00 ", STILL_2)
 #define FROM_0_BY_3 ONE_ROW "00 00 00 00 03 00 00 00"
 #define ALWAYS_5 ONE_ROW "05 00 00 00 00 00 00 00"
 #define FROM_TOP_BY_1 ONE_ROW "FF FF FF 7F 01 00 00 00"
+#define RISING_UNDER_4095 ONE_ROW_UNDER(TOP_4095) "FE 0F 00 00 01 00 00 00"
+#define COURSE_PLAN(drift)                                                                         \
+    "02 00 01 00 03 00 00 00 " TOP_4095 NO_TOP                                                     \
+    "B8 0B 00 00 01 00 00 00 FF 0F 00 00 00 00 00 00 FF 0F 00 00 00 00 00 00 "                     \
+    "3C 0F 00 00 01 00 00 00 " STILL_2 STILL_2 "01 00 00 00 00 00 00 00 " drift "00 00 00 00"
 #define BY_A_DAY "A0 05 00 00"
 #define BY_A_WEEK "60 27 00 00"
 
@@ -94,6 +117,9 @@
 #define NONE "FF FF "
 #define NO_2 NONE NONE
 #define NO_3 NONE NONE NONE
+#define COURSE_MARKS                                                                               \
+    "08 00 04 00 00 01 01 00 01 00 00 01 01 00 00 01 00 01 01 00 01 01 01 01 01 01 01 01 "         \
+    "00 00 00 00 01 01 01 01 " NO_3 NO_3 NO_2
 #define E10_MARKED_1 "03 00 01 00 01 00 01 FF FF FF FF "
 
 const struct example examples[] = {
@@ -233,7 +259,7 @@ const struct example examples[] = {
     { "window but at 10078", ALL_BUT_THE_LAST, ONE_ROW "5E 27 00 00 " STILL_1, 0, 0, ALWAYS_TRUE },
     { "window before the run", LAST_TIME_ON_MONDAY, ONE_ROW "E0 01 00 00 " STILL_1, 0, 0, CHANGES },
     { "window after a lead-in", LAST_TIME_ON_MONDAY,
-      "01 00 00 00 01 00 01 00 E0 01 00 00 E0 01 00 00 " STILL_2, 0, 0, ALWAYS_TRUE },
+      "01 00 00 00 01 00 01 00 " NO_TOP "E0 01 00 00 E0 01 00 00 " STILL_2, 0, 0, ALWAYS_TRUE },
     { "window of a constant", ONE_PART "0D " C_10 "E0 01 FC 03 00 00 ", ALWAYS_5, 0, 0,
       REFUSED(3, 0, 0) },
     { "window from 10080", ONE_PART "0D " X "60 27 FC 03 00 00 ", ALWAYS_5, 0, 0,
@@ -242,7 +268,40 @@ const struct example examples[] = {
       REFUSED(3, 0, 0) },
     { "window, padding", ONE_PART "0D " X "E0 01 FC 03 00 01 ", ALWAYS_5, 0, 0,
       REFUSED(3, 0, 0) },
-    { "kind 14", ONE_PART "0E " X "E0 01 FC 03 00 00 ", ALWAYS_5, 0, 0, REFUSED(2, 0, 0) },
+
+    { "pinned at 4094", IS_PINNED, ONE_ROW_UNDER(TOP_4095) "FE 0F 00 00 " STILL_1, 0, 0,
+      ALWAYS_FALSE },
+    { "pinned at 4095", IS_PINNED, ONE_ROW_UNDER(TOP_4095) "FF 0F 00 00 " STILL_1, 0, 0,
+      ALWAYS_TRUE },
+    { "pinned at 4096", IS_PINNED, ONE_ROW_UNDER(TOP_4095) "00 10 00 00 " STILL_1, 0, 0,
+      ALWAYS_TRUE },
+    { "pinned, no top", IS_PINNED, ONE_ROW "FF FF FF 7F 01 00 00 00 ", 0, 0, ALWAYS_FALSE },
+    { "pinned, rising", IS_PINNED, RISING_UNDER_4095, 0, 0, CHANGES },
+    { "pinned, rising, checked", IS_PINNED, RISING_UNDER_4095, "01 00 01 00 00 " NONE, 0,
+      REFUSED(10, 0, 0) },
+    { "x < 4095 under 4095", ONE_PART "01 " X C_4095, RISING_UNDER_4095, 0, 0, CHANGES },
+    { "x = 4095 under 4095", ONE_PART "02 " X C_4095, RISING_UNDER_4095, 0, 0, ALWAYS_FALSE },
+    { "x = x under 4095", ONE_PART "02 " X X, RISING_UNDER_4095, 0, 0, CHANGES },
+    { "4093 < x under 4095", ONE_PART "01 " C_4093 X, RISING_UNDER_4095, 0, 0, CHANGES },
+    { "4093 < x, no top", ONE_PART "01 " C_4093 X, PLAN_B, 0, 0, ALWAYS_TRUE },
+    { "4095 < x under 4095", ONE_PART "01 " C_4095 X, RISING_UNDER_4095, 0, 0, ALWAYS_FALSE },
+    { "x < X x under 4095", ONE_PART "01 " X NEXT_X, RISING_UNDER_4095, 0, 0, ALWAYS_FALSE },
+    { "top -1", X_BELOW_25, ONE_ROW_UNDER("FF FF FF FF ") "05 00 00 00 " STILL_1, 0, 0,
+      REFUSED(4, 0, 0) },
+    { "a plan without tops", X_BELOW_25, "01 00 00 00 01 00 00 00 05 00 00 00 00 00 00 00", 0, 0,
+      REFUSED(4, 0, 0) },
+    { "pinned of a constant", ONE_PART "0E " C_10 "00 00 00 00 00 00 ", ALWAYS_5, 0, 0,
+      REFUSED(3, 0, 0) },
+    { "pinned, padding", ONE_PART "0E " X "E0 01 FC 03 00 00 ", ALWAYS_5, 0, 0,
+      REFUSED(3, 0, 0) },
+    { "course", COURSE_RULE, COURSE_PLAN("00 00 00 00 "), COURSE_MARKS, 0, 1 },
+    { "course, pinned judged on row 0", COURSE_RULE, COURSE_PLAN("00 00 00 00 "), 0, 0,
+      ALWAYS_FALSE },
+    { "course, pinned judged on row 1", COURSE_RULE, COURSE_PLAN("00 00 00 00 "), 0, 1,
+      ALWAYS_TRUE },
+    { "course, row 3 rising", COURSE_RULE, COURSE_PLAN("01 00 00 00 "), COURSE_MARKS, 0,
+      REFUSED(10, 0, 3) },
+    { "kind 15", ONE_PART "0F " X "00 00 00 00 00 00 ", ALWAYS_5, 0, 0, REFUSED(2, 0, 0) },
 };
 const size_t example_count = sizeof examples / sizeof examples[0];
 

@@ -1,6 +1,6 @@
 /*
- * examples.h: the worked examples E1 to E11, the worked tables of docs/FORMATS.md and
- * some windows of the week as bytes, questions and answers.
+ * examples.h: the worked examples E1 to E11, the worked tables of docs/FORMATS.md, some
+ * windows of the week and some plans with tops as bytes, questions and answers.
  */
 #ifndef EXAMPLES_H
 #define EXAMPLES_H

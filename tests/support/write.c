@@ -107,6 +107,11 @@ void write_window(struct sheet *rule, int part, struct term term, int from, int 
     put2(operand + 8, (unsigned)to);
 }
 
+void write_pinned(struct sheet *rule, int part, struct term term)
+{
+    write_term(start_operand(rule, part, PINNED), term);
+}
+
 void write_unary(struct sheet *rule, int part, enum kind kind, int a)
 {
     put2(start_operand(rule, part, kind), (unsigned)a);
@@ -123,6 +128,8 @@ void write_formula(struct sheet *rule, int part, const struct formula *f)
 {
     if (f->kind == WINDOW)
         write_window(rule, part, f->left, f->from, f->to);
+    else if (f->kind == PINNED)
+        write_pinned(rule, part, f->left);
     else if (is_atom(f->kind))
         write_comparison(rule, part, f->kind, f->left, f->right);
     else if (names_two_parts(f->kind))
@@ -140,23 +147,33 @@ void start_plan(struct sheet *plan, int channels, int start, int cycle)
 
 void start_plan_with_lead(struct sheet *plan, int channels, int lead, int start, int cycle)
 {
-    clear(plan, 8 + 8 * channels * (lead + start + cycle));
+    clear(plan, 8 + 4 * channels + 8 * channels * (lead + start + cycle));
     put2(plan->at, (unsigned)channels);
     put2(plan->at + 2, (unsigned)start);
     put2(plan->at + 4, (unsigned)cycle);
     put2(plan->at + 6, (unsigned)lead);
 }
 
+uint8_t *top_bytes(struct sheet *plan, int channel)
+{
+    return plan->at + 8 + 4 * channel;
+}
+
 uint8_t *reading_bytes(struct sheet *plan, int row, int channel)
 {
-    int lead = get2(plan->at + 6);
-    return plan->at + 8 + 4 * ((lead + row) * get2(plan->at) + channel);
+    int channels = get2(plan->at), lead = get2(plan->at + 6);
+    return top_bytes(plan, channels) + 4 * ((lead + row) * channels + channel);
 }
 
 uint8_t *drift_bytes(struct sheet *plan, int row, int channel)
 {
     int rows = get2(plan->at + 2) + get2(plan->at + 4), lead = get2(plan->at + 6);
     return reading_bytes(plan, lead + rows + row, channel);
+}
+
+void write_top(struct sheet *plan, int channel, int32_t top)
+{
+    put4(top_bytes(plan, channel), top);
 }
 
 void write_reading(struct sheet *plan, int row, int channel, int32_t reading)

@@ -41,6 +41,7 @@ void start_rule(struct sheet *rule, int parts, int channels);
 void write_comparison(struct sheet *rule, int part, enum kind kind, struct term left,
                       struct term right);
 void write_window(struct sheet *rule, int part, struct term term, int from, int to);
+void write_pinned(struct sheet *rule, int part, struct term term);
 void write_unary(struct sheet *rule, int part, enum kind kind, int a);
 void write_binary(struct sheet *rule, int part, enum kind kind, int a, int b);
 void write_formula(struct sheet *rule, int part, const struct formula *f);
@@ -49,12 +50,14 @@ uint8_t *operand_bytes(struct sheet *rule, int part);
 
 /* ---- The plan ---- */
 
-/* All readings and drifts are 0 until they are written. A plan has no lead-in rows
+/* All tops, readings and drifts are 0 until they are written. A plan has no lead-in rows
    unless they are asked for; they are rows -L to -1 here, as are their positions. */
 void start_plan(struct sheet *plan, int channels, int start, int cycle);
 void start_plan_with_lead(struct sheet *plan, int channels, int lead, int start, int cycle);
+uint8_t *top_bytes(struct sheet *plan, int channel);
 uint8_t *reading_bytes(struct sheet *plan, int row, int channel);
 uint8_t *drift_bytes(struct sheet *plan, int row, int channel);
+void write_top(struct sheet *plan, int channel, int32_t top);
 void write_reading(struct sheet *plan, int row, int channel, int32_t reading);
 void write_drift(struct sheet *plan, int row, int channel, int32_t drift);
 
