@@ -55,7 +55,7 @@ written-read (suc w) s at b h =
     ap₂ (λ (x : ℕ) (l : List ℕ). x ∷ l) low (ap (bytesOf w) high ∙ written-read w s (at + 1) b (omega arith) ∙ ap (λ (i : ℕ). take w (drop i s)) (add-one at))
     ∙ sym (ap (take (suc w)) (drop-cons s at 0 (omega arith)))
 
--- the fields of two and of four bytes, byte by byte
+-- the fields of two, of four and of eight bytes, byte by byte
 pub number2 : (s : List ℕ) (at : ℕ) → numberAt 2 s at ≡ getD s at 0 + 256 * getD s (at + 1) 0
 unfolding numberAt
 number2 s at = omega arith
@@ -66,3 +66,16 @@ number4 s at =
     let two : at + 1 + 1 ≡ at + 2 = omega arith in
     let three : at + 1 + 1 + 1 ≡ at + 3 = omega arith in
     omega (arith, ap (λ (i : ℕ). getD s i 0) two, ap (λ (i : ℕ). getD s i 0) three)
+
+pub number8 : (s : List ℕ) (at : ℕ) → numberAt 8 s at
+    ≡ getD s at 0 + 256 * getD s (at + 1) 0 + 65536 * getD s (at + 2) 0 + 16777216 * getD s (at + 3) 0
+    + 4294967296 * getD s (at + 4) 0 + 1099511627776 * getD s (at + 5) 0 + 281474976710656 * getD s (at + 6) 0 + 72057594037927936 * getD s (at + 7) 0
+unfolding numberAt
+number8 s at =
+    let two : at + 1 + 1 ≡ at + 2 = omega arith in
+    let three : at + 1 + 1 + 1 ≡ at + 3 = omega arith in
+    let four : at + 1 + 1 + 1 + 1 ≡ at + 4 = omega arith in
+    let five : at + 1 + 1 + 1 + 1 + 1 ≡ at + 5 = omega arith in
+    let six : at + 1 + 1 + 1 + 1 + 1 + 1 ≡ at + 6 = omega arith in
+    let seven : at + 1 + 1 + 1 + 1 + 1 + 1 + 1 ≡ at + 7 = omega arith in
+    omega (arith, ap (λ (i : ℕ). getD s i 0) two, ap (λ (i : ℕ). getD s i 0) three, ap (λ (i : ℕ). getD s i 0) four, ap (λ (i : ℕ). getD s i 0) five, ap (λ (i : ℕ). getD s i 0) six, ap (λ (i : ℕ). getD s i 0) seven)

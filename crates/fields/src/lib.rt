@@ -1,4 +1,4 @@
-// Little-endian numbers in byte slices: unsigned of 16 and 32 bits and signed of 32 bits, read and written.
+// Little-endian numbers in byte slices: unsigned of 16, 32 and 64 bits and signed of 32 bits, read, and those up to 32 bits written.
 ghost use mathlib.Core.Path.{_≡_};
 ghost use Prim.Native.Nat.{_+_, _≤_, _<_};
 ghost use mathlib.Core.List.{_++_};
@@ -27,6 +27,12 @@ pub fn wide_index(x: u8) -> usize
     x as usize
 }
 
+fn wide_long(x: u8) -> u64
+    ensures { λ r. ⌜ (r ≡ x) × (r < 256) ⌝ }
+{
+    x as u64
+}
+
 // The unsigned number of two bytes from `at` on.
 pub fn u16_at(s: &[u8], at: usize) -> usize
     requires { ⌜ at + 2 ≤ length (now s) ⌝ }
@@ -41,6 +47,21 @@ pub fn u32_at(s: &[u8], at: usize) -> u32
     ensures { λ r. ⌜ r ≡ numberAt 4 (now (s .entry)) at ⌝ }
 {
     wide(s[at]) + 256 * wide(s[at + 1]) + 65536 * wide(s[at + 2]) + 16777216 * wide(s[at + 3])
+}
+
+// The unsigned number of eight bytes from `at` on.
+pub fn u64_at(s: &[u8], at: usize) -> u64
+    requires { ⌜ at + 8 ≤ length (now s) ⌝ }
+    ensures { λ r. ⌜ r ≡ numberAt 8 (now (s .entry)) at ⌝ }
+{
+    wide_long(s[at])
+        + 256 * wide_long(s[at + 1])
+        + 65536 * wide_long(s[at + 2])
+        + 16777216 * wide_long(s[at + 3])
+        + 4294967296 * wide_long(s[at + 4])
+        + 1099511627776 * wide_long(s[at + 5])
+        + 281474976710656 * wide_long(s[at + 6])
+        + 72057594037927936 * wide_long(s[at + 7])
 }
 
 // The number that a pattern of 32 bits stands for in two's complement.

@@ -1,5 +1,4 @@
--- One part made, by its view, in a table with room for w rows of each part: what the code knows once its rows are written. Assumes
--- nothing.
+-- One part made, by its view: what the code knows once its rows are written. Assumes nothing.
 use mathlib.Core.Path.{_≡_, refl, sym, ap, _∙_, subst, subst⁻¹}
 use mathlib.Core.Bool.{Bool, true}
 use mathlib.Core.List.{List}
@@ -40,56 +39,56 @@ use Rattle.labelling.proofs.SameMarks.{SameBelow, label-same, closing-s
 
 -- ---- rows written over, as marks
 
-module _ (w i : ℕ) {old new : List ℕ} {m : ℕ} (few : m ≤ w) {bytes : ℕ → ℕ} (done : Stored old new (4 + i * w) 0 m bytes) where
+module _ (w i : ℕ) {old new : List ℕ} {bytes : ℕ → ℕ} (done : Stored old new (4 + i * w) 0 w bytes) where
   -- The marks of lower parts are as they were,
-  pub lower-kept : (a : ℕ) → a < i → (row : ℕ) → row < w → marked w old a row ≡ marked w new a row
+  lower-kept : (a : ℕ) → a < i → (row : ℕ) → row < w → marked w old a row ≡ marked w new a row
   unfolding marked markByte
   lower-kept a h row l =
       let below : (a + 1) * w ≤ i * w = mul-le-mul-right w (omega arith) in
       ap (λ (x : ℕ). eqb x 1) (sym (done .outside (4 + (a * w + row)) (inl (omega arith))))
 
   -- and those of the part are the bytes written.
-  pub own-byte : (row : ℕ) → row < m → getD new (4 + (i * w + row)) 0 ≡ bytes row
+  own-byte : (row : ℕ) → row < w → getD new (4 + (i * w + row)) 0 ≡ bytes row
   own-byte row l = let place : 4 + (i * w + row) ≡ 4 + i * w + row = omega arith in ap (λ (x : ℕ). getD new x 0) place ∙ done .inside row (omega arith) l
 
-pub own-mark : (w i : ℕ) {old new : List ℕ} {m : ℕ} → m ≤ w → (mark : ℕ → Bool) → Stored old new (4 + i * w) 0 m (λ row. byteOf (mark row))
-    → (row : ℕ) → row < m → marked w new i row ≡ mark row
+own-mark : (w i : ℕ) {old new : List ℕ} (mark : ℕ → Bool) → Stored old new (4 + i * w) 0 w (λ row. byteOf (mark row))
+    → (row : ℕ) → row < w → marked w new i row ≡ mark row
 unfolding marked markByte
-own-mark w i few mark done row l = ap (λ (x : ℕ). eqb x 1) (own-byte w i few done row l) ∙ read-byte (mark row)
+own-mark w i mark done row l = ap (λ (x : ℕ). eqb x 1) (own-byte w i done row l) ∙ read-byte (mark row)
 
 -- ---- an operator, once its rows are written
 
-module _ (plan : List ℕ) {z : Sizes} (fit : Fitting plan z) (w i : ℕ) (few : allRows z ≤ w) (o : Operator)
+module _ (plan : List ℕ) {z : Sizes} (fit : Fitting plan z) (i : ℕ) (o : Operator)
     (fits : viewFits (z .channels) i (view.Operator o) ≡ true) {old new : List ℕ}
-    (done : Stored old new (4 + i * w) 0 (allRows z) (λ row. byteOf (operatorLabel (z .start) (z .cycle) (marked w old) o row))) where
+    (done : Stored old new (4 + i * allRows z) 0 (allRows z) (λ row. byteOf (operatorLabel (z .start) (z .cycle) (marked (allRows z) old) o row))) where
   abbrev own : View
   own = view.Operator o
 
   -- the rows hold the part's marks,
-  pub label-done : Stored old new (4 + i * w) 0 (allRows z) (λ row. byteOf (labelOf plan (marked w old) (view.Operator o) row))
+  label-done : Stored old new (4 + i * allRows z) 0 (allRows z) (λ row. byteOf (labelOf plan (marked (allRows z) old) (view.Operator o) row))
   unfolding labelOf
   label-done =
-      at-sizes fit (λ P C. Stored old new (4 + i * w) 0 (P + C) (λ row. byteOf (operatorLabel P C (marked w old) o row))
-      → Stored old new (4 + i * w) 0 (P + C) (λ row. byteOf (labelOf plan (marked w old) (view.Operator o) row))) (λ s. s) done
+      at-sizes fit (λ P C. Stored old new (4 + i * allRows z) 0 (P + C) (λ row. byteOf (operatorLabel P C (marked (allRows z) old) o row))
+      → Stored old new (4 + i * allRows z) 0 (P + C) (λ row. byteOf (labelOf plan (marked (allRows z) old) (view.Operator o) row))) (λ s. s) done
 
-  same : SameBelow plan (marked w old) (marked w new) i
-  same a h row l = lower-kept w i few done a h row (omega (arith, rows-are fit))
+  same : SameBelow plan (marked (allRows z) old) (marked (allRows z) new) i
+  same a h row l = lower-kept (allRows z) i done a h row (subst (λ (w : ℕ). row < w) (rows-are fit) l)
 
-  labelled : Labelled plan (marked w new) own i
+  labelled : Labelled plan (marked (allRows z) new) own i
   labelled row l =
-      own-mark w i few (labelOf plan (marked w old) own) label-done row (subst (λ (m : ℕ). row < m) (rows-are fit) l)
-      ∙ label-same plan (own-cycle fit) (marked w old) (marked w new) i same (z .channels) own fits row l
+      own-mark (allRows z) i (labelOf plan (marked (allRows z) old) own) label-done row (subst (λ (w : ℕ). row < w) (rows-are fit) l)
+      ∙ label-same plan (own-cycle fit) (marked (allRows z) old) (marked (allRows z) new) i same (z .channels) own fits row l
 
   -- which are its truth, if it looks back,
-  pub label-truth : TruthMarked (z .start) (z .cycle) (marked w new) o i
+  label-truth : TruthMarked (z .start) (z .cycle) (marked (allRows z) new) o i
   unfolding labelOf operatorLabel labelBy rows
   label-truth =
-      at-sizes fit (λ P C. TruthMarked P C (marked w new) o i)
-      (λ first e row l. labelled row l ∙ ap (λ (s : Beside). labelBy (startRows plan) (cycleRows plan) (marked w new) s o row) e)
+      at-sizes fit (λ P C. TruthMarked P C (marked (allRows z) new) o i)
+      (λ first e row l. labelled row l ∙ ap (λ (s : Beside). labelBy (startRows plan) (cycleRows plan) (marked (allRows z) new) s o row) e)
 
   -- and whether it closes is what it was before.
-  pub closing-kept : closingOutcome plan (marked w new) (view.Operator o) i ≡ closingOutcome plan (marked w old) (view.Operator o) i
-  closing-kept = sym (closing-same plan (own-cycle fit) (marked w old) (marked w new) i same (z .channels) own fits)
+  closing-kept : closingOutcome plan (marked (allRows z) new) (view.Operator o) i ≡ closingOutcome plan (marked (allRows z) old) (view.Operator o) i
+  closing-kept = sym (closing-same plan (own-cycle fit) (marked (allRows z) old) (marked (allRows z) new) i same (z .channels) own fits)
 
 -- ---- by the view
 
@@ -105,7 +104,7 @@ module _ (plan : List ℕ) {z : Sizes} (fit : Fitting plan z) (n i : ℕ) {p : V
         subst⁻¹ (λ (q : View). (r ≡ closingOutcome plan (marked (allRows z) old) q i) × RowsLabelled old new (allRows z) i r (labelOf plan (marked (allRows z) old) q)) e (d, w)
 
   module _ (o : Operator) (e : p ≡ view.Operator o) where
-    pub own-fits : viewFits (z .channels) i (view.Operator o) ≡ true
+    own-fits : viewFits (z .channels) i (view.Operator o) ≡ true
     own-fits = subst (λ (q : View). viewFits (z .channels) i q ≡ true) e fits
 
     pub operator-there : namesLower i o ≡ true
@@ -113,19 +112,15 @@ module _ (plan : List ℕ) {z : Sizes} (fit : Fitting plan z) (n i : ℕ) {p : V
 
     module _ {old new : List ℕ}
         (done : Stored old new (4 + i * allRows z) 0 (allRows z) (λ row. byteOf (operatorLabel (z .start) (z .cycle) (marked (allRows z) old) o row))) where
-      all : allRows z ≤ allRows z
-      all = omega arith
-
       -- Whether it closes is looked for in the table as it is now,
       pub operator-ready : Sized old n (allRows z) → i < n
-          → Sized new n (allRows z) × (allRows z ≤ allRows z) × (1 ≤ z .cycle) × (i < n) × (namesLower n o ≡ true) × TruthMarked (z .start) (z .cycle) (marked (allRows z) new) o i
+          → Sized new n (allRows z) × (1 ≤ z .cycle) × (i < n) × (namesLower n o ≡ true) × TruthMarked (z .start) (z .cycle) (marked (allRows z) new) o i
       operator-ready s l = (
         stored-sized n (allRows z) done s,
-        all,
         fit .a-cycle,
         l,
         operator-fits (z .channels) n o (view-more (z .channels) (z .channels) (omega arith) i n (omega arith) (view.Operator o) own-fits),
-        label-truth plan fit (allRows z) i all o own-fits done,
+        label-truth plan fit i o own-fits done,
       )
 
       -- and 10 says of the part made what it says of the part to be made.
@@ -133,6 +128,6 @@ module _ (plan : List ℕ) {z : Sizes} (fit : Fitting plan z) (n i : ℕ) {p : V
           → (r ≡ closingOutcome plan (marked (allRows z) old) p i) × RowsLabelled old new (allRows z) i r (labelOf plan (marked (allRows z) old) p)
       operator-made {b} {r} c d =
           subst⁻¹ (λ (q : View). (r ≡ closingOutcome plan (marked (allRows z) old) q i) × RowsLabelled old new (allRows z) i r (labelOf plan (marked (allRows z) old) q)) e (
-            operator-closing plan new fit i o refl c d ∙ closing-kept plan fit (allRows z) i all o own-fits done,
-            record { rows-alone = (_, done); made = λ _. label-done plan fit (allRows z) i all o own-fits done },
+            operator-closing plan new fit i o refl c d ∙ closing-kept plan fit i o own-fits done,
+            record { rows-alone = (_, done); made = λ _. label-done plan fit i o own-fits done },
           )

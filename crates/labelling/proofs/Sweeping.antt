@@ -85,78 +85,73 @@ module _ (P C : ℕ) (hC : 1 ≤ C) (old mid new : List ℕ) (own other : ℕ) (
 -- ---- places
 
 -- The rows of a part lie in the table, and those of a lower part before them.
-pub there : {table : List ℕ} {n w : ℕ} → Sized table n w → (i : ℕ) → i < n → {own : ℕ} → own ≡ 4 + (i * w + 0) → {k : ℕ} → k ≤ w
-    → (own + k ≤ length table) × (length table ≤ mostBytes)
-there {table} {n} {w} sized i l e {k} h =
+pub there : {table : List ℕ} {n w : ℕ} → Sized table n w → (i : ℕ) → i < n → {own : ℕ} → own ≡ 4 + (i * w + 0) → (own + w ≤ length table) × (length table ≤ mostBytes)
+there {table} {n} {w} sized i l e =
     let whole = sized .whole in
     let in-rows = part-cells n w i l in
     let few = sized .few-parts in
     let most = area n w few (sized .few-rows) in
     (omega arith, omega arith)
 
-pub lower : (w i a : ℕ) → a < i → {own other : ℕ} → own ≡ 4 + (i * w + 0) → other ≡ 4 + (a * w + 0) → {k : ℕ} → k ≤ w → other + k ≤ own
-lower w i a l d e h = let below : (a + 1) * w ≤ i * w = mul-le-mul-right w (omega arith) in omega arith
-
--- Few rows.
-pub few : {table : List ℕ} {n w : ℕ} → Sized table n w → {k : ℕ} → k ≤ w → k ≤ 256
-few sized h = omega (arith, sized .few-rows)
+pub lower : (w i a : ℕ) → a < i → {own other : ℕ} → own ≡ 4 + (i * w + 0) → other ≡ 4 + (a * w + 0) → other + w ≤ own
+lower w i a l d e = let below : (a + 1) * w ≤ i * w = mul-le-mul-right w (omega arith) in omega arith
 
 -- ---- the marks of an operator
 
-module _ (P C w : ℕ) (hC : 1 ≤ C) (old new : List ℕ) (i : ℕ) {own : ℕ} (d : own ≡ 4 + (i * w + 0)) where
+module _ (P C : ℕ) (hC : 1 ≤ C) (old new : List ℕ) (i : ℕ) {own : ℕ} (d : own ≡ 4 + (i * (P + C) + 0)) where
   abbrev pub LabelDone : Operator → Type 0
-  LabelDone o = Stored old new (4 + i * w) 0 (P + C) (λ row. byteOf (operatorLabel P C (marked w old) o row))
+  LabelDone o = Stored old new (4 + i * (P + C)) 0 (P + C) (λ row. byteOf (operatorLabel P C (marked (P + C) old) o row))
 
   -- what is written, said as the operator's marks
   written : (o : Operator) {g : ℕ → Bool} → Stored old new own 0 (P + C) (λ row. byteOf (g row))
-      → ((row : ℕ) → row < P + C → g row ≡ operatorLabel P C (marked w old) o row) → LabelDone o
+      → ((row : ℕ) → row < P + C → g row ≡ operatorLabel P C (marked (P + C) old) o row) → LabelDone o
   written o {g} done h =
-      subst (λ (at : ℕ). Stored old new at 0 (P + C) (λ row. byteOf (operatorLabel P C (marked w old) o row))) place
+      subst (λ (at : ℕ). Stored old new at 0 (P + C) (λ row. byteOf (operatorLabel P C (marked (P + C) old) o row))) place
       (stored-same done (λ k _ l. ap byteOf (h k l)))
     where
-      place : own ≡ 4 + i * w
+      place : own ≡ 4 + i * (P + C)
       place = omega arith
 
-  module _ (a : ℕ) {left : ℕ} (e : left ≡ 4 + (a * w + 0)) where
-    read : (f : Bool) → marksFrom f old left ≡ (λ k. flipped f (marked w old a k))
-    read f = marks-read w old a f e
+  module _ (a : ℕ) {left : ℕ} (e : left ≡ 4 + (a * (P + C) + 0)) where
+    read : (f : Bool) → marksFrom f old left ≡ (λ k. flipped f (marked (P + C) old a k))
+    read f = marks-read (P + C) old a f e
 
     pub not-done : Stored old new own 0 (P + C) (λ k. byteOf (marksFrom true old left k)) → {o : Unary} → o ≡ unary.Not → LabelDone (One o a)
     not-done done k =
         subst⁻¹ (λ (o : Unary). LabelDone (One o a)) k
-        (written (One unary.Not a) done (λ row l. ap (λ (g : ℕ → Bool). g row) (read true) ∙ not-label P C hC (marked w old) a row l))
+        (written (One unary.Not a) done (λ row l. ap (λ (g : ℕ → Bool). g row) (read true) ∙ not-label P C hC (marked (P + C) old) a row l))
 
     -- one that copies the mark beside
-    beside-done : (side : Beside) (o : Unary) → ((row : ℕ) → row < P + C → markBeside P C side (marked w old a) row ≡ operatorLabel P C (marked w old) (One o a) row)
+    beside-done : (side : Beside) (o : Unary) → ((row : ℕ) → row < P + C → markBeside P C side (marked (P + C) old a) row ≡ operatorLabel P C (marked (P + C) old) (One o a) row)
         → Stored old new own 0 (P + C) (λ row. byteOf (markBeside P C side (λ k. markIn old (left + k)) row)) → LabelDone (One o a)
     beside-done side o h done = written (One o a) done (λ row l. ap (λ (g : ℕ → Bool). markBeside P C side g row) (read false) ∙ h row l)
 
     pub next-done : Stored old new own 0 (P + C) (λ row. byteOf (markBeside P C After (λ k. markIn old (left + k)) row)) → {o : Unary} → o ≡ unary.Next → LabelDone (One o a)
-    next-done done k = subst⁻¹ (λ (o : Unary). LabelDone (One o a)) k (beside-done After unary.Next (next-label P C hC (marked w old) a) done)
+    next-done done k = subst⁻¹ (λ (o : Unary). LabelDone (One o a)) k (beside-done After unary.Next (next-label P C hC (marked (P + C) old) a) done)
 
     pub yesterday-done : Stored old new own 0 (P + C) (λ row. byteOf (markBeside P C (Before false) (λ k. markIn old (left + k)) row)) → {o : Unary} → o ≡ unary.Yesterday → LabelDone (One o a)
     yesterday-done done k =
-        subst⁻¹ (λ (o : Unary). LabelDone (One o a)) k (beside-done (Before false) unary.Yesterday (λ row _. yesterday-label P C hC (marked w old) a row) done)
+        subst⁻¹ (λ (o : Unary). LabelDone (One o a)) k (beside-done (Before false) unary.Yesterday (λ row _. yesterday-label P C hC (marked (P + C) old) a row) done)
 
     pub weak-done : Stored old new own 0 (P + C) (λ row. byteOf (markBeside P C (Before true) (λ k. markIn old (left + k)) row)) → {o : Unary} → o ≡ unary.WeakYesterday → LabelDone (One o a)
     weak-done done k =
-        subst⁻¹ (λ (o : Unary). LabelDone (One o a)) k (beside-done (Before true) unary.WeakYesterday (λ row _. weak-label P C hC (marked w old) a row) done)
+        subst⁻¹ (λ (o : Unary). LabelDone (One o a)) k (beside-done (Before true) unary.WeakYesterday (λ row _. weak-label P C hC (marked (P + C) old) a row) done)
 
-    module _ (b : ℕ) {right : ℕ} (e′ : right ≡ 4 + (b * w + 0)) where
-      read′ : (f : Bool) → marksFrom f old right ≡ (λ k. flipped f (marked w old b k))
-      read′ f = marks-read w old b f e′
+    module _ (b : ℕ) {right : ℕ} (e′ : right ≡ 4 + (b * (P + C) + 0)) where
+      read′ : (f : Bool) → marksFrom f old right ≡ (λ k. flipped f (marked (P + C) old b k))
+      read′ f = marks-read (P + C) old b f e′
 
       -- and, or
       joined : (f : Bool) (o : Binary)
-          → ((row : ℕ) → row < P + C → flipped f (flipped f (marked w old b row) || flipped f (marked w old a row)) ≡ operatorLabel P C (marked w old) (Two o a b) row)
+          → ((row : ℕ) → row < P + C → flipped f (flipped f (marked (P + C) old b row) || flipped f (marked (P + C) old a row)) ≡ operatorLabel P C (marked (P + C) old) (Two o a b) row)
           → Stored old new own 0 (P + C) (λ k. byteOf (flipped f (marksFrom f old right k || marksFrom f old left k))) → LabelDone (Two o a b)
       joined f o h done = written (Two o a b) done (λ row l. ap₂ (λ (g h : ℕ → Bool). flipped f (g row || h row)) (read′ f) (read f) ∙ h row l)
 
       pub and-done : Stored old new own 0 (P + C) (λ k. byteOf (flipped true (marksFrom true old right k || marksFrom true old left k))) → {o : Binary} → o ≡ binary.And → LabelDone (Two o a b)
-      and-done done k = subst⁻¹ (λ (o : Binary). LabelDone (Two o a b)) k (joined true binary.And (and-label P C hC (marked w old) a b) done)
+      and-done done k = subst⁻¹ (λ (o : Binary). LabelDone (Two o a b)) k (joined true binary.And (and-label P C hC (marked (P + C) old) a b) done)
 
       pub or-done : Stored old new own 0 (P + C) (λ k. byteOf (flipped false (marksFrom false old right k || marksFrom false old left k))) → {o : Binary} → o ≡ binary.Or → LabelDone (Two o a b)
-      or-done done k = subst⁻¹ (λ (o : Binary). LabelDone (Two o a b)) k (joined false binary.Or (or-label P C hC (marked w old) a b) done)
+      or-done done k = subst⁻¹ (λ (o : Binary). LabelDone (Two o a b)) k (joined false binary.Or (or-label P C hC (marked (P + C) old) a b) done)
 
       module _ (s : Binary) (f : Bool) (steps : Steps s f) {o : Binary} (k : o ≡ s) where
         -- S and T
@@ -164,7 +159,7 @@ module _ (P C w : ℕ) (hC : 1 ≤ C) (old new : List ℕ) (i : ℕ) {own : ℕ}
             → Stored old new own 0 (P + C) (λ k. byteOf (flipped f (carried (marksFrom f old left) (marksFrom f old right) k))) → LabelDone (Two o a b)
         past-done side done =
             subst⁻¹ (λ (o : Binary). LabelDone (Two o a b)) k
-            (written (Two s a b) done (λ row l. ap₂ (λ (g h : ℕ → Bool). flipped f (carried g h row)) (read f) (read′ f) ∙ past-label P C hC (marked w old) s f steps a b side row))
+            (written (Two s a b) done (λ row l. ap₂ (λ (g h : ℕ → Bool). flipped f (carried g h row)) (read f) (read′ f) ∙ past-label P C hC (marked (P + C) old) s f steps a b side row))
 
         -- U and R
         pub ahead-done : endTwo s ≡ f → besideTwo s ≡ After
@@ -173,10 +168,10 @@ module _ (P C w : ℕ) (hC : 1 ≤ C) (old new : List ℕ) (i : ℕ) {own : ℕ}
         ahead-done end side done =
             subst⁻¹ (λ (o : Binary). LabelDone (Two o a b)) k
             (written (Two s a b) done (λ row l. ap₂ (λ (g h : ℕ → Bool). flipped f (backed g h (backed g h false C P) (P + C - row) row)) (read f) (read′ f)
-            ∙ ahead-label P C hC (marked w old) s f steps a b end side row l))
+            ∙ ahead-label P C hC (marked (P + C) old) s f steps a b end side row l))
 
 -- What is written of an operator, known by its shape.
-pub said-of : (P C w : ℕ) (old new : List ℕ) (i : ℕ) {o q : Operator} → o ≡ q
-    → Stored old new (4 + i * w) 0 (P + C) (λ row. byteOf (operatorLabel P C (marked w old) q row))
-    → Stored old new (4 + i * w) 0 (P + C) (λ row. byteOf (operatorLabel P C (marked w old) o row))
-said-of P C w old new i e done = subst⁻¹ (λ o. Stored old new (4 + i * w) 0 (P + C) (λ row. byteOf (operatorLabel P C (marked w old) o row))) e done
+pub said-of : (P C : ℕ) (old new : List ℕ) (i : ℕ) {o q : Operator} → o ≡ q
+    → Stored old new (4 + i * (P + C)) 0 (P + C) (λ row. byteOf (operatorLabel P C (marked (P + C) old) q row))
+    → Stored old new (4 + i * (P + C)) 0 (P + C) (λ row. byteOf (operatorLabel P C (marked (P + C) old) o row))
+said-of P C old new i e done = subst⁻¹ (λ o. Stored old new (4 + i * (P + C)) 0 (P + C) (λ row. byteOf (operatorLabel P C (marked (P + C) old) o row))) e done

@@ -36,9 +36,8 @@ pub fn label_part(
     match view {
         View::Atom(atom) => label_atom(plan, table, n, sizes, i, atom),
         View::Operator(operator) => {
-            let w = sizes.start + sizes.cycle;
-            label_operator(table, n, w, sizes, i, operator);
-            closing_outcome(sizes, i, closes_made(table, n, w, sizes, i, operator))
+            label_operator(table, n, sizes, i, operator);
+            closing_outcome(sizes, i, closes_made(table, n, sizes, i, operator))
         }
     }
 }

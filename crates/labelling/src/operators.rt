@@ -1,6 +1,5 @@
-// The marks of an operator on all rows, in a table of `n` parts with room for `w` rows of each, as many as there are or more. `i` is
-// the part's number; `own`, `other`, `left` and `right` are the places of the marks on row 0 of the part made and of the parts that
-// it names, which are lower and so lie before it.
+// The marks of an operator on all rows, in a table of `n` parts. `i` is the part's number; `own`, `other`, `left` and `right` are the
+// places of the marks on row 0 of the part made and of the parts that it names, which are lower and so lie before it.
 ghost use mathlib.Core.Path.{_≡_};
 ghost use mathlib.Core.Bool.{true, false};
 ghost use Prim.Native.Nat.{_+_, _*_, _-_, _≤_, _<_};
@@ -58,23 +57,15 @@ fn fill_ahead(table: &mut [u8], own: usize, left: usize, right: usize, sizes: Si
 }
 
 // An operator over part `a`.
-fn label_one(
-    table: &mut [u8],
-    n: usize,
-    w: usize,
-    sizes: Sizes,
-    i: usize,
-    operator: Unary,
-    a: usize,
-)
-    requires { ⌜ (Sized (now table) n w) × (allRows sizes ≤ w) × (1 ≤ sizes .cycle) × (i < n) × (a < i) ⌝ }
-    ensures { λ _. ⌜ Stored (now (table .entry)) (now (table .exit)) (4 + i * w) 0 (allRows sizes) (λ row. byteOf (operatorLabel (sizes .start) (sizes .cycle) (marked w (now (table .entry))) (One operator a) row)) ⌝ }
+fn label_one(table: &mut [u8], n: usize, sizes: Sizes, i: usize, operator: Unary, a: usize)
+    requires { ⌜ (Sized (now table) n (allRows sizes)) × (1 ≤ sizes .cycle) × (i < n) × (a < i) ⌝ }
+    ensures { λ _. ⌜ Stored (now (table .entry)) (now (table .exit)) (4 + i * allRows sizes) 0 (allRows sizes) (λ row. byteOf (operatorLabel (sizes .start) (sizes .cycle) (marked (allRows sizes) (now (table .entry))) (One operator a) row)) ⌝ }
 {
-    let rows = sizes.start + sizes.cycle;
+    let w = sizes.start + sizes.cycle;
     let own = place(w, i, 0);
     let other = place(w, a, 0);
     match operator {
-        Unary::Not => fill_copied(table, own, other, rows, true),
+        Unary::Not => fill_copied(table, own, other, w, true),
         Unary::Next => fill_beside(table, own, other, sizes, Beside::After),
         Unary::Yesterday => fill_beside(table, own, other, sizes, Beside::Before(false)),
         Unary::WeakYesterday => fill_beside(table, own, other, sizes, Beside::Before(true)),
@@ -85,44 +76,36 @@ fn label_one(
 fn label_two(
     table: &mut [u8],
     n: usize,
-    w: usize,
     sizes: Sizes,
     i: usize,
     operator: Binary,
     a: usize,
     b: usize,
 )
-    requires { ⌜ (Sized (now table) n w) × (allRows sizes ≤ w) × (1 ≤ sizes .cycle) × (i < n) × (a < i) × (b < i) ⌝ }
-    ensures { λ _. ⌜ Stored (now (table .entry)) (now (table .exit)) (4 + i * w) 0 (allRows sizes) (λ row. byteOf (operatorLabel (sizes .start) (sizes .cycle) (marked w (now (table .entry))) (Two operator a b) row)) ⌝ }
+    requires { ⌜ (Sized (now table) n (allRows sizes)) × (1 ≤ sizes .cycle) × (i < n) × (a < i) × (b < i) ⌝ }
+    ensures { λ _. ⌜ Stored (now (table .entry)) (now (table .exit)) (4 + i * allRows sizes) 0 (allRows sizes) (λ row. byteOf (operatorLabel (sizes .start) (sizes .cycle) (marked (allRows sizes) (now (table .entry))) (Two operator a b) row)) ⌝ }
 {
-    let rows = sizes.start + sizes.cycle;
+    let w = sizes.start + sizes.cycle;
     let own = place(w, i, 0);
     let left = place(w, a, 0);
     let right = place(w, b, 0);
     match operator {
-        Binary::And => fill_joined(table, own, left, right, rows, true),
-        Binary::Or => fill_joined(table, own, left, right, rows, false),
+        Binary::And => fill_joined(table, own, left, right, w, true),
+        Binary::Or => fill_joined(table, own, left, right, w, false),
         Binary::Until => fill_ahead(table, own, left, right, sizes, false),
         Binary::Release => fill_ahead(table, own, left, right, sizes, true),
-        Binary::Since => fill_on(table, own, left, right, rows, false),
-        Binary::Trigger => fill_on(table, own, left, right, rows, true),
+        Binary::Since => fill_on(table, own, left, right, w, false),
+        Binary::Trigger => fill_on(table, own, left, right, w, true),
     }
 }
 
 // The marks of an operator on all rows.
-pub fn label_operator(
-    table: &mut [u8],
-    n: usize,
-    w: usize,
-    sizes: Sizes,
-    i: usize,
-    operator: Operator,
-)
-    requires { ⌜ (Sized (now table) n w) × (allRows sizes ≤ w) × (1 ≤ sizes .cycle) × (i < n) × (namesLower i operator ≡ true) ⌝ }
-    ensures { λ _. ⌜ Stored (now (table .entry)) (now (table .exit)) (4 + i * w) 0 (allRows sizes) (λ row. byteOf (operatorLabel (sizes .start) (sizes .cycle) (marked w (now (table .entry))) operator row)) ⌝ }
+pub fn label_operator(table: &mut [u8], n: usize, sizes: Sizes, i: usize, operator: Operator)
+    requires { ⌜ (Sized (now table) n (allRows sizes)) × (1 ≤ sizes .cycle) × (i < n) × (namesLower i operator ≡ true) ⌝ }
+    ensures { λ _. ⌜ Stored (now (table .entry)) (now (table .exit)) (4 + i * allRows sizes) 0 (allRows sizes) (λ row. byteOf (operatorLabel (sizes .start) (sizes .cycle) (marked (allRows sizes) (now (table .entry))) operator row)) ⌝ }
 {
     match operator {
-        Operator::One(sort, a) => label_one(table, n, w, sizes, i, sort, a),
-        Operator::Two(sort, a, b) => label_two(table, n, w, sizes, i, sort, a, b),
+        Operator::One(sort, a) => label_one(table, n, sizes, i, sort, a),
+        Operator::Two(sort, a, b) => label_two(table, n, sizes, i, sort, a, b),
     }
 }

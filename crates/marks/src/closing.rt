@@ -1,5 +1,5 @@
-// Closing, the consistency of the loop, of an operator in a table of `n` parts with room for `w` rows of each, as many as there are or
-// more: by its truth, from the marks of the parts that it names.
+// Closing, the consistency of the loop, of an operator in a table of `n` parts: by its truth, from the marks of the parts that it
+// names.
 ghost use mathlib.Core.Path.{_≡_};
 ghost use mathlib.Core.Bool.{true};
 ghost use Prim.Native.Nat.{_≤_, _<_};
@@ -56,55 +56,50 @@ fn truth_on(table: &[u8], n: usize, w: usize, operator: Operator, first: bool, r
 fn turns_round(
     table: &[u8],
     n: usize,
-    w: usize,
     sizes: Sizes,
     operator: Operator,
     start: bool,
     end: bool,
 ) -> bool
-    requires { ⌜ (Sized (now table) n w) × (allRows sizes ≤ w) × (1 ≤ sizes .cycle) × (namesLower n operator ≡ true) ⌝ }
-    ensures { λ r. ⌜ r ≡ turnsRound (sizes .start) (sizes .cycle) (marked w (now (table .entry))) operator start end ⌝ }
+    requires { ⌜ (Sized (now table) n (allRows sizes)) × (1 ≤ sizes .cycle) × (namesLower n operator ≡ true) ⌝ }
+    ensures { λ r. ⌜ r ≡ turnsRound (sizes .start) (sizes .cycle) (marked (allRows sizes) (now (table .entry))) operator start end ⌝ }
 {
     let p = sizes.start;
-    let before = watched_truth(table, n, w, operator, end, p + sizes.cycle - 1);
+    let w = p + sizes.cycle;
+    let before = watched_truth(table, n, w, operator, end, w - 1);
     agree(start, step_on(table, n, w, operator, p, before))
 }
 
 // An operator closes, whatever its own marks are.
-pub fn closes(table: &[u8], n: usize, w: usize, sizes: Sizes, operator: Operator) -> bool
-    requires { ⌜ (Sized (now table) n w) × (allRows sizes ≤ w) × (1 ≤ sizes .cycle) × (namesLower n operator ≡ true) ⌝ }
-    ensures { λ r. ⌜ r ≡ parts.closes (sizes .start) (sizes .cycle) (marked w (now (table .entry))) operator ⌝ }
+pub fn closes(table: &[u8], n: usize, sizes: Sizes, operator: Operator) -> bool
+    requires { ⌜ (Sized (now table) n (allRows sizes)) × (1 ≤ sizes .cycle) × (namesLower n operator ≡ true) ⌝ }
+    ensures { λ r. ⌜ r ≡ parts.closes (sizes .start) (sizes .cycle) (marked (allRows sizes) (now (table .entry))) operator ⌝ }
 {
     match beside_of(operator) {
         Beside::After => true,
         Beside::Before(first) => {
             let p = sizes.start;
+            let w = p + sizes.cycle;
             let start = truth_on(table, n, w, operator, first, p);
-            let end = truth_on(table, n, w, operator, first, p + sizes.cycle - 1);
-            turns_round(table, n, w, sizes, operator, start, end)
+            let end = truth_on(table, n, w, operator, first, w - 1);
+            turns_round(table, n, sizes, operator, start, end)
         }
     }
 }
 
 // Part `i`, an operator whose marks are made, closes: its marks are its truth.
-pub fn closes_made(
-    table: &[u8],
-    n: usize,
-    w: usize,
-    sizes: Sizes,
-    i: usize,
-    operator: Operator,
-) -> bool
-    requires { ⌜ (Sized (now table) n w) × (allRows sizes ≤ w) × (1 ≤ sizes .cycle) × (i < n) × (namesLower n operator ≡ true) × (TruthMarked (sizes .start) (sizes .cycle) (marked w (now table)) operator i) ⌝ }
-    ensures { λ r. ⌜ r ≡ parts.closes (sizes .start) (sizes .cycle) (marked w (now (table .entry))) operator ⌝ }
+pub fn closes_made(table: &[u8], n: usize, sizes: Sizes, i: usize, operator: Operator) -> bool
+    requires { ⌜ (Sized (now table) n (allRows sizes)) × (1 ≤ sizes .cycle) × (i < n) × (namesLower n operator ≡ true) × (TruthMarked (sizes .start) (sizes .cycle) (marked (allRows sizes) (now table)) operator i) ⌝ }
+    ensures { λ r. ⌜ r ≡ parts.closes (sizes .start) (sizes .cycle) (marked (allRows sizes) (now (table .entry))) operator ⌝ }
 {
     match beside_of(operator) {
         Beside::After => true,
         Beside::Before(_) => {
             let p = sizes.start;
+            let w = p + sizes.cycle;
             let start = mark_at(table, n, w, i, p);
-            let end = mark_at(table, n, w, i, p + sizes.cycle - 1);
-            turns_round(table, n, w, sizes, operator, start, end)
+            let end = mark_at(table, n, w, i, w - 1);
+            turns_round(table, n, sizes, operator, start, end)
         }
     }
 }

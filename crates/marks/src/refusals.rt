@@ -138,10 +138,7 @@ pub fn check_closing(
     }
     match view {
         View::Atom(atom) => check_steady(plan, sizes, i, atom),
-        View::Operator(operator) => {
-            let w = sizes.start + sizes.cycle;
-            closing_outcome(sizes, i, closes(table, n, w, sizes, operator))
-        }
+        View::Operator(operator) => closing_outcome(sizes, i, closes(table, n, sizes, operator)),
     }
 }
 

@@ -59,7 +59,7 @@ fn main() {
     let mut rule = [0u8; RULE_ROOM];
     let mut plan = [0u8; PLAN_ROOM];
     let mut laid = [0u8; 16680];
-    let mut scratch = [0u8; 16516];
+    let mut scratch = [0u8; 2048];
     let r = command::load(b"rule.bin", &mut rule);
     let p = command::load(b"plan.bin", &mut plan);
     settle(&rule[..r], &plan[..p], &mut laid, &mut scratch);

@@ -6,7 +6,8 @@ pub mod Searched
 pub mod Promised
 pub mod Ways
 pub mod Looked
-pub mod Extending
+pub mod Stepping
+pub mod Copying
 pub mod Trying
 pub mod Making
 pub mod Searching

@@ -1,17 +1,14 @@
--- A comparison looked at position after position: whether it changes on none of them, and its marks there. Assumes nothing.
+-- A comparison looked at position after position: whether it changes on none of them. Assumes nothing.
 use Prim.Native.Nat.{ℕ, _+_, _-_, _≤_, _<_}
 use native.Mathlib.Omega.{arith}
-use mathlib.Core.Path.{_≡_, refl, sym, ap, _∙_, subst}
+use mathlib.Core.Path.{_≡_, sym, ap, _∙_}
 use mathlib.Core.Bool.{Bool, true, false}
 use mathlib.Core.List.{List}
 use Rattle.refusal.specs.Lowest.{lowestFrom}
 use Rattle.refusal.proofs.Lowest.{passes, found, ended}
-use Rattle.verdict.specs.Rows.{testAt, judgeCycle}
+use Rattle.verdict.specs.Rows.{judgeCycle}
 use Rattle.verdict.specs.declared.Comparison.{Comparison}
 use Rattle.verdict.specs.declared.Verdict.{Verdict}
-use Rattle.table.specs.Bytes.{byteOf}
-use Rattle.table.specs.inner.Stored.{Stored}
-use Rattle.table.proofs.Stores.{stored-none, stored-join}
 use Rattle.marks.specs.Parts.{isChanges}
 use Rattle.settling.specs.inner.Scratch.{changingFrom, isNone}
 
@@ -47,20 +44,3 @@ module _ (plan : List ℕ) (x : Comparison) where
       -- or it changes on none.
       pub looked-all : end ≤ t → true ≡ isNone (changingFrom plan x from count)
       looked-all h = sym (ap isNone (s .2 ∙ ended changes t end h))
-
-  -- ---- its marks
-
-  -- the marks at the positions below t are written, from `own` on
-  abbrev pub Truths : List ℕ → ℕ → ℕ → List ℕ → ℕ → Type 0
-  Truths old own count new t = (t ≤ count) × Stored old new own 0 t (λ k. byteOf (testAt plan x k))
-
-  pub truths-none : (old : List ℕ) (own count : ℕ) → Truths old own count old 0
-  truths-none old own count = (omega arith, stored-none old own (λ k. byteOf (testAt plan x k)) 0)
-
-  pub truths-next : {old mid new : List ℕ} {own count t : ℕ} → Truths old own count mid t → t < count → {b : Bool} → b ≡ testAt plan x t
-      → Stored mid new (own + t) 0 1 (λ k. byteOf b) → Truths old own count new (t + 1)
-  truths-next {t = t} s l {b} e put =
-      (omega arith, stored-join (s .1) put (λ k _. refl) (λ k q. let same : t ≡ t + k = omega arith in ap byteOf (e ∙ ap (testAt plan x) same)))
-
-  pub truths-all : {old new : List ℕ} {own count t : ℕ} → Truths old own count new t → count ≤ t → Stored old new own 0 count (λ k. byteOf (testAt plan x k))
-  truths-all {old} {new} {own} {count} {t} s h = let l = s .0 in let same : t ≡ count = omega arith in subst (λ (m : ℕ). Stored old new own 0 m (λ k. byteOf (testAt plan x k))) same (s .1)

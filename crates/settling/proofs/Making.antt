@@ -10,19 +10,18 @@ use Rattle.cltlb.specs.Fits.{viewFits}
 use Rattle.cltlb.specs.declared.View.{View}
 use Rattle.rule.specs.Take.{viewsOf}
 use Rattle.plan.specs.Layout.{cycleRows, rows}
-use Rattle.table.proofs.Stores.{stored-sized}
+use Rattle.words.specs.inner.Words.{markAt}
 use Rattle.marks.specs.Parts.{closingOutcome}
 use Rattle.labelling.specs.Labels.{labelOf, madeMark}
 use Rattle.labelling.proofs.SameMarks.{label-same, closing-same}
 use Rattle.labelling.proofs.Made.{made-labelled}
-use Rattle.labelling.proofs.OnePart.{lower-kept, own-mark}
 use Rattle.settling.specs.Settle.{isClear}
-use Rattle.settling.specs.inner.Scratch.{mostParts, mostRows, markAt, Tried, MadeTo, closesOn}
+use Rattle.settling.specs.inner.Scratch.{PartTried, MadeTo, closesOn}
 
-module _ (rule layout : List ℕ) (hC : 1 ≤ cycleRows layout) (few : rows layout ≤ mostRows) (v n : ℕ)
+module _ (rule layout : List ℕ) (hC : 1 ≤ cycleRows layout) (v n : ℕ)
     (fits : (i : ℕ) → i < n → viewFits v i (viewsOf rule i) ≡ true) where
   module _ (i : ℕ) (l : i < n) {p : View} (is : viewsOf rule i ≡ p) {old new : List ℕ} (made : MadeTo rule layout old i) {b : Bool}
-      (tried : Tried layout old new i p b) where
+      (tried : PartTried layout old new i p b) where
     -- It closes by the marks in the scratch as it does by the marks made.
     pub tried-closes : b ≡ closesOn rule layout i
     tried-closes =
@@ -33,8 +32,8 @@ module _ (rule layout : List ℕ) (hC : 1 ≤ cycleRows layout) (few : rows layo
     -- The lower parts are made as before,
     pub tried-lower : MadeTo rule layout new i
     tried-lower = record {
-      room = stored-sized mostParts mostRows (tried .rows-alone .1) (made .room);
-      marks = λ a q row r. made .marks a q row r ∙ lower-kept mostRows i few (tried .rows-alone .1) a q row (omega arith);
+      room = tried .long ∙ made .room;
+      marks = λ a q row r. made .marks a q row r ∙ sym (tried .lower a q row);
     }
 
     -- and where it closes, it is too.
@@ -51,4 +50,4 @@ module _ (rule layout : List ℕ) (hC : 1 ≤ cycleRows layout) (few : rows layo
             made-labelled layout hC (viewsOf rule) v n fits i l row r
             ∙ label-same layout hC (madeMark (viewsOf rule) layout) (markAt old) i (made .marks) v (viewsOf rule i) (fits i l) row r
             ∙ ap (λ (q : View). labelOf layout (markAt old) q row) is
-            ∙ sym (own-mark mostRows i few (labelOf layout (markAt old) p) (tried .made e) row r)
+            ∙ sym (tried .made e row r)

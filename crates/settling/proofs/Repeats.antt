@@ -1,14 +1,12 @@
 -- A comparison that changes on no row of the plan's cycle: its truths repeat from there on, and so do its marks. Assumes nothing.
-use Prim.Native.Nat.{ℕ, _+_, _*_, _-_, _/_, _%_, _≤_, _<_}
-use native.Mathlib.Nat.{mod-lt, div-add-mod'}
+use Prim.Native.Nat.{ℕ, zero, suc, _+_, _*_, _-_, _/_, _%_, _≤_, _<_}
+use native.Mathlib.Nat.{mod-lt, div-add-mod', add-mul-mod-self-right}
 use native.Mathlib.Decide.{decLt}
 use native.Mathlib.Omega.{arith}
 use mathlib.Core.Path.{_≡_, sym, ap, _∙_}
 use mathlib.Core.Bool.{Bool, true, false, true≢false}
 use mathlib.Core.List.{List}
-use mathlib.Core.Logic.{_↔_, inl, inr, by-cases, ⊎-elim}
-use lib.Dec.{eqb}
-use lib.ListN.{getD}
+use mathlib.Core.Logic.{_↔_, inl, by-cases}
 use Rattle.refusal.specs.Lowest.{lowestFrom}
 use Rattle.refusal.proofs.Lowest.{from-none}
 use Rattle.plan.specs.Layout.{cycleRows}
@@ -21,10 +19,9 @@ use Rattle.verdict.specs.declared.Verdict.the-variants.{AlwaysTrue, AlwaysFalse
 use Rattle.verdict.specs.inner.Reach.{TermsFit}
 use Rattle.verdict.proofs.Passes.{PassMeans}
 use Rattle.verdict.proofs.Cycles.{ComparedAt, test-decides}
-use Rattle.table.specs.Bytes.{byteOf}
-use Rattle.table.specs.inner.Stored.{Stored}
-use Rattle.table.specs.inner.Tables.{markIn}
-use Rattle.table.proofs.TableBytes.{read-byte}
+use Rattle.words.specs.inner.Words.{markAt}
+use Rattle.words.specs.inner.Written.{Marked}
+use Rattle.words.proofs.Marking.{marked-up}
 use Rattle.marks.specs.Parts.{isChanges}
 use Rattle.settling.specs.inner.Scratch.{changingFrom, isNone}
 use Rattle.settling.proofs.Searched.{not-so}
@@ -51,33 +48,30 @@ module _ (plan : List ℕ) {z : Sizes} (fit : Fitting plan z) (x : Comparison) (
       let there : row + k / z .cycle * cycleRows plan ≡ z .start + k = omega (arith, div-add-mod' k (z .cycle)) in
       sym (ap (testAt plan x) first) ∙ sym one ∙ ap (testAt plan x) there
 
-  -- Its marks, where they are tested on the plan's rows and repeated behind them.
-  pub marks-repeat : (passes : ℕ) {old mid new : List ℕ} {own count : ℕ} → count ≡ z .start + z .cycle + passes * z .cycle
-      → Stored old mid own 0 (z .start + z .cycle) (λ t. byteOf (testAt plan x t))
-      → Stored mid new (own + z .start) (z .cycle) (z .cycle + passes * z .cycle) (λ k. byteOf (markIn mid (own + z .start + k % z .cycle)))
-      → Stored old new own 0 count (λ t. byteOf (testAt plan x t))
-  marks-repeat passes {old} {mid} {new} {own} {count} e v w = record {
-    long = w .long ∙ v .long;
-    inside = λ t _ l. by-cases (decLt t (z .start + z .cycle))
-        (λ s. w .outside (own + t) (inl (omega arith)) ∙ v .inside t (omega arith) s)
-        (λ s. behind t (omega arith) l);
-    outside = λ j h. w .outside j (⊎-elim (λ (a : j < own + 0). inl (omega arith)) (λ (a : own + count ≤ j). inr (omega arith)) h)
-        ∙ v .outside j (⊎-elim inl (λ (a : own + count ≤ j). inr (omega arith)) h);
-  }
-    where
-      tested : (k : ℕ) → k < z .cycle → markIn mid (own + z .start + k) ≡ testAt plan x (z .start + k)
-      tested k l =
-          let place : own + z .start + k ≡ own + (z .start + k) = omega arith in
-          ap (λ (j : ℕ). markIn mid j) place
-          ∙ ap (λ (b : ℕ). eqb b 1) (v .inside (z .start + k) (omega arith) (omega arith))
-          ∙ read-byte (testAt plan x (z .start + k))
+  -- So it has a cycle later the truth that it has.
+  truth-again : (t : ℕ) → z .start + z .cycle ≤ t → testAt plan x (t - z .cycle) ≡ testAt plan x t
+  truth-again t h =
+      let here : z .start + (t - z .start) ≡ t = omega arith in
+      let back : z .start + (t - z .cycle - z .start) ≡ t - z .cycle = omega arith in
+      let on : t - z .cycle - z .start + 1 * z .cycle ≡ t - z .start = omega arith in
+      ap (testAt plan x) (sym back)
+      ∙ sym (truth-repeats (t - z .cycle - z .start))
+      ∙ ap (λ (k : ℕ). testAt plan x (z .start + k)) (sym (add-mul-mod-self-right (t - z .cycle - z .start) 1 (z .cycle)) ∙ ap (λ (k : ℕ). k % z .cycle) on)
+      ∙ truth-repeats (t - z .start)
+      ∙ ap (testAt plan x) here
 
-      behind : (t : ℕ) → z .start + z .cycle ≤ t → t < count → getD new (own + t) 0 ≡ byteOf (testAt plan x t)
-      behind t h l =
-          let place : own + t ≡ own + z .start + (t - z .start) = omega arith in
-          let here : z .start + (t - z .start) ≡ t = omega arith in
-          ap (λ (j : ℕ). getD new j 0) place
-          ∙ w .inside (t - z .start) (omega arith) (omega arith)
-          ∙ ap byteOf (tested ((t - z .start) % z .cycle) (mod-lt (t - z .start) (fit .a-cycle))
-          ∙ truth-repeats (t - z .start)
-          ∙ ap (testAt plan x) here)
+  -- Its marks, where they are tested on the plan's rows and repeated behind them.
+  module _ {old mid new : List ℕ} {i count : ℕ} (tested : Marked old mid i 0 (z .start + z .cycle) (testAt plan x))
+      (repeated : Marked mid new i (z .start + z .cycle) count (λ row. markAt new i (row - z .cycle))) where
+    below : (n row : ℕ) → row < n → row < count → markAt new i row ≡ testAt plan x row
+    below zero row l q = absurd (omega arith)
+    below (suc n) row l q =
+        let some-cycle = fit .a-cycle in
+        by-cases (decLt row (z .start + z .cycle))
+        (λ s. repeated .others row (inl s) ∙ tested .own row (omega arith) s)
+        (λ s. repeated .own row (omega arith) q ∙ below n (row - z .cycle) (omega arith) (omega arith) ∙ truth-again row (omega arith))
+
+    pub marks-repeat : z .start + z .cycle ≤ count → Marked old new i 0 count (testAt plan x)
+    marks-repeat h =
+        let some-cycle = fit .a-cycle in
+        marked-up (omega arith) h tested repeated (λ row p q. below row (row - z .cycle) (omega arith) (omega arith) ∙ truth-again row p)

@@ -33,9 +33,12 @@ use Rattle.laid_out.specs.LaidOut.{laidOut, canBeLaid}
 use Rattle.laid_out.specs.inner.LaidSizes.{laidSizes}
 use Rattle.laid_out.proofs.CanBeLaid.{first-fits, passes-few, fewer-fit}
 use Rattle.laid_out.proofs.LaidRuns.{laid-few, laid-cycle, laid-rows, laid-fitting, laid-run}
+use Rattle.words.specs.inner.Words.{mostParts, mostRows, markAt, Room}
+use Rattle.words.specs.inner.Written.{RowsRepeated}
+use Rattle.words.proofs.Marking.{repeated-kept, repeated-again}
 use Rattle.settling.specs.declared.Laid.the-variants as L
 use Rattle.settling.specs.Settle.{settlesAfter, fewestPasses, laidBy}
-use Rattle.settling.specs.inner.Scratch.{mostParts, mostRows, Room, markAt, Tried, MadeTo, closesOn, Extended, NoneSettles}
+use Rattle.settling.specs.inner.Scratch.{PartTried, MadeTo, closesOn, NoneSettles}
 use Rattle.settling.proofs.Later.{later-closed, later-kept, later-again}
 use Rattle.settling.proofs.Searched.{closed-as, none-yet, none-next, part-open, all-closed, search-found, search-ended}
 use Rattle.settling.proofs.Making.{tried-closes, tried-lower, tried-made}
@@ -56,9 +59,6 @@ module _ (rule plan : List ℕ) {n : ℕ} {z : Sizes} (ready : Ready rule plan n
   -- ---- the layout of so many passes
 
   module _ (k : ℕ) (can : canBeLaid plan k ≡ true) where
-    few-rows : rows (laidOut plan k) ≤ mostRows
-    few-rows = subst⁻¹ (λ (w : ℕ). w ≤ mostRows) (laid-rows plan (ready .fits) k can) (laid-few plan (ready .fits) k can .1)
-
     a-cycle : 1 ≤ cycleRows (laidOut plan k)
     a-cycle = subst⁻¹ (λ (c : ℕ). 1 ≤ c) (laid-cycle plan (ready .fits) k can) (own-cycle (ready .fits))
 
@@ -67,13 +67,13 @@ module _ (rule plan : List ℕ) {n : ℕ} {z : Sizes} (ready : Ready rule plan n
 
     -- One part tried on it, as the code takes it.
     module _ (i : ℕ) (l : i < n) {t : Taken} (e : t ≡ takeOf rule i) {part : Part} (f : t ≡ K.Part part) {p : View} (g : p ≡ viewOf part)
-        {old new : List ℕ} (made : MadeTo rule (laidOut plan k) old i) {b : Bool} (tried : Tried (laidOut plan k) old new i p b) where
+        {old new : List ℕ} (made : MadeTo rule (laidOut plan k) old i) {b : Bool} (tried : PartTried (laidOut plan k) old new i p b) where
       pub part-tried : (b ≡ closesOn rule (laidOut plan k) i) × MadeTo rule (laidOut plan k) new i × (b ≡ true → MadeTo rule (laidOut plan k) new (i + 1))
       part-tried =
           let is = taken-same rule plan ready i l e f g in (
-            tried-closes rule (laidOut plan k) a-cycle few-rows (channelCount rule) n (all-fit rule plan ready) i l is made tried,
-            tried-lower rule (laidOut plan k) a-cycle few-rows (channelCount rule) n (all-fit rule plan ready) i l is made tried,
-            tried-made rule (laidOut plan k) a-cycle few-rows (channelCount rule) n (all-fit rule plan ready) i l is made tried,
+            tried-closes rule (laidOut plan k) a-cycle (channelCount rule) n (all-fit rule plan ready) i l is made tried,
+            tried-lower rule (laidOut plan k) a-cycle (channelCount rule) n (all-fit rule plan ready) i l is made tried,
+            tried-made rule (laidOut plan k) a-cycle (channelCount rule) n (all-fit rule plan ready) i l is made tried,
           )
 
   -- There is room for every part.
@@ -201,9 +201,9 @@ module _ (rule plan : List ℕ) {n : ℕ} {z : Sizes} (ready : Ready rule plan n
 
       -- or they can, and the lower parts, which repeat, are made on their layout.
       module _ (bytes : Bytes plan) (can : canBeLaid plan more ≡ true) {mid new : List ℕ} (lower : MadeTo rule (laidOut plan k) mid i)
-          {y : Sizes} (sizes : y ≡ laidSizes z k) (extended : Extended mid new (y .start) (y .cycle) (more - k) i) where
-        longer : Extended mid new (z .start + k * z .cycle) (z .cycle) (more - k) i
-        longer = subst (λ (q : Sizes). Extended mid new (q .start) (q .cycle) (more - k) i) sizes extended
+          {y : Sizes} (sizes : y ≡ laidSizes z k) (repeated : RowsRepeated mid new (y .cycle) (y .start + y .cycle) (y .start + y .cycle + (more - k) * y .cycle)) where
+        longer : RowsRepeated mid new (z .cycle) (z .start + k * z .cycle + z .cycle) (z .start + k * z .cycle + z .cycle + (more - k) * z .cycle)
+        longer = subst (λ (q : Sizes). RowsRepeated mid new (q .cycle) (q .start + q .cycle) (q .start + q .cycle + (more - k) * q .cycle)) sizes repeated
 
         passes : k + (more - k) ≡ more
         passes = omega arith
@@ -211,12 +211,12 @@ module _ (rule plan : List ℕ) {n : ℕ} {z : Sizes} (ready : Ready rule plan n
         lower-first : Lower new i k
         lower-first =
             let these = laid-rows plan (ready .fits) k (s .can) in
-            (s .closed, record { room = longer .room; marks = λ a q row r. lower .marks a q row r ∙ sym (longer .kept a q row (omega arith)) })
+            (s .closed, record { room = longer .long ∙ lower .room; marks = λ a q row r. lower .marks a q row r ∙ sym (repeated-kept longer a row (omega arith)) })
 
         lower-last : Lower new i more
         lower-last =
             subst (Lower new i) passes
-            (lower-later bytes (s .few) k (more - k) (subst⁻¹ (λ (m : ℕ). canBeLaid plan m ≡ true) passes can) lower-first (longer .again) (more - k) (omega arith))
+            (lower-later bytes (s .few) k (more - k) (subst⁻¹ (λ (m : ℕ). canBeLaid plan m ≡ true) passes can) lower-first (λ a q. repeated-again longer a) (more - k) (omega arith))
 
         pub more-laid : Searching rule plan n new more i
         more-laid = record {

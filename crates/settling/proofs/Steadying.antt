@@ -40,7 +40,8 @@ use Rattle.inputs.specs.inner.Read.{Ready}
 use Rattle.inputs.proofs.Parts.{taken-same, taken-fitting}
 use Rattle.laid_out.specs.LaidOut.{laidOut, canBeLaid}
 use Rattle.settling.specs.Settle.{isClear, settlesAfter}
-use Rattle.settling.specs.inner.Scratch.{mostRows, changingFrom, isNone, closesOn, Unsteady, NoneSettles}
+use Rattle.words.specs.inner.Words.{mostRows}
+use Rattle.settling.specs.inner.Scratch.{changingFrom, isNone, closesOn, Unsteady, NoneSettles}
 use Rattle.settling.proofs.Searched.{true-false, not-so, part-open, not-laid}
 use Rattle.settling.proofs.Trying.{steady-as}
 

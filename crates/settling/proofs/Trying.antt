@@ -8,10 +8,9 @@ use mathlib.Core.List.{List}
 use mathlib.Core.Option.{Option, none, some}
 use mathlib.Core.Logic.{_↔_, Iff·rfl, Iff·symm, Iff·trans}
 use lib.IntN.{ℤ}
-use lib.ListN.{length, getD}
 use borrow.Author.Tests.{le-ltb, not-true, not-false}
 use Rattle.fields.specs.inner.Ranges.{Bytes}
-use Rattle.cltlb.specs.Fits.{atomFits, viewFits}
+use Rattle.cltlb.specs.Fits.{atomFits}
 use Rattle.cltlb.specs.declared.Atom.{Atom}
 use Rattle.cltlb.specs.declared.Operator.{Operator}
 use Rattle.cltlb.specs.declared.View.{View}
@@ -34,20 +33,16 @@ use Rattle.verdict.specs.inner.Reach.{TermsFit}
 use Rattle.verdict.proofs.Passes.{means-iff, means-one}
 use Rattle.verdict.proofs.Cycles.{ComparedAt, test-decides, cycle-means, inside-4}
 use Rattle.verdict.proofs.Values.{atom-fit}
-use Rattle.table.specs.Bytes.{byteOf}
-use Rattle.table.specs.inner.Stored.{Stored}
-use Rattle.table.specs.inner.Tables.{mostBytes}
-use Rattle.table.proofs.Stores.{stored-same}
-use Rattle.marks.specs.inner.Tables.{TruthMarked}
+use Rattle.words.specs.inner.Words.{mostRows, markAt}
+use Rattle.words.specs.inner.Written.{Marked}
 use Rattle.marks.specs.Parts.{isChanges, closes, steadyOutcome, closingOutcome}
 use Rattle.marks.proofs.PartsChecked.{at-sizes, own-cycle}
 use Rattle.labelling.specs.Labels.{operatorLabel, labelOf}
-use Rattle.labelling.proofs.OnePart.{label-done, label-truth, closing-kept}
 use Rattle.laid_out.specs.LaidOut.{laidOut, canBeLaid}
 use Rattle.laid_out.specs.inner.LaidSizes.{laidSizes}
 use Rattle.laid_out.proofs.LaidRuns.{laid-few, laid-cycle, laid-fitting, laid-run}
 use Rattle.settling.specs.Settle.{isClear}
-use Rattle.settling.specs.inner.Scratch.{mostParts, mostRows, Room, markAt, changingFrom, isNone, Tried}
+use Rattle.settling.specs.inner.Scratch.{changingFrom, isNone, OperatorTried, PartTried}
 
 -- ---- what refuses nothing
 
@@ -62,8 +57,8 @@ met-clear true r = refl
 met-clear false r = refl
 
 -- what is known of a part by its view
-pub tried-view : {layout old new : List ℕ} {i : ℕ} {p q : View} {b : Bool} → p ≡ q → Tried layout old new i q b → Tried layout old new i p b
-tried-view {layout} {old} {new} {i} {b = b} e t = subst⁻¹ (λ (p : View). Tried layout old new i p b) e t
+pub tried-view : (layout : List ℕ) {old new : List ℕ} {i : ℕ} {p q : View} {b : Bool} → p ≡ q → PartTried layout old new i q b → PartTried layout old new i p b
+tried-view layout {old} {new} {i} {b = b} e t = subst⁻¹ (λ (p : View). PartTried layout old new i p b) e t
 
 module _ (plan : List ℕ) {z : Sizes} (fit : Fitting plan z) (k : ℕ) (can : canBeLaid plan k ≡ true) where
   abbrev layout : List ℕ
@@ -76,11 +71,6 @@ module _ (plan : List ℕ) {z : Sizes} (fit : Fitting plan z) (k : ℕ) (can : c
   -- The rows of the layout are few, and its cycle begins in the plan's cycle.
   pub laid-rows : (S + z .cycle ≤ mostRows) × (S ≤ mostRows) × (z .start ≤ S)
   laid-rows = let few = laid-few plan fit k can .1 in (omega arith, omega arith, omega arith)
-
-  -- There is room for them in the scratch.
-  pub laid-room : {scratch : List ℕ} → Room scratch → (i : ℕ) → i < mostParts → {own : ℕ} → own ≡ 4 + (i * mostRows + 0)
-      → (own + (S + z .cycle) ≤ length scratch) × (length scratch ≤ mostBytes)
-  laid-room room i l e = let whole = room .whole in let few = laid-few plan fit k can .1 in (omega arith, omega arith)
 
   same-cycle : cycleRows (laidOut plan k) ≡ cycleRows plan
   same-cycle = laid-cycle plan fit k can
@@ -143,66 +133,49 @@ module _ (plan : List ℕ) {z : Sizes} (fit : Fitting plan z) (k : ℕ) (can : c
         closes-as old = e ∙ ap (λ (m : ℕ). isNone (changingFrom plan x m (z .cycle))) at-s ∙ steady-as i (markAt old)
 
         -- It changes: nothing is written.
-        pub atom-open : not b ≡ true → {old : List ℕ} → Tried (laidOut plan k) old old i (view.Atom a) false
+        pub atom-open : not b ≡ true → {old : List ℕ} → PartTried (laidOut plan k) old old i (view.Atom a) false
         atom-open h {old} = record {
           outcome = sym (not-true b h) ∙ closes-as old;
-          rows-alone = (
-            λ j. getD old (4 + i * mostRows + j) 0,
-            record { long = refl; inside = λ j _ _. refl; outside = λ j _. refl },
-          );
+          long = refl;
+          lower = λ a l row. refl;
           made = λ t. absurd (false≢true t);
         }
 
         -- It does not: its marks are written.
-        pub atom-closed : not b ≡ false → {old new : List ℕ} {own : ℕ} → own ≡ 4 + (i * mostRows + 0)
-            → Stored old new own 0 (s + c) (λ t. byteOf (testAt plan x t)) → Tried (laidOut plan k) old new i (view.Atom a) true
+        pub atom-closed : not b ≡ false → {old new : List ℕ} → Marked old new i 0 (s + c) (testAt plan x) → PartTried (laidOut plan k) old new i (view.Atom a) true
         unfolding labelOf atomAt
-        atom-closed h {old} {new} {own} at done = record { outcome = sym (not-false b h) ∙ closes-as old; rows-alone = (_, marks); made = λ _. marks }
+        atom-closed h {old} {new} done = record {
+          outcome = sym (not-false b h) ∙ closes-as old;
+          long = done .long;
+          lower = done .lower;
+          made = λ _ row l. done .own row (omega arith) (subst⁻¹ (λ (m : ℕ). row < m) whole l)
+              ∙ sym (test-same row)
+              ∙ ap (λ (y : Comparison). testAt (laidOut plan k) y row) is;
+        }
           where
-            place : own ≡ 4 + i * mostRows
-            place = omega arith
-
             whole : s + c ≡ rows (laidOut plan k)
             whole = ap₂ (λ (m n : ℕ). m + n) at-s at-c ∙ sym (rows-are laid)
 
-            marks : Stored old new (4 + i * mostRows) 0 (rows (laidOut plan k)) (λ t. byteOf (testAt (laidOut plan k) (comparisonOf a) t))
-            marks =
-                stored-same (subst (λ (m : ℕ). Stored old new m 0 (rows (laidOut plan k)) (λ t. byteOf (testAt plan x t))) place
-                (subst (λ (m : ℕ). Stored old new own 0 m (λ t. byteOf (testAt plan x t))) whole done))
-                (λ t _ _. ap byteOf (sym (test-same t) ∙ ap (λ (y : Comparison). testAt (laidOut plan k) y t) is))
-
   -- ---- operators
 
-  module _ (bytes : Bytes plan) (i : ℕ) (o : Operator) (fits : viewFits (z .channels) i (view.Operator o) ≡ true) {y : Sizes} (is : y ≡ laidSizes z k) {old new : List ℕ}
-      (written : Stored old new (4 + i * mostRows) 0 (allRows y) (λ row. byteOf (operatorLabel (y .start) (y .cycle) (markAt old) o row))) where
-    few : allRows (laidSizes z k) ≤ mostRows
-    few = laid bytes .few-rows
+  module _ (bytes : Bytes plan) {y : Sizes} (is : y ≡ laidSizes z k) where
+    -- There is room for their rows.
+    pub operator-room : (1 ≤ y .cycle) × (allRows y ≤ mostRows)
+    operator-room = subst⁻¹ (λ (q : Sizes). (1 ≤ q .cycle) × (allRows q ≤ mostRows)) is (laid bytes .a-cycle, laid bytes .few-rows)
 
-    done : Stored old new (4 + i * mostRows) 0 (allRows (laidSizes z k)) (λ row. byteOf (operatorLabel (z .start + k * z .cycle) (z .cycle) (markAt old) o row))
-    done = subst (λ (q : Sizes). Stored old new (4 + i * mostRows) 0 (allRows q) (λ row. byteOf (operatorLabel (q .start) (q .cycle) (markAt old) o row))) is written
-
-    -- It is labelled with its truth, if it looks back,
-    pub operator-truth : TruthMarked (y .start) (y .cycle) (markAt new) o i
-    operator-truth =
-        subst⁻¹ (λ (q : Sizes). TruthMarked (q .start) (q .cycle) (markAt new) o i) is (label-truth (laidOut plan k) (laid bytes) mostRows i few o fits done)
-
-    -- and closes or not.
-    pub operator-tried : {b : Bool} → b ≡ closes (y .start) (y .cycle) (markAt new) o → Tried (laidOut plan k) old new i (view.Operator o) b
-    unfolding closingOutcome
-    operator-tried {b} e = record {
-      outcome = closed
-          ∙ met-clear (closes (startRows (laidOut plan k)) (cycleRows (laidOut plan k)) (markAt new) o) (Closing i (startRows (laidOut plan k)))
-          ∙ ap isClear (closing-kept (laidOut plan k) (laid bytes) mostRows i few o fits done);
-      rows-alone = (_, marks);
-      made = λ _. marks;
+    -- One is marked, and closes or not.
+    pub operator-tried : (i : ℕ) (o : Operator) {old new : List ℕ} {b : Bool} → OperatorTried (y .start) (y .cycle) old new i o b
+        → PartTried (laidOut plan k) old new i (view.Operator o) b
+    unfolding closingOutcome labelOf
+    operator-tried i o {old} {new} {b} tried = record {
+      outcome = done .outcome
+          ∙ at-sizes (laid bytes) (λ p c. closes p c (markAt old) o ≡ closes (startRows (laidOut plan k)) (cycleRows (laidOut plan k)) (markAt old) o) refl
+          ∙ met-clear (closes (startRows (laidOut plan k)) (cycleRows (laidOut plan k)) (markAt old) o) (Closing i (startRows (laidOut plan k)));
+      long = done .long;
+      lower = done .lower;
+      made = λ e row l. done .made e row (subst (λ (m : ℕ). row < m) (rows-are (laid bytes)) l)
+          ∙ at-sizes (laid bytes) (λ p c. operatorLabel p c (markAt old) o row ≡ operatorLabel (startRows (laidOut plan k)) (cycleRows (laidOut plan k)) (markAt old) o row) refl;
     }
       where
-        marks : Stored old new (4 + i * mostRows) 0 (rows (laidOut plan k)) (λ row. byteOf (labelOf (laidOut plan k) (markAt old) (view.Operator o) row))
-        marks =
-            subst⁻¹ (λ (m : ℕ). Stored old new (4 + i * mostRows) 0 m (λ row. byteOf (labelOf (laidOut plan k) (markAt old) (view.Operator o) row))) (rows-are (laid bytes))
-            (label-done (laidOut plan k) (laid bytes) mostRows i few o fits done)
-
-        closed : b ≡ closes (startRows (laidOut plan k)) (cycleRows (laidOut plan k)) (markAt new) o
-        closed =
-            subst (λ (q : Sizes). b ≡ closes (q .start) (q .cycle) (markAt new) o) is e
-            ∙ sym (at-sizes (laid bytes) (λ p c. closes (startRows (laidOut plan k)) (cycleRows (laidOut plan k)) (markAt new) o ≡ closes p c (markAt new) o) refl)
+        done : OperatorTried S (z .cycle) old new i o b
+        done = subst (λ (q : Sizes). OperatorTried (q .start) (q .cycle) old new i o b) is tried

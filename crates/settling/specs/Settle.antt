@@ -17,12 +17,12 @@ use Rattle.maker.specs.Make.{closingsOutcome}
 use Rattle.settling.specs.declared.Laid.{Laid}
 use Rattle.settling.specs.declared.Laid.the-variants as L
 
--- The bytes of the lent plan buffer, which has room for every plan, and of the lent scratch.
+-- The bytes of the lent plan buffer, which has room for every plan, and of the lent scratch, a word of 8 bytes for each row.
 abbrev pub laidOutLength : ℕ
 laidOutLength = 16680
 
 abbrev pub scratchLength : ℕ
-scratchLength = 16516
+scratchLength = 2048
 
 -- nothing is refused
 abbrev pub isClear : Outcome → Bool

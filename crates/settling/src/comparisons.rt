@@ -1,21 +1,19 @@
 // A comparison on the rows of a layout, which are the first positions of the plan's run.
 ghost use mathlib.Core.Path.{_≡_};
-ghost use Prim.Native.Nat.{_+_, _*_, _≤_};
-ghost use lib.ListN.{length};
+ghost use Prim.Native.Nat.{_+_, _*_, _≤_, _<_};
 ghost use Rattle.plan.specs.inner.Sizes.{Fitting};
 ghost use Rattle.verdict.specs.Rows.{testAt};
 ghost use Rattle.verdict.specs.inner.Reach.{TermsFit};
-ghost use Rattle.table.specs.Bytes.{byteOf};
-ghost use Rattle.table.specs.inner.Stored.{Stored};
-ghost use Rattle.table.specs.inner.Tables.{mostBytes};
-ghost use Rattle.settling.specs.inner.Scratch.{mostRows, changingFrom, isNone};
-use crate::extend::repeat;
+ghost use Rattle.words.specs.inner.Words.{mostParts, mostRows, Room};
+ghost use Rattle.words.specs.inner.Written.{Marked};
+ghost use Rattle.settling.specs.inner.Scratch.{changingFrom, isNone};
 use marks::refusals::is_changes;
 use plan::sizes::Sizes;
-use table::fills::put_mark;
 use verdict::Comparison;
 use verdict::rows::judge_cycle;
 use verdict::rows::test_at;
+use words::parts::put_mark;
+use words::parts::repeat_marks;
 
 // On fewer passes testing each mark costs no more than looking whether they repeat.
 const FEW_PASSES: usize = 4;
@@ -36,21 +34,21 @@ pub fn steady(plan: &[u8], sizes: Sizes, comparison: Comparison, from: usize) ->
     true
 }
 
-// Its marks at the first `count` positions, from `own` on.
-pub fn put_truths(
-    table: &mut [u8],
+// The marks of part `i`, at the first `count` positions.
+fn put_truths(
+    scratch: &mut [u8],
     plan: &[u8],
     sizes: Sizes,
     comparison: Comparison,
-    own: usize,
+    i: usize,
     count: usize,
 )
-    requires { ⌜ (Fitting (now plan) sizes) × (TermsFit sizes comparison) × (count ≤ mostRows) × (own + count ≤ length (now table)) × (length (now table) ≤ mostBytes) ⌝ }
-    ensures { λ _. ⌜ Stored (now (table .entry)) (now (table .exit)) own 0 count (λ t. byteOf (testAt (now (plan .entry)) comparison t)) ⌝ }
+    requires { ⌜ (Fitting (now plan) sizes) × (TermsFit sizes comparison) × (Room (now scratch)) × (i < mostParts) × (count ≤ mostRows) ⌝ }
+    ensures { λ _. ⌜ Marked (now (scratch .entry)) (now (scratch .exit)) i 0 count (testAt (now (plan .entry)) comparison) ⌝ }
 {
     let mut t = 0;
     while t < count {
-        put_mark(table, own + t, test_at(plan, sizes, comparison, t));
+        put_mark(scratch, i, t, test_at(plan, sizes, comparison, t));
         t += 1;
     }
 }
@@ -58,27 +56,27 @@ pub fn put_truths(
 // So on the `count` rows of a layout of so many passes. Where it changes on none of the plan's cycle rows, its marks repeat from there
 // on.
 pub fn put_marks(
-    table: &mut [u8],
+    scratch: &mut [u8],
     plan: &[u8],
     sizes: Sizes,
     comparison: Comparison,
-    own: usize,
+    i: usize,
     passes: usize,
     count: usize,
 )
-    requires { ⌜ (Fitting (now plan) sizes) × (TermsFit sizes comparison) × (count ≤ mostRows) × (own + count ≤ length (now table)) × (length (now table) ≤ mostBytes) × (count ≡ sizes .start + sizes .cycle + passes * sizes .cycle) ⌝ }
-    ensures { λ _. ⌜ Stored (now (table .entry)) (now (table .exit)) own 0 count (λ t. byteOf (testAt (now (plan .entry)) comparison t)) ⌝ }
+    requires { ⌜ (Fitting (now plan) sizes) × (TermsFit sizes comparison) × (Room (now scratch)) × (i < mostParts) × (count ≤ mostRows) × (count ≡ sizes .start + sizes .cycle + passes * sizes .cycle) ⌝ }
+    ensures { λ _. ⌜ Marked (now (scratch .entry)) (now (scratch .exit)) i 0 count (testAt (now (plan .entry)) comparison) ⌝ }
 {
-    let start = sizes.start;
-    let cycle = sizes.cycle;
     if passes < FEW_PASSES {
-        put_truths(table, plan, sizes, comparison, own, count);
+        put_truths(scratch, plan, sizes, comparison, i, count);
         return;
     }
-    if !steady(plan, sizes, comparison, start) {
-        put_truths(table, plan, sizes, comparison, own, count);
+    if !steady(plan, sizes, comparison, sizes.start) {
+        put_truths(scratch, plan, sizes, comparison, i, count);
         return;
     }
-    put_truths(table, plan, sizes, comparison, own, start + cycle);
-    repeat(table, own + start, cycle, passes);
+    let cycle = sizes.cycle;
+    let once = sizes.start + cycle;
+    put_truths(scratch, plan, sizes, comparison, i, once);
+    repeat_marks(scratch, i, cycle, once, count);
 }

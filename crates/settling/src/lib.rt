@@ -1,6 +1,7 @@
 // Settling: the fewest passes of a plan's cycle are laid out as start rows after which every part of a rule closes.
 pub mod comparisons;
-pub mod extend;
+pub mod copies;
+pub mod operators;
 pub mod parts;
 pub mod search;
 pub mod steady;
@@ -17,10 +18,8 @@ use plan::sizes::Sizes;
 use refusal::Refusal;
 use table::fills::clear;
 
-// The parts that the scratch has room for, as many as there can be, and its bytes.
-pub const MOST_PARTS: usize = 64;
-
-pub const SCRATCH_LENGTH: usize = 16516;
+// The bytes of the scratch, a word for each row.
+pub const SCRATCH_LENGTH: usize = 2048;
 
 // What settling answers: how many passes are laid out, or the first refusal that applies.
 pub enum Laid {

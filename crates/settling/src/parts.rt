@@ -1,5 +1,5 @@
 // One part of a rule, tried on the layout of so many passes, whose rows are the first positions of the plan's run. Nothing of the
-// layout is written: the scratch holds marks, with room for 256 rows of each of 64 parts.
+// layout is written: the scratch holds marks.
 ghost use mathlib.Core.Path.{_≡_};
 ghost use mathlib.Core.Bool.{true};
 ghost use Prim.Native.Nat.{_+_, _<_};
@@ -8,19 +8,16 @@ ghost use Rattle.cltlb.specs.declared.View.the-variants as view;
 ghost use Rattle.plan.specs.inner.Sizes.{Fitting};
 ghost use Rattle.inputs.specs.inner.Read.{Ready};
 ghost use Rattle.laid_out.specs.LaidOut.{laidOut, canBeLaid};
-ghost use Rattle.settling.specs.inner.Scratch.{mostParts, Room, Tried, MadeTo, closesOn};
-use crate::MOST_PARTS;
+ghost use Rattle.words.specs.inner.Words.{mostParts, Room};
+ghost use Rattle.settling.specs.inner.Scratch.{PartTried, MadeTo, closesOn};
 use crate::comparisons::put_marks;
 use crate::comparisons::steady;
+use crate::operators::try_operator;
 use cltlb::Atom;
 use cltlb::View;
-use labelling::operators::label_operator;
-use laid_out::fits::MOST_ROWS;
 use laid_out::numbers::laid_sizes;
-use marks::closing::closes_made;
 use plan::sizes::Sizes;
 use rule::Taken;
-use table::bytes::place;
 use verdict::rows::comparison_of;
 
 // A comparison: its verdicts on the cycle rows, from that pass on, come first, and its marks once it is steady.
@@ -33,7 +30,7 @@ fn try_atom(
     atom: Atom,
 ) -> bool
     requires { ⌜ (Fitting (now plan) sizes) × (canBeLaid (now plan) passes ≡ true) × (Room (now scratch)) × (i < mostParts) × (atomFits (sizes .channels) atom ≡ true) ⌝ }
-    ensures { λ r. ⌜ Tried (laidOut (now (plan .entry)) passes) (now (scratch .entry)) (now (scratch .exit)) i (view.Atom atom) r ⌝ }
+    ensures { λ r. ⌜ PartTried (laidOut (now (plan .entry)) passes) (now (scratch .entry)) (now (scratch .exit)) i (view.Atom atom) r ⌝ }
 {
     let comparison = comparison_of(atom);
     let laid = laid_sizes(sizes, passes);
@@ -41,20 +38,19 @@ fn try_atom(
     if !steady(plan, sizes, comparison, start) {
         return false;
     }
-    let own = place(MOST_ROWS, i, 0);
     put_marks(
         scratch,
         plan,
         sizes,
         comparison,
-        own,
+        i,
         passes,
         start + laid.cycle,
     );
     true
 }
 
-// A part by its view. An operator is labelled first, by the marks of the lower parts, and closes by the marks made or not.
+// A part by its view.
 fn try_view(
     plan: &[u8],
     scratch: &mut [u8],
@@ -64,15 +60,11 @@ fn try_view(
     view: View,
 ) -> bool
     requires { ⌜ (Fitting (now plan) sizes) × (canBeLaid (now plan) passes ≡ true) × (Room (now scratch)) × (i < mostParts) × (viewFits (sizes .channels) i view ≡ true) ⌝ }
-    ensures { λ r. ⌜ Tried (laidOut (now (plan .entry)) passes) (now (scratch .entry)) (now (scratch .exit)) i view r ⌝ }
+    ensures { λ r. ⌜ PartTried (laidOut (now (plan .entry)) passes) (now (scratch .entry)) (now (scratch .exit)) i view r ⌝ }
 {
     match view {
         View::Atom(atom) => try_atom(plan, scratch, sizes, passes, i, atom),
-        View::Operator(operator) => {
-            let laid = laid_sizes(sizes, passes);
-            label_operator(scratch, MOST_PARTS, MOST_ROWS, laid, i, operator);
-            closes_made(scratch, MOST_PARTS, MOST_ROWS, laid, i, operator)
-        }
+        View::Operator(operator) => try_operator(scratch, laid_sizes(sizes, passes), i, operator),
     }
 }
 

@@ -3,15 +3,15 @@
 ghost use mathlib.Core.Path.{_≡_};
 ghost use Rattle.inputs.specs.inner.Read.{Ready};
 ghost use Rattle.settling.specs.Settle.{fewestPasses, laidBy};
-ghost use Rattle.settling.specs.inner.Scratch.{Room};
+ghost use Rattle.words.specs.inner.Words.{Room};
 use crate::Laid;
-use crate::extend::extend;
 use crate::parts::try_part;
 use crate::steady::next_passes;
 use laid_out::fits::can_be_laid;
 use laid_out::numbers::laid_sizes;
 use plan::sizes::Sizes;
 use refusal::Refusal;
+use words::rows::repeat_rows;
 
 // Of a rule of `n` parts.
 pub fn fewest_passes(rule: &[u8], plan: &[u8], scratch: &mut [u8], n: usize, sizes: Sizes) -> Laid
@@ -28,7 +28,10 @@ pub fn fewest_passes(rule: &[u8], plan: &[u8], scratch: &mut [u8], n: usize, siz
             if !can_be_laid(plan, sizes, more) {
                 return Laid::Refused(Refusal::NoLayout);
             }
-            extend(scratch, laid_sizes(sizes, passes), more - passes, i);
+            let laid = laid_sizes(sizes, passes);
+            let cycle = laid.cycle;
+            let from = laid.start + cycle;
+            repeat_rows(scratch, cycle, from, from + (more - passes) * cycle);
             passes = more;
         }
     }

@@ -9,6 +9,6 @@ pub counted : (lo hi : ℕ) → 16 ≡ length (examples lo hi)
 unfolding examples
 counted lo hi = refl
 
-pub counted-more : 162 ≡ length more
+pub counted-more : 163 ≡ length more
 unfolding more
 counted-more = refl

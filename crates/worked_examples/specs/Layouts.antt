@@ -8,12 +8,16 @@ use Rattle.worked_examples.specs.Table.{planA}
 abbrev pub lentPlan : List ℕ
 lentPlan = replicate 16680 0xFF
 
--- lent as scratch: 16516 bytes, all 1; and all 0
+-- lent as scratch: 2048 bytes, all 1; and all 0
 abbrev pub lentScratch : List ℕ
-lentScratch = replicate 16516 0x01
+lentScratch = replicate 2048 0x01
 
 abbrev pub clearedScratch : List ℕ
-clearedScratch = replicate 16516 0x00
+clearedScratch = replicate 2048 0x00
+
+-- 16516 bytes, a byte for each mark of the largest table: too many
+abbrev pub longScratch : List ℕ
+longScratch = replicate 16516 0x01
 
 -- planA with no pass laid out: its own 36 bytes, and the bytes behind them
 abbrev pub laidA-0 : List ℕ

@@ -13,7 +13,7 @@ use Rattle.worked_examples.specs.Table.{ruleE1, ruleE2, ruleE4, ruleE8, 
 use Rattle.worked_examples.specs.MoreSheets.{ruleKinds, ruleRelease, rulePast, ruleWeak, ruleSince, ruleTrigger, ruleLimit, ruleMet, ruleReach, ruleEightChannels, ruleWindows, ruleHours, ruleFirstDay, ruleDayBefore, ruleBack, ruleNoParts, ruleLong, ruleNineChannels, ruleKind0, ruleKind15, ruleShiftedConstant, ruleShiftCode9, ruleForm2, ruleChannel1, ruleNamesItself, ruleSpareByte, ruleWindowConstant, ruleWindowFrom, ruleWindowTo, ruleWindowNone, ruleWindowSpare, rulePinned, rulePinnedBack, ruleUnder, ruleTopWindows, ruleCourse, rulePinnedConstant, rulePinnedChannel1, rulePinnedShiftCode9, rulePinnedTerms, rulePinnedSpare, ruleMostParts, ruleTooManyParts}
 use Rattle.worked_examples.specs.MorePlans.{planThree, planWeek, planLeap, planStartDrift, planNoCycle, planLong, planLead, planLeadDrift, planBehindLeadDrift, planSevenBytes, planMostLead, planTooMuchLead, planMostRows, planTooManyRows, planMostChannels, planTooManyChannels, planHigh, planThreeTop, planTop, planTopClock, planTopB, planTopE10, planTopHigh, planCourse, planTopNegative, planTopLowest, planTopShort, planTopLeftOut}
 use Rattle.worked_examples.specs.MoreMarks.{marksKinds, marksLead, marksLeadSeen, marksRelease-1, marksRelease-0, marksRelease-spare, marksLong, marksByte2, marksBytes2, marksBroken, marksSpare, marksSpareBroken, marksLowerBroken, marksLowerSpare, marksPast, marksPastHeld, marksMetWrong, marksWeakHeld, marksSinceHeld, marksTriggerHeld, marksLimit, marksLimitBroken, marksLimitSpare, marksWindows, marksWindowsBroken, marksWindowsSpare, marksFirstDay, marksFirstDayWrong, lentFull, lentSevens, zeros, zerosFirstDay, marksPinned, marksPinnedTrue, marksPinnedSpare, marksCourse, lentCourse, zerosPinned}
-use Rattle.worked_examples.specs.Layouts.{lentPlan, lentScratch, clearedScratch, laidA-0, laidA-1, laidB-1, laidLeap-1, laidLead-1, laidTopB-1}
+use Rattle.worked_examples.specs.Layouts.{lentPlan, lentScratch, clearedScratch, longScratch, laidA-0, laidA-1, laidB-1, laidLeap-1, laidLead-1, laidTopB-1}
 
 -- A refusal is number × 2^32 + part × 2^16 + row; beside it stand its number, part and row.
 unfoldable pub more : List Call
@@ -154,6 +154,7 @@ more =
     -- 13: either buffer. It comes after 1 to 6 and before 15, and both buffers are as they were.
     ∷ settles ruleE1 planA planA lentScratch planA lentScratch 55834574848  -- 13, 0, 0
     ∷ settles ruleE8 planHigh lentPlan [] lentPlan [] 55834574848  -- 13, 0, 0
+    ∷ settles ruleE8 planHigh lentPlan longScratch lentPlan longScratch 55834574848  -- 13, 0, 0
     ∷ settles ruleE1 planStartDrift [] [] [] [] 25769803777  -- 6, 0, 1
     -- 15: with a pass more a reading takes more than 32 bits, or the rows are more than 256. The scratch is all zero bytes.
     ∷ settles ruleE8 planHigh lentPlan lentScratch lentPlan clearedScratch 64424509440  -- 15, 0, 0

@@ -19,5 +19,5 @@ pub fn count() -> usize
 pub fn count_more() -> usize
     ensures { λ r. ⌜ (r ≡ length more) × MoreSaid ⌝ }
 {
-    162
+    163
 }

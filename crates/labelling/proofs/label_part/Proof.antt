@@ -1,7 +1,6 @@
 -- `labelling::label_part` meets its contract. Assumes nothing.
 use denote.Ref.{now}
 use Rattle.labelling.proofs.OnePart.{atom-there, atom-made, operator-there, operator-ready, operator-made}
-use native.Mathlib.Omega.{arith}
 use borrow.Author.Needs.{needs}
 use Rattle.labelling.proofs.label_part.Statement.{statement}
 use Rattle.labelling.proofs.label_part.Tie as tie
@@ -27,26 +26,22 @@ label-atom-requires c κs =
 enum-known-view-2 : tie.Need-enum-known-view-2
 enum-known-view-2 c = search needs
 
--- src/lib.rt:39:21
-add-w : tie.Need-add-w
-add-w c = search needs
-
--- src/lib.rt:40:13
+-- src/lib.rt:39:13
 label-operator-requires : tie.Need-label-operator-requires
 label-operator-requires c κs =
-    let start = c .before .before .before .before .before .before .before in
-    let view2 = c .before .before .before .view2 in
-    (start .pre .1, omega arith, start .pre .0 .a-cycle, start .pre .2, operator-there (now (start .args .plan)) (start .pre .0) (start .args .n) (start .args .i) (start .pre .3) _ (view2 .given .1))
+    let start = c .before .before .before .before .before .before in
+    let view2 = c .before .before .view2 in
+    (start .pre .1, start .pre .0 .a-cycle, start .pre .2, operator-there (now (start .args .plan)) (start .pre .0) (start .args .n) (start .args .i) (start .pre .3) _ (view2 .given .1))
 
--- src/lib.rt:41:39
+-- src/lib.rt:40:39
 closes-made-requires : tie.Need-closes-made-requires
 closes-made-requires c κs =
-    let start = c .before .before .before .before .before .before .before .before .before .before .before in
-    let view2 = c .before .before .before .before .before .before .before .view2 in
+    let start = c .before .before .before .before .before .before .before .before .before .before in
+    let view2 = c .before .before .before .before .before .before .view2 in
     let label-operator = c .before .before .before .label-operator in
     operator-ready (now (start .args .plan)) (start .pre .0) (start .args .n) (start .args .i) (start .pre .3) _ (view2 .given .1) (label-operator .ensures) (start .pre .1) (start .pre .2)
 
--- src/lib.rt:41:13
+-- src/lib.rt:40:13
 closing-outcome-requires : tie.Need-closing-outcome-requires
 closing-outcome-requires c κs = search needs
 
@@ -69,8 +64,8 @@ same-length-2 c = search needs
 -- src/lib.rt:25:1
 returns-2 : tie.Need-returns-2
 returns-2 c =
-    let start = c .before .before .before .before .before .before .before .before .before .before .before .before .before in
-    let view2 = c .before .before .before .before .before .before .before .before .before .view2 in
+    let start = c .before .before .before .before .before .before .before .before .before .before .before .before in
+    let view2 = c .before .before .before .before .before .before .before .before .view2 in
     let label-operator = c .before .before .before .before .before .label-operator in
     let closes-made = c .before .closes-made in
     let closing-outcome = c .closing-outcome in
@@ -83,7 +78,6 @@ label-part-spec =
     enum-known-view
     label-atom-requires
     enum-known-view-2
-    add-w
     label-operator-requires
     closes-made-requires
     closing-outcome-requires

@@ -1,3 +1,4 @@
+-- `settling::settle_plan` meets its contract. Assumes nothing.
 use denote.Ref.{now}
 use Rattle.settling.proofs.Ways.{answer-fits, laid-short, scratch-short, none-found, found}
 use borrow.Author.Needs.{needs}

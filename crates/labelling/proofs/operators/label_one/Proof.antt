@@ -1,5 +1,5 @@
 use denote.Ref.{now}
-use Rattle.labelling.proofs.Sweeping.{there, lower, few, not-done, next-done, yesterday-done, weak-done}
+use Rattle.labelling.proofs.Sweeping.{there, lower, not-done, next-done, yesterday-done, weak-done}
 use borrow.Author.Needs.{needs}
 use Rattle.labelling.proofs.operators.label_one.Statement.{statement}
 use Rattle.labelling.proofs.operators.label_one.Tie as tie
@@ -10,8 +10,8 @@ use Rattle.table.proofs.bytes.place.Reads as place-reads
 use Rattle.table.proofs.fills.fill_copied.Reads as fill-copied-reads
 
 -- src/operators.rt:64:13
-add-rows : tie.Need-add-rows
-add-rows c = search needs
+add-w : tie.Need-add-w
+add-w c = search needs
 
 -- src/operators.rt:65:9
 place-requires : tie.Need-place-requires
@@ -31,7 +31,7 @@ fill-copied-requires c κs =
     let start = c .before .before .before .before .before .before .before in
     let place = c .before .before .before .before .place in
     let place2 = c .before .before .before .place2 in
-    (there (start .pre .0) _ (start .pre .3) (place .ensures) (start .pre .1) .0, lower _ _ _ (start .pre .4) (place .ensures) (place2 .ensures) (start .pre .1), there (start .pre .0) _ (start .pre .3) (place .ensures) (start .pre .1) .1)
+    (there (start .pre .0) _ (start .pre .2) (place .ensures) .0, lower _ _ _ (start .pre .3) (place .ensures) (place2 .ensures), there (start .pre .0) _ (start .pre .2) (place .ensures) .1)
 
 -- src/operators.rt:69:36
 enum-told-2 : tie.Need-enum-told-2
@@ -43,7 +43,7 @@ fill-beside-requires c κs =
     let start = c .before .before .before .before .before .before .before in
     let place = c .before .before .before .before .place in
     let place2 = c .before .before .before .place2 in
-    (start .pre .2, few (start .pre .0) (start .pre .1), there (start .pre .0) _ (start .pre .3) (place .ensures) (start .pre .1) .0, lower _ _ _ (start .pre .4) (place .ensures) (place2 .ensures) (start .pre .1), there (start .pre .0) _ (start .pre .3) (place .ensures) (start .pre .1) .1)
+    (start .pre .1, start .pre .0 .few-rows, there (start .pre .0) _ (start .pre .2) (place .ensures) .0, lower _ _ _ (start .pre .3) (place .ensures) (place2 .ensures), there (start .pre .0) _ (start .pre .2) (place .ensures) .1)
 
 -- src/operators.rt:70:41
 enum-told-3 : tie.Need-enum-told-3
@@ -55,7 +55,7 @@ fill-beside-requires-2 c κs =
     let start = c .before .before .before .before .before .before .before in
     let place = c .before .before .before .before .place in
     let place2 = c .before .before .before .place2 in
-    (start .pre .2, few (start .pre .0) (start .pre .1), there (start .pre .0) _ (start .pre .3) (place .ensures) (start .pre .1) .0, lower _ _ _ (start .pre .4) (place .ensures) (place2 .ensures) (start .pre .1), there (start .pre .0) _ (start .pre .3) (place .ensures) (start .pre .1) .1)
+    (start .pre .1, start .pre .0 .few-rows, there (start .pre .0) _ (start .pre .2) (place .ensures) .0, lower _ _ _ (start .pre .3) (place .ensures) (place2 .ensures), there (start .pre .0) _ (start .pre .2) (place .ensures) .1)
 
 -- src/operators.rt:71:45
 enum-told-4 : tie.Need-enum-told-4
@@ -67,7 +67,7 @@ fill-beside-requires-3 c κs =
     let start = c .before .before .before .before .before .before .before in
     let place = c .before .before .before .before .place in
     let place2 = c .before .before .before .place2 in
-    (start .pre .2, few (start .pre .0) (start .pre .1), there (start .pre .0) _ (start .pre .3) (place .ensures) (start .pre .1) .0, lower _ _ _ (start .pre .4) (place .ensures) (place2 .ensures) (start .pre .1), there (start .pre .0) _ (start .pre .3) (place .ensures) (start .pre .1) .1)
+    (start .pre .1, start .pre .0 .few-rows, there (start .pre .0) _ (start .pre .2) (place .ensures) .0, lower _ _ _ (start .pre .3) (place .ensures) (place2 .ensures), there (start .pre .0) _ (start .pre .2) (place .ensures) .1)
 
 -- src/operators.rt:60:1
 same-length : tie.Need-same-length
@@ -81,7 +81,7 @@ returns c =
     let place2 = c .before .before .before .before .before .before .place2 in
     let enum-told = c .before .before .before .before .enum-told in
     let fill-copied = c .before .before .fill-copied in
-    not-done _ _ _ (start .pre .2) (now (start .args .table)) _ _ (place .ensures) _ (place2 .ensures) (fill-copied .ensures) (enum-told .given .1)
+    not-done _ _ (start .pre .1) (now (start .args .table)) _ _ (place .ensures) _ (place2 .ensures) (fill-copied .ensures) (enum-told .given .1)
 
 -- src/operators.rt:60:1
 same-length-2 : tie.Need-same-length-2
@@ -95,7 +95,7 @@ returns-2 c =
     let place2 = c .before .before .before .before .before .before .place2 in
     let enum-told2 = c .before .before .before .before .enum-told2 in
     let fill-beside = c .before .before .fill-beside in
-    next-done _ _ _ (start .pre .2) (now (start .args .table)) _ _ (place .ensures) _ (place2 .ensures) (fill-beside .ensures) (enum-told2 .given .1)
+    next-done _ _ (start .pre .1) (now (start .args .table)) _ _ (place .ensures) _ (place2 .ensures) (fill-beside .ensures) (enum-told2 .given .1)
 
 -- src/operators.rt:60:1
 same-length-3 : tie.Need-same-length-3
@@ -109,7 +109,7 @@ returns-3 c =
     let place2 = c .before .before .before .before .before .before .place2 in
     let enum-told3 = c .before .before .before .before .enum-told3 in
     let fill-beside2 = c .before .before .fill-beside2 in
-    yesterday-done _ _ _ (start .pre .2) (now (start .args .table)) _ _ (place .ensures) _ (place2 .ensures) (fill-beside2 .ensures) (enum-told3 .given .1)
+    yesterday-done _ _ (start .pre .1) (now (start .args .table)) _ _ (place .ensures) _ (place2 .ensures) (fill-beside2 .ensures) (enum-told3 .given .1)
 
 -- src/operators.rt:60:1
 same-length-4 : tie.Need-same-length-4
@@ -123,13 +123,13 @@ returns-4 c =
     let place2 = c .before .before .before .before .before .before .place2 in
     let enum-told4 = c .before .before .before .before .enum-told4 in
     let fill-beside3 = c .before .before .fill-beside3 in
-    weak-done _ _ _ (start .pre .2) (now (start .args .table)) _ _ (place .ensures) _ (place2 .ensures) (fill-beside3 .ensures) (enum-told4 .given .1)
+    weak-done _ _ (start .pre .1) (now (start .args .table)) _ _ (place .ensures) _ (place2 .ensures) (fill-beside3 .ensures) (enum-told4 .given .1)
 
 pub label-one-spec : {M : Type 1} → statement M
 label-one-spec =
     tie.close
     (tie.spec
-    add-rows
+    add-w
     place-requires
     place-requires-2
     enum-told

@@ -21,7 +21,7 @@ label-one-requires : tie.Need-label-one-requires
 label-one-requires c κs =
     let start = c .before .before .before .before .before in
     let operator = c .before .before .operator in
-    (start .pre .0, start .pre .1, start .pre .2, start .pre .3, one-lower _ _ _ (subst (λ (o : Operator). namesLower (start .args .i) o ≡ true) (operator .given .1) (start .pre .4)))
+    (start .pre .0, start .pre .1, start .pre .2, one-lower _ _ _ (subst (λ (o : Operator). namesLower (start .args .i) o ≡ true) (operator .given .1) (start .pre .3)))
 
 -- src/operators.rt:109:23
 enum-known-operator-2 : tie.Need-enum-known-operator-2
@@ -32,8 +32,8 @@ label-two-requires : tie.Need-label-two-requires
 label-two-requires c κs =
     let start = c .before .before .before .before .before in
     let operator2 = c .before .before .operator2 in
-    let names = two-lower _ _ _ _ (subst (λ (o : Operator). namesLower (start .args .i) o ≡ true) (operator2 .given .1) (start .pre .4)) in
-    (start .pre .0, start .pre .1, start .pre .2, start .pre .3, names .0, names .1)
+    let names = two-lower _ _ _ _ (subst (λ (o : Operator). namesLower (start .args .i) o ≡ true) (operator2 .given .1) (start .pre .3)) in
+    (start .pre .0, start .pre .1, start .pre .2, names .0, names .1)
 
 -- src/operators.rt:103:1
 same-length : tie.Need-same-length
@@ -41,7 +41,7 @@ same-length c = search needs
 
 -- src/operators.rt:103:1
 returns : tie.Need-returns
-returns c = said-of _ _ _ _ _ _ (c .before .before .before .before .before .operator .given .1) (c .before .before .label-one .ensures)
+returns c = said-of _ _ _ _ _ (c .before .before .before .before .before .operator .given .1) (c .before .before .label-one .ensures)
 
 -- src/operators.rt:103:1
 same-length-2 : tie.Need-same-length-2
@@ -49,7 +49,7 @@ same-length-2 c = search needs
 
 -- src/operators.rt:103:1
 returns-2 : tie.Need-returns-2
-returns-2 c = said-of _ _ _ _ _ _ (c .before .before .before .before .before .operator2 .given .1) (c .before .before .label-two .ensures)
+returns-2 c = said-of _ _ _ _ _ (c .before .before .before .before .before .operator2 .given .1) (c .before .before .label-two .ensures)
 
 pub label-operator-spec : {M : Type 1} → statement M
 label-operator-spec =

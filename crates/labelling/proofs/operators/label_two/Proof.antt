@@ -3,7 +3,7 @@ use Rattle.cltlb.specs.declared.Binary.the-variants as binary
 use mathlib.Core.Path.{refl}
 use mathlib.Core.Bool.{true, false}
 use Rattle.labelling.proofs.BySweeps.{until-steps, release-steps, since-steps, trigger-steps}
-use Rattle.labelling.proofs.Sweeping.{there, lower, few, and-done, or-done, past-done, ahead-done}
+use Rattle.labelling.proofs.Sweeping.{there, lower, and-done, or-done, past-done, ahead-done}
 use borrow.Author.Needs.{needs}
 use Rattle.labelling.proofs.operators.label_two.Statement.{statement}
 use Rattle.labelling.proofs.operators.label_two.Tie as tie
@@ -15,8 +15,8 @@ use Rattle.table.proofs.fills.fill_joined.Reads as fill-joined-reads
 use Rattle.table.proofs.fills.fill_on.Reads as fill-on-reads
 
 -- src/operators.rt:88:13
-add-rows : tie.Need-add-rows
-add-rows c = search needs
+add-w : tie.Need-add-w
+add-w c = search needs
 
 -- src/operators.rt:89:9
 place-requires : tie.Need-place-requires
@@ -41,7 +41,7 @@ fill-joined-requires c κs =
     let place = c .before .before .before .before .before .place in
     let place2 = c .before .before .before .before .place2 in
     let place3 = c .before .before .before .place3 in
-    (there (start .pre .0) _ (start .pre .3) (place .ensures) (start .pre .1) .0, lower _ _ _ (start .pre .4) (place .ensures) (place2 .ensures) (start .pre .1), lower _ _ _ (start .pre .5) (place .ensures) (place3 .ensures) (start .pre .1), there (start .pre .0) _ (start .pre .3) (place .ensures) (start .pre .1) .1)
+    (there (start .pre .0) _ (start .pre .2) (place .ensures) .0, lower _ _ _ (start .pre .3) (place .ensures) (place2 .ensures), lower _ _ _ (start .pre .4) (place .ensures) (place3 .ensures), there (start .pre .0) _ (start .pre .2) (place .ensures) .1)
 
 -- src/operators.rt:94:35
 enum-told-2 : tie.Need-enum-told-2
@@ -54,7 +54,7 @@ fill-joined-requires-2 c κs =
     let place = c .before .before .before .before .before .place in
     let place2 = c .before .before .before .before .place2 in
     let place3 = c .before .before .before .place3 in
-    (there (start .pre .0) _ (start .pre .3) (place .ensures) (start .pre .1) .0, lower _ _ _ (start .pre .4) (place .ensures) (place2 .ensures) (start .pre .1), lower _ _ _ (start .pre .5) (place .ensures) (place3 .ensures) (start .pre .1), there (start .pre .0) _ (start .pre .3) (place .ensures) (start .pre .1) .1)
+    (there (start .pre .0) _ (start .pre .2) (place .ensures) .0, lower _ _ _ (start .pre .3) (place .ensures) (place2 .ensures), lower _ _ _ (start .pre .4) (place .ensures) (place3 .ensures), there (start .pre .0) _ (start .pre .2) (place .ensures) .1)
 
 -- src/operators.rt:95:37
 enum-told-3 : tie.Need-enum-told-3
@@ -67,7 +67,7 @@ fill-ahead-requires c κs =
     let place = c .before .before .before .before .before .place in
     let place2 = c .before .before .before .before .place2 in
     let place3 = c .before .before .before .place3 in
-    (few (start .pre .0) (start .pre .1), there (start .pre .0) _ (start .pre .3) (place .ensures) (start .pre .1) .0, lower _ _ _ (start .pre .4) (place .ensures) (place2 .ensures) (start .pre .1), lower _ _ _ (start .pre .5) (place .ensures) (place3 .ensures) (start .pre .1), there (start .pre .0) _ (start .pre .3) (place .ensures) (start .pre .1) .1)
+    (start .pre .0 .few-rows, there (start .pre .0) _ (start .pre .2) (place .ensures) .0, lower _ _ _ (start .pre .3) (place .ensures) (place2 .ensures), lower _ _ _ (start .pre .4) (place .ensures) (place3 .ensures), there (start .pre .0) _ (start .pre .2) (place .ensures) .1)
 
 -- src/operators.rt:96:39
 enum-told-4 : tie.Need-enum-told-4
@@ -80,7 +80,7 @@ fill-ahead-requires-2 c κs =
     let place = c .before .before .before .before .before .place in
     let place2 = c .before .before .before .before .place2 in
     let place3 = c .before .before .before .place3 in
-    (few (start .pre .0) (start .pre .1), there (start .pre .0) _ (start .pre .3) (place .ensures) (start .pre .1) .0, lower _ _ _ (start .pre .4) (place .ensures) (place2 .ensures) (start .pre .1), lower _ _ _ (start .pre .5) (place .ensures) (place3 .ensures) (start .pre .1), there (start .pre .0) _ (start .pre .3) (place .ensures) (start .pre .1) .1)
+    (start .pre .0 .few-rows, there (start .pre .0) _ (start .pre .2) (place .ensures) .0, lower _ _ _ (start .pre .3) (place .ensures) (place2 .ensures), lower _ _ _ (start .pre .4) (place .ensures) (place3 .ensures), there (start .pre .0) _ (start .pre .2) (place .ensures) .1)
 
 -- src/operators.rt:97:34
 enum-told-5 : tie.Need-enum-told-5
@@ -93,7 +93,7 @@ fill-on-requires c κs =
     let place = c .before .before .before .before .before .place in
     let place2 = c .before .before .before .before .place2 in
     let place3 = c .before .before .before .place3 in
-    (there (start .pre .0) _ (start .pre .3) (place .ensures) (start .pre .1) .0, lower _ _ _ (start .pre .4) (place .ensures) (place2 .ensures) (start .pre .1), lower _ _ _ (start .pre .5) (place .ensures) (place3 .ensures) (start .pre .1), there (start .pre .0) _ (start .pre .3) (place .ensures) (start .pre .1) .1)
+    (there (start .pre .0) _ (start .pre .2) (place .ensures) .0, lower _ _ _ (start .pre .3) (place .ensures) (place2 .ensures), lower _ _ _ (start .pre .4) (place .ensures) (place3 .ensures), there (start .pre .0) _ (start .pre .2) (place .ensures) .1)
 
 -- src/operators.rt:98:36
 enum-told-6 : tie.Need-enum-told-6
@@ -106,7 +106,7 @@ fill-on-requires-2 c κs =
     let place = c .before .before .before .before .before .place in
     let place2 = c .before .before .before .before .place2 in
     let place3 = c .before .before .before .place3 in
-    (there (start .pre .0) _ (start .pre .3) (place .ensures) (start .pre .1) .0, lower _ _ _ (start .pre .4) (place .ensures) (place2 .ensures) (start .pre .1), lower _ _ _ (start .pre .5) (place .ensures) (place3 .ensures) (start .pre .1), there (start .pre .0) _ (start .pre .3) (place .ensures) (start .pre .1) .1)
+    (there (start .pre .0) _ (start .pre .2) (place .ensures) .0, lower _ _ _ (start .pre .3) (place .ensures) (place2 .ensures), lower _ _ _ (start .pre .4) (place .ensures) (place3 .ensures), there (start .pre .0) _ (start .pre .2) (place .ensures) .1)
 
 -- src/operators.rt:76:1
 same-length : tie.Need-same-length
@@ -121,7 +121,7 @@ returns c =
     let place3 = c .before .before .before .before .before .before .place3 in
     let enum-told = c .before .before .before .before .enum-told in
     let fill-joined = c .before .before .fill-joined in
-    and-done _ _ _ (start .pre .2) (now (start .args .table)) _ _ (place .ensures) _ (place2 .ensures) _ (place3 .ensures) (fill-joined .ensures) (enum-told .given .1)
+    and-done _ _ (start .pre .1) (now (start .args .table)) _ _ (place .ensures) _ (place2 .ensures) _ (place3 .ensures) (fill-joined .ensures) (enum-told .given .1)
 
 -- src/operators.rt:76:1
 same-length-2 : tie.Need-same-length-2
@@ -136,7 +136,7 @@ returns-2 c =
     let place3 = c .before .before .before .before .before .before .place3 in
     let enum-told2 = c .before .before .before .before .enum-told2 in
     let fill-joined2 = c .before .before .fill-joined2 in
-    or-done _ _ _ (start .pre .2) (now (start .args .table)) _ _ (place .ensures) _ (place2 .ensures) _ (place3 .ensures) (fill-joined2 .ensures) (enum-told2 .given .1)
+    or-done _ _ (start .pre .1) (now (start .args .table)) _ _ (place .ensures) _ (place2 .ensures) _ (place3 .ensures) (fill-joined2 .ensures) (enum-told2 .given .1)
 
 -- src/operators.rt:76:1
 same-length-3 : tie.Need-same-length-3
@@ -151,7 +151,7 @@ returns-3 c =
     let place3 = c .before .before .before .before .before .before .place3 in
     let enum-told3 = c .before .before .before .before .enum-told3 in
     let fill-ahead = c .before .before .fill-ahead in
-    ahead-done _ _ _ (start .pre .2) (now (start .args .table)) _ _ (place .ensures) _ (place2 .ensures) _ (place3 .ensures) binary.Until false until-steps (enum-told3 .given .1) refl refl (fill-ahead .ensures)
+    ahead-done _ _ (start .pre .1) (now (start .args .table)) _ _ (place .ensures) _ (place2 .ensures) _ (place3 .ensures) binary.Until false until-steps (enum-told3 .given .1) refl refl (fill-ahead .ensures)
 
 -- src/operators.rt:76:1
 same-length-4 : tie.Need-same-length-4
@@ -166,7 +166,7 @@ returns-4 c =
     let place3 = c .before .before .before .before .before .before .place3 in
     let enum-told4 = c .before .before .before .before .enum-told4 in
     let fill-ahead2 = c .before .before .fill-ahead2 in
-    ahead-done _ _ _ (start .pre .2) (now (start .args .table)) _ _ (place .ensures) _ (place2 .ensures) _ (place3 .ensures) binary.Release true release-steps (enum-told4 .given .1) refl refl (fill-ahead2 .ensures)
+    ahead-done _ _ (start .pre .1) (now (start .args .table)) _ _ (place .ensures) _ (place2 .ensures) _ (place3 .ensures) binary.Release true release-steps (enum-told4 .given .1) refl refl (fill-ahead2 .ensures)
 
 -- src/operators.rt:76:1
 same-length-5 : tie.Need-same-length-5
@@ -181,7 +181,7 @@ returns-5 c =
     let place3 = c .before .before .before .before .before .before .place3 in
     let enum-told5 = c .before .before .before .before .enum-told5 in
     let fill-on = c .before .before .fill-on in
-    past-done _ _ _ (start .pre .2) (now (start .args .table)) _ _ (place .ensures) _ (place2 .ensures) _ (place3 .ensures) binary.Since false since-steps (enum-told5 .given .1) refl (fill-on .ensures)
+    past-done _ _ (start .pre .1) (now (start .args .table)) _ _ (place .ensures) _ (place2 .ensures) _ (place3 .ensures) binary.Since false since-steps (enum-told5 .given .1) refl (fill-on .ensures)
 
 -- src/operators.rt:76:1
 same-length-6 : tie.Need-same-length-6
@@ -196,13 +196,13 @@ returns-6 c =
     let place3 = c .before .before .before .before .before .before .place3 in
     let enum-told6 = c .before .before .before .before .enum-told6 in
     let fill-on2 = c .before .before .fill-on2 in
-    past-done _ _ _ (start .pre .2) (now (start .args .table)) _ _ (place .ensures) _ (place2 .ensures) _ (place3 .ensures) binary.Trigger true trigger-steps (enum-told6 .given .1) refl (fill-on2 .ensures)
+    past-done _ _ (start .pre .1) (now (start .args .table)) _ _ (place .ensures) _ (place2 .ensures) _ (place3 .ensures) binary.Trigger true trigger-steps (enum-told6 .given .1) refl (fill-on2 .ensures)
 
 pub label-two-spec : {M : Type 1} → statement M
 label-two-spec =
     tie.close
     (tie.spec
-    add-rows
+    add-w
     place-requires
     place-requires-2
     place-requires-3

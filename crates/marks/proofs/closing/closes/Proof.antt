@@ -1,5 +1,6 @@
 use mathlib.Core.Path.{sym, _∙_}
 use denote.Ref.{now}
+use Rattle.plan.specs.inner.Sizes.{allRows}
 use Rattle.table.specs.Layout.{marked}
 use Rattle.marks.proofs.Stepped as law
 use borrow.Author.Needs.{needs}
@@ -11,56 +12,56 @@ use Rattle.marks.proofs.closing.truth_on.Reads as truth-on-reads
 use Rattle.marks.proofs.closing.turns_round.Reads as turns-round-reads
 use Rattle.marks.proofs.operators.beside_of.Reads as beside-of-reads
 
--- src/closing.rt:87:11
+-- src/closing.rt:78:11
 beside-of-requires : tie.Need-beside-of-requires
 beside-of-requires c κs = search needs
 
--- src/closing.rt:88:26
+-- src/closing.rt:79:26
 enum-told : tie.Need-enum-told
 enum-told c = search needs
 
--- src/closing.rt:89:24
+-- src/closing.rt:80:24
 enum-known-first : tie.Need-enum-known-first
 enum-known-first c = search needs
 
--- src/closing.rt:91:17
+-- src/closing.rt:82:21
+add-w : tie.Need-add-w
+add-w c = search needs
+
+-- src/closing.rt:83:17
 truth-on-requires : tie.Need-truth-on-requires
 truth-on-requires c κs = search needs
 
--- src/closing.rt:92:69
-add-truth-on : tie.Need-add-truth-on
-add-truth-on c = search needs
-
--- src/closing.rt:92:69
+-- src/closing.rt:84:62
 sub-truth-on : tie.Need-sub-truth-on
 sub-truth-on c = search needs
 
--- src/closing.rt:92:17
+-- src/closing.rt:84:17
 truth-on-requires-2 : tie.Need-truth-on-requires-2
 truth-on-requires-2 c κs = search needs
 
--- src/closing.rt:93:13
+-- src/closing.rt:85:13
 turns-round-requires : tie.Need-turns-round-requires
 turns-round-requires c κs = search needs
 
--- src/closing.rt:83:1
+-- src/closing.rt:74:1
 returns : tie.Need-returns
 returns c =
     let start = c .before .before .before .before in
     let beside-of = c .before .before .beside-of in
     let enum-told = c .enum-told in
-    law.ahead-closes (start .args .sizes .start) (start .args .sizes .cycle) (marked (start .args .w) (now (start .args .table))) (start .args .operator) (sym (beside-of .ensures) ∙ enum-told .given .1)
+    law.ahead-closes (start .args .sizes .start) (start .args .sizes .cycle) (marked (allRows (start .args .sizes)) (now (start .args .table))) (start .args .operator) (sym (beside-of .ensures) ∙ enum-told .given .1)
 
--- src/closing.rt:83:1
+-- src/closing.rt:74:1
 returns-2 : tie.Need-returns-2
 returns-2 c =
     let start = c .before .before .before .before .before .before .before .before .before in
     let beside-of = c .before .before .before .before .before .before .before .beside-of in
     let first = c .before .before .before .before .before .first in
-    let truth-on = c .before .before .before .truth-on in
+    let truth-on = c .before .before .truth-on in
     let truth-on2 = c .before .truth-on2 in
     let turns-round = c .turns-round in
-    law.back-closes (start .args .sizes .start) (start .args .sizes .cycle) (marked (start .args .w) (now (start .args .table))) (start .args .operator) (sym (beside-of .ensures) ∙ first .given .1) (truth-on .ensures) (truth-on2 .ensures) (turns-round .ensures)
+    law.back-closes (start .args .sizes .start) (start .args .sizes .cycle) (marked (allRows (start .args .sizes)) (now (start .args .table))) (start .args .operator) (sym (beside-of .ensures) ∙ first .given .1) (truth-on .ensures) (truth-on2 .ensures) (turns-round .ensures)
 
 pub closes-spec : {M : Type 1} → statement M
 closes-spec =
@@ -69,8 +70,8 @@ closes-spec =
     beside-of-requires
     enum-told
     enum-known-first
+    add-w
     truth-on-requires
-    add-truth-on
     sub-truth-on
     truth-on-requires-2
     turns-round-requires

@@ -1,4 +1,5 @@
 use denote.Ref.{now}
+use Rattle.plan.specs.inner.Sizes.{allRows}
 use Rattle.table.specs.Layout.{marked}
 use Rattle.marks.proofs.Stepped as law
 use borrow.Author.Needs.{needs}
@@ -10,40 +11,40 @@ use Rattle.marks.proofs.closing.watched_truth.Reads as watched-truth-re
 use Rattle.marks.proofs.equations.step_on.Reads as step-on-reads
 use Rattle.table.proofs.sweeps.agree.Reads as agree-reads
 
--- src/closing.rt:78:60
-add-watched-truth : tie.Need-add-watched-truth
-add-watched-truth c = search needs
+-- src/closing.rt:68:13
+add-w : tie.Need-add-w
+add-w c = search needs
 
--- src/closing.rt:78:60
+-- src/closing.rt:69:60
 sub-watched-truth : tie.Need-sub-watched-truth
 sub-watched-truth c = search needs
 
--- src/closing.rt:78:9
+-- src/closing.rt:69:9
 watched-truth-requires : tie.Need-watched-truth-requires
 watched-truth-requires c κs = search needs
 
--- src/closing.rt:79:18
+-- src/closing.rt:70:18
 step-on-requires : tie.Need-step-on-requires
 step-on-requires c κs = search needs
 
--- src/closing.rt:79:5
+-- src/closing.rt:70:5
 agree-requires : tie.Need-agree-requires
 agree-requires c κs = search needs
 
--- src/closing.rt:65:1
+-- src/closing.rt:56:1
 returns : tie.Need-returns
 returns c =
     let start = c .before .before .before .before .before in
     let watched-truth = c .before .before .watched-truth in
     let step-on = c .before .step-on in
     let agree = c .agree in
-    law.turned (start .args .sizes .start) (start .args .sizes .cycle) (marked (start .args .w) (now (start .args .table))) (start .args .operator) (start .args .start) (start .args .end) (watched-truth .ensures) (step-on .ensures) (agree .ensures)
+    law.turned (start .args .sizes .start) (start .args .sizes .cycle) (marked (allRows (start .args .sizes)) (now (start .args .table))) (start .args .operator) (start .args .start) (start .args .end) (watched-truth .ensures) (step-on .ensures) (agree .ensures)
 
 pub turns-round-spec : {M : Type 1} → statement M
 turns-round-spec =
     tie.close
     (tie.spec
-    add-watched-truth
+    add-w
     sub-watched-truth
     watched-truth-requires
     step-on-requires

@@ -1,5 +1,4 @@
 use mathlib.Core.Path.{sym}
-use native.Mathlib.Omega.{arith}
 use denote.Ref.{now}
 use Rattle.marks.proofs.PartsChecked as law
 use borrow.Author.Needs.{needs}
@@ -11,41 +10,37 @@ use Rattle.marks.proofs.closing.closes.Reads as closes-reads
 use Rattle.marks.proofs.refusals.check_steady.Reads as check-steady-reads
 use Rattle.marks.proofs.refusals.closing_outcome.Reads as closing-outcome-reads
 
--- src/refusals.rt:136:9
+-- src/refusals.rt:137:9
 returns : tie.Need-returns
 returns c = sym (c .before .before .before .pre .1 (c .if1 .taken))
 
--- src/refusals.rt:139:20
+-- src/refusals.rt:140:20
 enum-known-view : tie.Need-enum-known-view
 enum-known-view c = search needs
 
--- src/refusals.rt:139:29
+-- src/refusals.rt:140:29
 check-steady-requires : tie.Need-check-steady-requires
 check-steady-requires c κs =
     let start = c .before .before .before .before .before .before in
     let view = c .before .view in
     (start .pre .0 .fits, law.atom-there (now (start .args .plan)) (now (start .args .table)) (start .pre .0 .fits) (start .args .i) _ (view .given .1) (start .args .n) (start .pre .0 .part-fits))
 
--- src/refusals.rt:140:24
+-- src/refusals.rt:141:24
 enum-known-view-2 : tie.Need-enum-known-view-2
 enum-known-view-2 c = search needs
 
--- src/refusals.rt:141:21
-add-w : tie.Need-add-w
-add-w c = search needs
-
--- src/refusals.rt:142:39
+-- src/refusals.rt:141:63
 closes-requires : tie.Need-closes-requires
 closes-requires c κs =
-    let start = c .before .before .before .before .before .before .before in
-    let view2 = c .before .before .view2 in
-    (start .pre .0 .sized, omega arith, start .pre .0 .fits .a-cycle, law.operator-there (now (start .args .plan)) (now (start .args .table)) (start .pre .0 .fits) (start .args .i) _ (view2 .given .1) (start .args .n) (start .pre .0 .part-fits))
+    let start = c .before .before .before .before .before .before in
+    let view2 = c .before .view2 in
+    (start .pre .0 .sized, start .pre .0 .fits .a-cycle, law.operator-there (now (start .args .plan)) (now (start .args .table)) (start .pre .0 .fits) (start .args .i) _ (view2 .given .1) (start .args .n) (start .pre .0 .part-fits))
 
--- src/refusals.rt:142:13
+-- src/refusals.rt:141:37
 closing-outcome-requires : tie.Need-closing-outcome-requires
 closing-outcome-requires c κs = search needs
 
--- src/refusals.rt:123:1
+-- src/refusals.rt:124:1
 returns-2 : tie.Need-returns-2
 returns-2 c =
     let start = c .before .before .before .before .before .before .before in
@@ -53,11 +48,11 @@ returns-2 c =
     let check-steady = c .check-steady in
     law.atom-closing (now (start .args .plan)) (now (start .args .table)) (start .pre .0 .fits) (start .args .i) _ (view .given .1) (check-steady .ensures)
 
--- src/refusals.rt:123:1
+-- src/refusals.rt:124:1
 returns-3 : tie.Need-returns-3
 returns-3 c =
-    let start = c .before .before .before .before .before .before .before .before .before in
-    let view2 = c .before .before .before .before .view2 in
+    let start = c .before .before .before .before .before .before .before .before in
+    let view2 = c .before .before .before .view2 in
     let closes = c .before .closes in
     let closing-outcome = c .closing-outcome in
     law.operator-closing (now (start .args .plan)) (now (start .args .table)) (start .pre .0 .fits) (start .args .i) _ (view2 .given .1) (closes .ensures) (closing-outcome .ensures)
@@ -70,7 +65,6 @@ check-closing-spec =
     enum-known-view
     check-steady-requires
     enum-known-view-2
-    add-w
     closes-requires
     closing-outcome-requires
     returns-2

@@ -1,3 +1,4 @@
+-- `settling::comparisons::steady` meets its contract. Assumes nothing.
 use borrow.Author.Needs.{needs}
 use native.Mathlib.Omega.{arith}
 use denote.Ref.{now}

@@ -5,7 +5,7 @@ use denote.Ref.{now}
 use Rattle.fields.proofs.ByteParts.{as-bytes}
 use Rattle.plan.specs.declared.sizes.Sizes.{Sizes}
 use Rattle.verdict.proofs.Values.{atom-fit}
-use Rattle.settling.proofs.Trying.{laid-rows, laid-room, atom-open, atom-closed}
+use Rattle.settling.proofs.Trying.{laid-rows, atom-open, atom-closed}
 use Rattle.laid_out.proofs.LastCycle.{few-passes}
 use borrow.Author.Needs.{needs}
 use Rattle.settling.proofs.parts.try_atom.Statement.{statement}
@@ -15,74 +15,39 @@ use Rattle.settling.proofs.parts.try_atom.Lts as lts
 use Rattle.laid_out.proofs.numbers.laid_sizes.Reads as laid-sizes-reads
 use Rattle.settling.proofs.comparisons.put_marks.Reads as put-marks-reads
 use Rattle.settling.proofs.comparisons.steady.Reads as steady-reads
-use Rattle.table.proofs.bytes.place.Reads as place-reads
 use Rattle.verdict.proofs.rows.comparison_of.Reads as comparison-of-reads
 
--- src/parts.rt:36:9
+-- src/parts.rt:35:9
 comparison-of-requires : tie.Need-comparison-of-requires
-comparison-of-requires c κs = let start = c .before .before in (start .args .sizes .channels, start .pre .4)
+comparison-of-requires c κs = (c .before .before .args .sizes .channels, c .before .before .pre .4)
 
--- src/parts.rt:37:9
+-- src/parts.rt:36:9
 laid-sizes-requires : tie.Need-laid-sizes-requires
-laid-sizes-requires c κs =
-    let start = c .before .before .before in
-    (few-passes (start .pre .0) (start .args .passes) (start .pre .1), start .pre .0 .few-rows)
+laid-sizes-requires c κs = (few-passes (c .before .before .before .pre .0) (c .before .before .before .args .passes) (c .before .before .before .pre .1), c .before .before .before .pre .0 .few-rows)
+
+-- src/parts.rt:38:9
+steady-requires : tie.Need-steady-requires
+steady-requires c κs = (c .before .before .before .before .pre .0, atom-fit (c .before .before .before .before .args .sizes) _ (c .before .before .before .before .pre .4) (c .before .comparison-of .ensures), omega (arith, ap (λ (q : Sizes). q .start) (c .laid-sizes .ensures), laid-rows (now (c .before .before .before .before .args .plan)) (c .before .before .before .before .pre .0) (c .before .before .before .before .args .passes) (c .before .before .before .before .pre .1) .2), omega (arith, ap (λ (q : Sizes). q .start) (c .laid-sizes .ensures), laid-rows (now (c .before .before .before .before .args .plan)) (c .before .before .before .before .pre .0) (c .before .before .before .before .args .passes) (c .before .before .before .before .pre .1) .0))
 
 -- src/parts.rt:39:9
-steady-requires : tie.Need-steady-requires
-steady-requires c κs =
-    let start = c .before .before .before .before in
-    let comparison-of = c .before .comparison-of in
-    let laid-sizes = c .laid-sizes in
-    (start .pre .0, atom-fit (start .args .sizes) _ (start .pre .4) (comparison-of .ensures), omega (arith, ap (λ (q : Sizes). q .start) (laid-sizes .ensures), laid-rows (now (start .args .plan)) (start .pre .0) (start .args .passes) (start .pre .1) .2), omega (arith, ap (λ (q : Sizes). q .start) (laid-sizes .ensures), laid-rows (now (start .args .plan)) (start .pre .0) (start .args .passes) (start .pre .1) .0))
-
--- src/parts.rt:40:9
 returns : tie.Need-returns
-returns c =
-    let start = c .before .before .before .before .before .before in
-    let shared-slice-known = c .before .before .before .before .before .shared-slice-known in
-    let comparison-of = c .before .before .before .comparison-of in
-    let laid-sizes = c .before .before .laid-sizes in
-    let steady = c .before .steady in
-    let if1 = c .if1 in
-    atom-open (now (start .args .plan)) (start .pre .0) (start .args .passes) (start .pre .1) (as-bytes (now (start .args .plan)) (λ i. omega (arith, shared-slice-known .given i))) (start .args .atom) (start .pre .4) (comparison-of .ensures) (ap (λ (q : Sizes). q .start) (laid-sizes .ensures)) (ap (λ (q : Sizes). q .cycle) (laid-sizes .ensures)) (steady .ensures) (start .args .i) (if1 .taken)
+returns c = atom-open (now (c .before .before .before .before .before .before .args .plan)) (c .before .before .before .before .before .before .pre .0) (c .before .before .before .before .before .before .args .passes) (c .before .before .before .before .before .before .pre .1) (as-bytes (now (c .before .before .before .before .before .before .args .plan)) (λ i. omega (arith, c .before .before .before .before .before .shared-slice-known .given i))) (c .before .before .before .before .before .before .args .atom) (c .before .before .before .before .before .before .pre .4) (c .before .before .before .comparison-of .ensures) (ap (λ (q : Sizes). q .start) (c .before .before .laid-sizes .ensures)) (ap (λ (q : Sizes). q .cycle) (c .before .before .laid-sizes .ensures)) (c .before .steady .ensures) (c .before .before .before .before .before .before .args .i) (c .if1 .taken)
 
--- src/parts.rt:42:9
-place-requires : tie.Need-place-requires
-place-requires c κs = search needs
-
--- src/parts.rt:43:55
+-- src/parts.rt:48:9
 add-put-marks : tie.Need-add-put-marks
-add-put-marks c =
-    let start = c .before .before .before .before .before .before .before .before .before in
-    let laid-sizes = c .before .before .before .before .before .laid-sizes in
-    omega (arith, ap (λ (q : Sizes). q .start) (laid-sizes .ensures), ap (λ (q : Sizes). q .cycle) (laid-sizes .ensures), laid-rows (now (start .args .plan)) (start .pre .0) (start .args .passes) (start .pre .1) .0)
+add-put-marks c = omega (arith, ap (λ (q : Sizes). q .start) (c .before .before .before .before .laid-sizes .ensures), ap (λ (q : Sizes). q .cycle) (c .before .before .before .before .laid-sizes .ensures), laid-rows (now (c .before .before .before .before .before .before .before .before .args .plan)) (c .before .before .before .before .before .before .before .before .pre .0) (c .before .before .before .before .before .before .before .before .args .passes) (c .before .before .before .before .before .before .before .before .pre .1) .0)
 
--- src/parts.rt:43:5
+-- src/parts.rt:41:5
 put-marks-requires : tie.Need-put-marks-requires
-put-marks-requires c κs =
-    let start = c .before .before .before .before .before .before .before .before .before in
-    let comparison-of = c .before .before .before .before .before .before .comparison-of in
-    let laid-sizes = c .before .before .before .before .before .laid-sizes in
-    let place = c .before .before .place in
-    (start .pre .0, atom-fit (start .args .sizes) _ (start .pre .4) (comparison-of .ensures), omega (arith, ap (λ (q : Sizes). q .start) (laid-sizes .ensures), ap (λ (q : Sizes). q .cycle) (laid-sizes .ensures), laid-rows (now (start .args .plan)) (start .pre .0) (start .args .passes) (start .pre .1) .0), omega (arith, ap (λ (q : Sizes). q .start) (laid-sizes .ensures), ap (λ (q : Sizes). q .cycle) (laid-sizes .ensures), laid-room (now (start .args .plan)) (start .pre .0) (start .args .passes) (start .pre .1) (start .pre .2) (start .args .i) (start .pre .3) (place .ensures) .0), laid-room (now (start .args .plan)) (start .pre .0) (start .args .passes) (start .pre .1) (start .pre .2) (start .args .i) (start .pre .3) (place .ensures) .1, omega (arith, ap (λ (q : Sizes). q .start) (laid-sizes .ensures), ap (λ (q : Sizes). q .cycle) (laid-sizes .ensures)))
+put-marks-requires c κs = (c .before .before .before .before .before .before .before .before .pre .0, atom-fit (c .before .before .before .before .before .before .before .before .args .sizes) _ (c .before .before .before .before .before .before .before .before .pre .4) (c .before .before .before .before .before .comparison-of .ensures), c .before .before .before .before .before .before .before .before .pre .2, c .before .before .before .before .before .before .before .before .pre .3, omega (arith, ap (λ (q : Sizes). q .start) (c .before .before .before .before .laid-sizes .ensures), ap (λ (q : Sizes). q .cycle) (c .before .before .before .before .laid-sizes .ensures), laid-rows (now (c .before .before .before .before .before .before .before .before .args .plan)) (c .before .before .before .before .before .before .before .before .pre .0) (c .before .before .before .before .before .before .before .before .args .passes) (c .before .before .before .before .before .before .before .before .pre .1) .0), omega (arith, ap (λ (q : Sizes). q .start) (c .before .before .before .before .laid-sizes .ensures), ap (λ (q : Sizes). q .cycle) (c .before .before .before .before .laid-sizes .ensures)))
 
--- src/parts.rt:25:1
+-- src/parts.rt:24:1
 same-length : tie.Need-same-length
 same-length c = search needs
 
--- src/parts.rt:25:1
+-- src/parts.rt:24:1
 returns-2 : tie.Need-returns-2
-returns-2 c =
-    let start = c .before .before .before .before .before .before .before .before .before .before .before .before in
-    let shared-slice-known = c .before .before .before .before .before .before .before .before .before .before .before .shared-slice-known in
-    let comparison-of = c .before .before .before .before .before .before .before .before .before .comparison-of in
-    let laid-sizes = c .before .before .before .before .before .before .before .before .laid-sizes in
-    let steady = c .before .before .before .before .before .before .before .steady in
-    let if1 = c .before .before .before .before .before .before .if1 in
-    let place = c .before .before .before .before .before .place in
-    let put-marks = c .before .before .put-marks in
-    atom-closed (now (start .args .plan)) (start .pre .0) (start .args .passes) (start .pre .1) (as-bytes (now (start .args .plan)) (λ i. omega (arith, shared-slice-known .given i))) (start .args .atom) (start .pre .4) (comparison-of .ensures) (ap (λ (q : Sizes). q .start) (laid-sizes .ensures)) (ap (λ (q : Sizes). q .cycle) (laid-sizes .ensures)) (steady .ensures) (start .args .i) (if1 .left) (place .ensures) (put-marks .ensures)
+returns-2 c = atom-closed (now (c .before .before .before .before .before .before .before .before .before .before .before .args .plan)) (c .before .before .before .before .before .before .before .before .before .before .before .pre .0) (c .before .before .before .before .before .before .before .before .before .before .before .args .passes) (c .before .before .before .before .before .before .before .before .before .before .before .pre .1) (as-bytes (now (c .before .before .before .before .before .before .before .before .before .before .before .args .plan)) (λ i. omega (arith, c .before .before .before .before .before .before .before .before .before .before .shared-slice-known .given i))) (c .before .before .before .before .before .before .before .before .before .before .before .args .atom) (c .before .before .before .before .before .before .before .before .before .before .before .pre .4) (c .before .before .before .before .before .before .before .before .comparison-of .ensures) (ap (λ (q : Sizes). q .start) (c .before .before .before .before .before .before .before .laid-sizes .ensures)) (ap (λ (q : Sizes). q .cycle) (c .before .before .before .before .before .before .before .laid-sizes .ensures)) (c .before .before .before .before .before .before .steady .ensures) (c .before .before .before .before .before .before .before .before .before .before .before .args .i) (c .before .before .before .before .before .if1 .left) (c .before .before .put-marks .ensures)
 
 pub try-atom-spec : {M : Type 1} → statement M
 try-atom-spec =
@@ -92,7 +57,6 @@ try-atom-spec =
     laid-sizes-requires
     steady-requires
     returns
-    place-requires
     add-put-marks
     put-marks-requires
     same-length

@@ -1,3 +1,4 @@
+-- `settling::parts::try_part` meets its contract. Assumes nothing.
 use denote.Ref.{now}
 use Rattle.inputs.proofs.Parts.{always-taken, taken-fitting}
 use Rattle.settling.proofs.Searching.{few-parts, part-tried}

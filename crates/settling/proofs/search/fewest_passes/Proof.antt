@@ -1,19 +1,19 @@
+-- `settling::search::fewest_passes` meets its contract. Assumes nothing.
 use borrow.Author.Needs.{needs}
 use native.Mathlib.Omega.{arith}
 use denote.Ref.{now}
 use Rattle.fields.proofs.ByteParts.{as-bytes}
 use Prim.Native.Nat.{_+_, _-_}
-use Rattle.settling.proofs.Searching.{Searching, few-passes, few-parts, more-room, searching-first, part-closes, no-more, more-laid, all-close}
-use Rattle.settling.proofs.Searching.{passed}
+use Rattle.settling.proofs.Searching.{Searching, few-passes, more-room, searching-first, part-closes, no-more, more-laid, all-close, passed}
 use Rattle.settling.proofs.search.fewest_passes.Statement.{statement}
 use Rattle.settling.proofs.search.fewest_passes.Tie as tie
 use Rattle.settling.proofs.search.fewest_passes.Reads as reads
 use Rattle.settling.proofs.search.fewest_passes.Lts as lts
-use Rattle.laid_out.proofs.numbers.laid_sizes.Reads as laid-sizes-reads
-use Rattle.settling.proofs.extend.extend.Reads as extend-reads
-use Rattle.settling.proofs.parts.try_part.Reads as try-part-reads
 use Rattle.laid_out.proofs.fits.can_be_laid.Reads as can-be-laid-reads
+use Rattle.laid_out.proofs.numbers.laid_sizes.Reads as laid-sizes-reads
+use Rattle.settling.proofs.parts.try_part.Reads as try-part-reads
 use Rattle.settling.proofs.steady.next_passes.Reads as next-passes-reads
+use Rattle.words.proofs.rows.repeat_rows.Reads as repeat-rows-reads
 
 abbrev Inv-loop : tie.InvT-loop
 Inv-loop rule plan scratch₀ n sizes passes₀ i₀ scratch passes i = Searching rule plan n scratch passes i
@@ -57,25 +57,37 @@ same-length c = search needs
 returns : tie.Need-returns Inv-loop μ-loop
 returns c = no-more (now (c .before .before .before .before .before .before .before .before .before .before .before .before .before .args .rule)) (now (c .before .before .before .before .before .before .before .before .before .before .before .before .before .args .plan)) (c .before .before .before .before .before .before .before .before .before .before .before .before .before .pre .0) (c .before .before .before .before .before .before .before .before .before .loop .inv) (c .before .before .before .before .before .before .try-part .ensures .0) (c .before .before .before .before .before .before .before .before .loop-test .taken) (c .before .before .before .if1 .left) (c .before .before .next-passes .ensures .0) (c .before .before .next-passes .ensures .2) (c .before .can-be-laid .ensures) (c .if2 .taken)
 
--- src/search.rt:31:29
+-- src/search.rt:31:17
 laid-sizes-requires : tie.Need-laid-sizes-requires Inv-loop μ-loop
-laid-sizes-requires c κs = (few-passes (now (c .before .before .before .before .before .before .before .before .before .before .before .before .before .before .args .rule)) (now (c .before .before .before .before .before .before .before .before .before .before .before .before .before .before .args .plan)) (c .before .before .before .before .before .before .before .before .before .before .before .before .before .before .pre .0) (c .before .before .before .before .before .before .before .before .before .before .loop .passes) (c .before .before .before .before .before .before .before .before .before .before .loop .inv .can), c .before .before .before .before .before .before .before .before .before .before .before .before .before .before .pre .0 .fits .few-rows)
+laid-sizes-requires c κs = (few-passes (now (c .before .before .before .before .before .before .before .before .before .before .before .before .before .args .rule)) (now (c .before .before .before .before .before .before .before .before .before .before .before .before .before .args .plan)) (c .before .before .before .before .before .before .before .before .before .before .before .before .before .pre .0) (c .before .before .before .before .before .before .before .before .before .loop .passes) (c .before .before .before .before .before .before .before .before .before .loop .inv .can), c .before .before .before .before .before .before .before .before .before .before .before .before .before .pre .0 .fits .few-rows)
 
--- src/search.rt:31:56
-sub-extend : tie.Need-sub-extend Inv-loop μ-loop
-sub-extend c = omega (arith, c .before .before .before .before .next-passes .ensures .0)
+-- src/search.rt:33:24
+add-from : tie.Need-add-from Inv-loop μ-loop
+add-from c = omega (arith, more-room (now (c .before .before .before .before .before .before .before .before .before .before .before .before .before .before .before .args .rule)) (now (c .before .before .before .before .before .before .before .before .before .before .before .before .before .before .before .args .plan)) (c .before .before .before .before .before .before .before .before .before .before .before .before .before .before .before .pre .0) (c .before .before .before .before .next-passes .ensures .0) (passed (c .before .before .before .can-be-laid .ensures) (c .before .before .if2 .left)) (c .before .laid-sizes .ensures) .1)
 
--- src/search.rt:31:13
-extend-requires : tie.Need-extend-requires Inv-loop μ-loop
-extend-requires c κs = (c .before .before .before .before .before .before .before .before .try-part .ensures .1 .room, more-room (now (c .before .before .before .before .before .before .before .before .before .before .before .before .before .before .before .args .rule)) (now (c .before .before .before .before .before .before .before .before .before .before .before .before .before .before .before .args .plan)) (c .before .before .before .before .before .before .before .before .before .before .before .before .before .before .before .pre .0) (c .before .before .before .before .next-passes .ensures .0) (passed (c .before .before .before .can-be-laid .ensures) (c .before .before .if2 .left)) (c .laid-sizes .ensures) .0, more-room (now (c .before .before .before .before .before .before .before .before .before .before .before .before .before .before .before .args .rule)) (now (c .before .before .before .before .before .before .before .before .before .before .before .before .before .before .before .args .plan)) (c .before .before .before .before .before .before .before .before .before .before .before .before .before .before .before .pre .0) (c .before .before .before .before .next-passes .ensures .0) (passed (c .before .before .before .can-be-laid .ensures) (c .before .before .if2 .left)) (c .laid-sizes .ensures) .1, few-parts (now (c .before .before .before .before .before .before .before .before .before .before .before .before .before .before .before .args .rule)) (now (c .before .before .before .before .before .before .before .before .before .before .before .before .before .before .before .args .plan)) (c .before .before .before .before .before .before .before .before .before .before .before .before .before .before .before .pre .0) (c .before .before .before .before .before .before .before .before .before .before .before .loop .inv .few))
+-- src/search.rt:34:55
+sub-repeat-rows : tie.Need-sub-repeat-rows Inv-loop μ-loop
+sub-repeat-rows c = omega (arith, c .before .before .before .before .before .next-passes .ensures .0)
+
+-- src/search.rt:34:54
+mul-repeat-rows : tie.Need-mul-repeat-rows Inv-loop μ-loop
+mul-repeat-rows c = omega (arith, more-room (now (c .before .before .before .before .before .before .before .before .before .before .before .before .before .before .before .before .args .rule)) (now (c .before .before .before .before .before .before .before .before .before .before .before .before .before .before .before .before .args .plan)) (c .before .before .before .before .before .before .before .before .before .before .before .before .before .before .before .before .pre .0) (c .before .before .before .before .before .next-passes .ensures .0) (passed (c .before .before .before .before .can-be-laid .ensures) (c .before .before .before .if2 .left)) (c .before .before .laid-sizes .ensures) .1)
+
+-- src/search.rt:34:47
+add-repeat-rows : tie.Need-add-repeat-rows Inv-loop μ-loop
+add-repeat-rows c = omega (arith, more-room (now (c .before .before .before .before .before .before .before .before .before .before .before .before .before .before .before .before .args .rule)) (now (c .before .before .before .before .before .before .before .before .before .before .before .before .before .before .before .before .args .plan)) (c .before .before .before .before .before .before .before .before .before .before .before .before .before .before .before .before .pre .0) (c .before .before .before .before .before .next-passes .ensures .0) (passed (c .before .before .before .before .can-be-laid .ensures) (c .before .before .before .if2 .left)) (c .before .before .laid-sizes .ensures) .1)
+
+-- src/search.rt:34:13
+repeat-rows-requires : tie.Need-repeat-rows-requires Inv-loop μ-loop
+repeat-rows-requires c κs = (c .before .before .before .before .before .before .before .before .before .try-part .ensures .1 .room, more-room (now (c .before .before .before .before .before .before .before .before .before .before .before .before .before .before .before .before .args .rule)) (now (c .before .before .before .before .before .before .before .before .before .before .before .before .before .before .before .before .args .plan)) (c .before .before .before .before .before .before .before .before .before .before .before .before .before .before .before .before .pre .0) (c .before .before .before .before .before .next-passes .ensures .0) (passed (c .before .before .before .before .can-be-laid .ensures) (c .before .before .before .if2 .left)) (c .before .before .laid-sizes .ensures) .0, omega arith, more-room (now (c .before .before .before .before .before .before .before .before .before .before .before .before .before .before .before .before .args .rule)) (now (c .before .before .before .before .before .before .before .before .before .before .before .before .before .before .before .before .args .plan)) (c .before .before .before .before .before .before .before .before .before .before .before .before .before .before .before .before .pre .0) (c .before .before .before .before .before .next-passes .ensures .0) (passed (c .before .before .before .before .can-be-laid .ensures) (c .before .before .before .if2 .left)) (c .before .before .laid-sizes .ensures) .1)
 
 -- src/search.rt:23:5
 loop-less-2 : tie.Need-loop-less-2 Inv-loop μ-loop
-loop-less-2 c = omega (arith, few-passes (now (c .before .before .before .before .before .before .before .before .before .before .before .before .before .before .before .before .before .before .args .rule)) (now (c .before .before .before .before .before .before .before .before .before .before .before .before .before .before .before .before .before .before .args .plan)) (c .before .before .before .before .before .before .before .before .before .before .before .before .before .before .before .before .before .before .pre .0) (c .before .before .before .before .before .before .before .before .before .before .before .before .before .before .loop .passes) (c .before .before .before .before .before .before .before .before .before .before .before .before .before .before .loop .inv .can), c .before .before .before .before .before .before .before .next-passes .ensures .0)
+loop-less-2 c = omega (arith, few-passes (now (c .before .before .before .before .before .before .before .before .before .before .before .before .before .before .before .before .before .before .before .args .rule)) (now (c .before .before .before .before .before .before .before .before .before .before .before .before .before .before .before .before .before .before .before .args .plan)) (c .before .before .before .before .before .before .before .before .before .before .before .before .before .before .before .before .before .before .before .pre .0) (c .before .before .before .before .before .before .before .before .before .before .before .before .before .before .before .loop .passes) (c .before .before .before .before .before .before .before .before .before .before .before .before .before .before .before .loop .inv .can), c .before .before .before .before .before .before .before .before .next-passes .ensures .0)
 
 -- src/search.rt:23:5
 loop-again-2 : tie.Need-loop-again-2 Inv-loop μ-loop
-loop-again-2 c = more-laid (now (c .before .before .before .before .before .before .before .before .before .before .before .before .before .before .before .before .before .before .args .rule)) (now (c .before .before .before .before .before .before .before .before .before .before .before .before .before .before .before .before .before .before .args .plan)) (c .before .before .before .before .before .before .before .before .before .before .before .before .before .before .before .before .before .before .pre .0) (c .before .before .before .before .before .before .before .before .before .before .before .before .before .before .loop .inv) (c .before .before .before .before .before .before .before .before .before .before .before .try-part .ensures .0) (c .before .before .before .before .before .before .before .before .before .before .before .before .before .loop-test .taken) (c .before .before .before .before .before .before .before .before .if1 .left) (c .before .before .before .before .before .before .before .next-passes .ensures .0) (c .before .before .before .before .before .before .before .next-passes .ensures .2) (as-bytes (now (c .before .before .before .before .before .before .before .before .before .before .before .before .before .before .before .before .before .before .args .plan)) (λ i. omega (arith, c .before .before .before .before .before .before .before .before .before .before .before .before .before .before .before .before .shared-slice-known2 .given i))) (passed (c .before .before .before .before .before .before .can-be-laid .ensures) (c .before .before .before .before .before .if2 .left)) (c .before .before .before .before .before .before .before .before .before .before .before .try-part .ensures .1) (c .before .before .before .laid-sizes .ensures) (c .before .before .extend .ensures)
+loop-again-2 c = more-laid (now (c .before .before .before .before .before .before .before .before .before .before .before .before .before .before .before .before .before .before .before .args .rule)) (now (c .before .before .before .before .before .before .before .before .before .before .before .before .before .before .before .before .before .before .before .args .plan)) (c .before .before .before .before .before .before .before .before .before .before .before .before .before .before .before .before .before .before .before .pre .0) (c .before .before .before .before .before .before .before .before .before .before .before .before .before .before .before .loop .inv) (c .before .before .before .before .before .before .before .before .before .before .before .before .try-part .ensures .0) (c .before .before .before .before .before .before .before .before .before .before .before .before .before .before .loop-test .taken) (c .before .before .before .before .before .before .before .before .before .if1 .left) (c .before .before .before .before .before .before .before .before .next-passes .ensures .0) (c .before .before .before .before .before .before .before .before .next-passes .ensures .2) (as-bytes (now (c .before .before .before .before .before .before .before .before .before .before .before .before .before .before .before .before .before .before .before .args .plan)) (λ i. omega (arith, c .before .before .before .before .before .before .before .before .before .before .before .before .before .before .before .before .before .shared-slice-known2 .given i))) (passed (c .before .before .before .before .before .before .before .can-be-laid .ensures) (c .before .before .before .before .before .before .if2 .left)) (c .before .before .before .before .before .before .before .before .before .before .before .before .try-part .ensures .1) (c .before .before .before .before .before .laid-sizes .ensures) (c .before .before .repeat-rows .ensures)
 
 -- src/search.rt:17:1
 same-length-2 : tie.Need-same-length-2 Inv-loop μ-loop
@@ -101,8 +113,11 @@ fewest-passes-spec =
     same-length
     returns
     laid-sizes-requires
-    sub-extend
-    extend-requires
+    add-from
+    sub-repeat-rows
+    mul-repeat-rows
+    add-repeat-rows
+    repeat-rows-requires
     loop-less-2
     loop-again-2
     same-length-2

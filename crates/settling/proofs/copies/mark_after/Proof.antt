@@ -1,0 +1,71 @@
+-- `settling::copies::mark_after` meets its contract. Assumes nothing.
+use borrow.Author.Needs.{needs}
+use native.Mathlib.Omega.{arith}
+use mathlib.Core.Path.{_∙_}
+use Prim.Native.Nat.{_+_, _-_}
+use Rattle.words.specs.inner.Words.{markAt}
+use Rattle.words.proofs.Marking as law
+use Rattle.settling.proofs.copies.mark_after.Statement.{statement}
+use Rattle.settling.proofs.copies.mark_after.Tie as tie
+use Rattle.settling.proofs.copies.mark_after.Reads as reads
+use Rattle.settling.proofs.copies.mark_after.Lts as lts
+use Rattle.words.proofs.parts.mark_at.Reads as mark-at-reads
+use Rattle.words.proofs.parts.put_mark.Reads as put-mark-reads
+
+abbrev Inv-loop : tie.InvT-loop
+Inv-loop scratch₀ i a count row₀ scratch row = law.Upward scratch₀ i (λ r. markAt scratch₀ a (r + 1)) count scratch row
+
+abbrev μ-loop : tie.MeasureT-loop
+μ-loop scratch₀ i a count row₀ scratch row = count - row
+
+-- src/copies.rt:52:5
+loop-holds : tie.Need-loop-holds Inv-loop μ-loop
+loop-holds c = law.upward-none _ _ _ _
+
+-- src/copies.rt:53:40
+add-mark-at : tie.Need-add-mark-at Inv-loop μ-loop
+add-mark-at c = omega (arith, c .before .loop-test .taken, c .before .before .before .before .pre .3)
+
+-- src/copies.rt:53:13
+mark-at-requires : tie.Need-mark-at-requires Inv-loop μ-loop
+mark-at-requires c κs = (c .before .before .loop .inv .1 .long ∙ c .before .before .before .before .pre .0, omega (arith, c .before .before .before .before .pre .1, c .before .before .before .before .pre .2), omega (arith, c .before .loop-test .taken, c .before .before .before .before .pre .3))
+
+-- src/copies.rt:54:9
+put-mark-requires : tie.Need-put-mark-requires Inv-loop μ-loop
+put-mark-requires c κs = (c .before .before .before .before .loop .inv .1 .long ∙ c .before .before .before .before .before .before .pre .0, c .before .before .before .before .before .before .pre .1, omega (arith, c .before .before .before .loop-test .taken, c .before .before .before .before .before .before .pre .3))
+
+-- src/copies.rt:55:9
+add-row : tie.Need-add-row Inv-loop μ-loop
+add-row c = omega (arith, c .before .before .before .before .before .before .loop-test .taken, c .before .before .before .before .before .before .before .before .before .pre .3)
+
+-- src/copies.rt:52:5
+loop-less : tie.Need-loop-less Inv-loop μ-loop
+loop-less c = omega (arith, c .before .before .before .before .before .before .loop-test .taken)
+
+-- src/copies.rt:52:5
+loop-again : tie.Need-loop-again Inv-loop μ-loop
+loop-again c = law.upward-next _ _ _ (c .before .before .before .before .before .before .before .loop .inv) (c .before .before .before .before .before .before .loop-test .taken) (c .before .before .before .before .mark-at .ensures ∙ c .before .before .before .before .before .before .before .loop .inv .1 .lower _ (c .before .before .before .before .before .before .before .before .before .pre .2) _) (c .before .before .put-mark .ensures)
+
+-- src/copies.rt:47:1
+same-length : tie.Need-same-length Inv-loop μ-loop
+same-length c = search needs
+
+-- src/copies.rt:47:1
+returns : tie.Need-returns Inv-loop μ-loop
+returns c = law.upward-all _ _ _ (c .before .loop .inv) (c .loop-test .left)
+
+pub mark-after-spec : {M : Type 1} → statement M
+mark-after-spec =
+    tie.close
+    (tie.spec
+    Inv-loop
+    μ-loop
+    loop-holds
+    add-mark-at
+    mark-at-requires
+    put-mark-requires
+    add-row
+    loop-less
+    loop-again
+    same-length
+    returns)

@@ -1,0 +1,70 @@
+-- `settling::copies::mark_before` meets its contract. Assumes nothing.
+use borrow.Author.Needs.{needs}
+use native.Mathlib.Omega.{arith}
+use mathlib.Core.Path.{_∙_}
+use Prim.Native.Nat.{_-_}
+use Rattle.settling.proofs.Copying as law
+use Rattle.settling.proofs.copies.mark_before.Statement.{statement}
+use Rattle.settling.proofs.copies.mark_before.Tie as tie
+use Rattle.settling.proofs.copies.mark_before.Reads as reads
+use Rattle.settling.proofs.copies.mark_before.Lts as lts
+use Rattle.words.proofs.parts.mark_at.Reads as mark-at-reads
+use Rattle.words.proofs.parts.put_mark.Reads as put-mark-reads
+
+abbrev Inv-loop : tie.InvT-loop
+Inv-loop scratch₀ i a count row₀ scratch row = law.Moving scratch₀ i a count scratch row
+
+abbrev μ-loop : tie.MeasureT-loop
+μ-loop scratch₀ i a count row₀ scratch row = row
+
+-- src/copies.rt:76:5
+loop-holds : tie.Need-loop-holds Inv-loop μ-loop
+loop-holds c = law.moving-none _ _ _ _ (c .before .pre .3)
+
+-- src/copies.rt:77:9
+sub-row : tie.Need-sub-row Inv-loop μ-loop
+sub-row c = omega (arith, c .loop-test .taken)
+
+-- src/copies.rt:78:40
+sub-mark-at : tie.Need-sub-mark-at Inv-loop μ-loop
+sub-mark-at c = omega (arith, c .before .loop-test .taken)
+
+-- src/copies.rt:78:13
+mark-at-requires : tie.Need-mark-at-requires Inv-loop μ-loop
+mark-at-requires c κs = (c .before .before .loop .inv .2 .long ∙ c .before .before .before .before .pre .0, omega (arith, c .before .before .before .before .pre .1, c .before .before .before .before .pre .2), omega (arith, c .before .before .loop .inv .1, c .before .loop-test .taken, c .before .before .before .before .pre .4))
+
+-- src/copies.rt:79:9
+put-mark-requires : tie.Need-put-mark-requires Inv-loop μ-loop
+put-mark-requires c κs = (c .before .before .before .before .loop .inv .2 .long ∙ c .before .before .before .before .before .before .pre .0, c .before .before .before .before .before .before .pre .1, omega (arith, c .before .before .before .before .loop .inv .1, c .before .before .before .loop-test .taken, c .before .before .before .before .before .before .pre .4))
+
+-- src/copies.rt:76:5
+loop-less : tie.Need-loop-less Inv-loop μ-loop
+loop-less c = omega (arith, c .before .before .before .before .before .before .loop-test .taken)
+
+-- src/copies.rt:76:5
+loop-again : tie.Need-loop-again Inv-loop μ-loop
+loop-again c = law.moving-next (c .before .before .before .before .before .before .before .before .before .pre .2) (c .before .before .before .before .before .before .before .loop .inv) (c .before .before .before .before .before .before .loop-test .taken) (c .before .before .before .before .mark-at .ensures) (c .before .before .put-mark .ensures)
+
+-- src/copies.rt:71:1
+same-length : tie.Need-same-length Inv-loop μ-loop
+same-length c = search needs
+
+-- src/copies.rt:71:1
+returns : tie.Need-returns Inv-loop μ-loop
+returns c = law.moving-all _ (c .before .loop .inv) (omega (arith, c .loop-test .left))
+
+pub mark-before-spec : {M : Type 1} → statement M
+mark-before-spec =
+    tie.close
+    (tie.spec
+    Inv-loop
+    μ-loop
+    loop-holds
+    sub-row
+    sub-mark-at
+    mark-at-requires
+    put-mark-requires
+    loop-less
+    loop-again
+    same-length
+    returns)

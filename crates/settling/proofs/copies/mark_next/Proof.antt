@@ -1,0 +1,51 @@
+-- `settling::copies::mark_next` meets its contract. Assumes nothing.
+use denote.Ref.{now}
+use Rattle.settling.proofs.Copying.{next-marked}
+use borrow.Author.Needs.{needs}
+use Rattle.settling.proofs.copies.mark_next.Statement.{statement}
+use Rattle.settling.proofs.copies.mark_next.Tie as tie
+use Rattle.settling.proofs.copies.mark_next.Reads as reads
+use Rattle.settling.proofs.copies.mark_next.Lts as lts
+use Rattle.settling.proofs.copies.mark_after.Reads as mark-after-reads
+use Rattle.words.proofs.parts.mark_at.Reads as mark-at-reads
+use Rattle.words.proofs.parts.put_mark.Reads as put-mark-reads
+
+-- src/copies.rt:64:16
+add-last : tie.Need-add-last
+add-last c = search needs
+
+-- src/copies.rt:64:16
+sub-last : tie.Need-sub-last
+sub-last c = search needs
+
+-- src/copies.rt:65:9
+mark-at-requires : tie.Need-mark-at-requires
+mark-at-requires c κs = search needs
+
+-- src/copies.rt:66:5
+mark-after-requires : tie.Need-mark-after-requires
+mark-after-requires c κs = search needs
+
+-- src/copies.rt:67:5
+put-mark-requires : tie.Need-put-mark-requires
+put-mark-requires c κs = search needs
+
+-- src/copies.rt:60:1
+same-length : tie.Need-same-length
+same-length c = search needs
+
+-- src/copies.rt:60:1
+returns : tie.Need-returns
+returns c = next-marked (c .before .before .before .before .before .before .before .before .before .before .before .before .args .laid .start) (c .before .before .before .before .before .before .before .before .before .before .before .before .args .laid .cycle) (c .before .before .before .before .before .before .before .before .before .before .before .before .pre .3) (now (c .before .before .before .before .before .before .before .before .before .before .before .before .args .scratch)) (c .before .before .before .before .before .before .before .before .before .before .before .before .args .a) (c .before .before .before .before .before .before .mark-after .ensures) (c .before .before .before .before .before .before .before .before .mark-at .ensures) (c .before .before .put-mark .ensures)
+
+pub mark-next-spec : {M : Type 1} → statement M
+mark-next-spec =
+    tie.close
+    (tie.spec
+    add-last
+    sub-last
+    mark-at-requires
+    mark-after-requires
+    put-mark-requires
+    same-length
+    returns)

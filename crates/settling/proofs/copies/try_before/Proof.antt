@@ -1,0 +1,74 @@
+-- `settling::copies::try_before` meets its contract. Assumes nothing.
+use native.Mathlib.Omega.{arith}
+use denote.Ref.{now}
+use Rattle.settling.proofs.Copying.{before-marked, before-open, before-closed}
+use borrow.Author.Needs.{needs}
+use Rattle.settling.proofs.copies.try_before.Statement.{statement}
+use Rattle.settling.proofs.copies.try_before.Tie as tie
+use Rattle.settling.proofs.copies.try_before.Reads as reads
+use Rattle.settling.proofs.copies.try_before.Lts as lts
+use Rattle.settling.proofs.copies.before.Reads as before-reads
+use Rattle.settling.proofs.copies.mark_before.Reads as mark-before-reads
+use Rattle.table.proofs.sweeps.agree.Reads as agree-reads
+use Rattle.words.proofs.parts.mark_at.Reads as mark-at-reads
+use Rattle.words.proofs.parts.put_mark.Reads as put-mark-reads
+
+-- src/copies.rt:102:17
+add-count : tie.Need-add-count
+add-count c = search needs
+
+-- src/copies.rt:103:15
+before-requires : tie.Need-before-requires
+before-requires c κs = search needs
+
+-- src/copies.rt:103:65
+sub-mark-at : tie.Need-sub-mark-at
+sub-mark-at c = search needs
+
+-- src/copies.rt:103:45
+mark-at-requires : tie.Need-mark-at-requires
+mark-at-requires c κs = search needs
+
+-- src/copies.rt:103:9
+agree-requires : tie.Need-agree-requires
+agree-requires c κs = search needs
+
+-- src/copies.rt:104:9
+same-length : tie.Need-same-length
+same-length c = search needs
+
+-- src/copies.rt:104:9
+returns : tie.Need-returns
+returns c = before-open (now (c .before .before .before .before .before .before .before .before .args .scratch)) (c .before .before .before .before .before .before .before .before .args .a) (c .before .before .before .before .before .before .before .before .args .laid .start) (c .before .before .before .before .before .before .before .before .args .first) _ (c .before .before .before .before .before2 .ensures) (c .before .before .mark-at .ensures) (c .before .agree .ensures) (c .if1 .taken)
+
+-- src/copies.rt:106:5
+mark-before-requires : tie.Need-mark-before-requires
+mark-before-requires c κs = search needs
+
+-- src/copies.rt:107:5
+put-mark-requires : tie.Need-put-mark-requires
+put-mark-requires c κs = search needs
+
+-- src/copies.rt:97:1
+same-length-2 : tie.Need-same-length-2
+same-length-2 c = search needs
+
+-- src/copies.rt:97:1
+returns-2 : tie.Need-returns-2
+returns-2 c = before-closed (now (c .before .before .before .before .before .before .before .before .before .before .before .before .before .before .before .before .args .scratch)) (c .before .before .before .before .before .before .before .before .before .before .before .before .before .before .before .before .args .a) (c .before .before .before .before .before .before .before .before .before .before .before .before .before .before .before .before .args .laid .start) (c .before .before .before .before .before .before .before .before .before .before .before .before .before .before .before .before .args .first) _ (c .before .before .before .before .before .before .before .before .before .before .before .before .before2 .ensures) (c .before .before .before .before .before .before .before .before .before .before .mark-at .ensures) (c .before .before .before .before .before .before .before .before .before .agree .ensures) (c .before .before .before .before .before .before .before .before .if1 .left) (before-marked (now (c .before .before .before .before .before .before .before .before .before .before .before .before .before .before .before .before .args .scratch)) (c .before .before .before .before .before .before .before .before .before .before .before .before .before .before .before .before .args .a) (c .before .before .before .before .before .before .before .before .before .before .before .before .before .before .before .before .args .laid .start) (c .before .before .before .before .before .before .before .before .before .before .before .before .before .before .before .before .args .first) (omega (arith, c .before .before .before .before .before .before .before .before .before .before .before .before .before .before .before .before .pre .3)) (c .before .before .before .before .before .before .mark-before .ensures) (c .before .before .put-mark .ensures))
+
+pub try-before-spec : {M : Type 1} → statement M
+try-before-spec =
+    tie.close
+    (tie.spec
+    add-count
+    before-requires
+    sub-mark-at
+    mark-at-requires
+    agree-requires
+    same-length
+    returns
+    mark-before-requires
+    put-mark-requires
+    same-length-2
+    returns-2)

@@ -1,0 +1,78 @@
+-- `settling::operators::mark_back` meets its contract. Assumes nothing.
+use borrow.Author.Needs.{needs}
+use native.Mathlib.Omega.{arith}
+use mathlib.Core.Path.{_≡_, refl, _∙_}
+use Rattle.words.specs.inner.Words.{markAt}
+use Rattle.settling.specs.inner.Seen.{SeenAhead}
+use Prim.Native.Nat.{ℕ, _+_}
+use Rattle.settling.proofs.Stepping.{names-few, Back, back-first, back-next, back-all}
+use Rattle.settling.proofs.operators.mark_back.Statement.{statement}
+use Rattle.settling.proofs.operators.mark_back.Tie as tie
+use Rattle.settling.proofs.operators.mark_back.Reads as reads
+use Rattle.settling.proofs.operators.mark_back.Lts as lts
+use Rattle.settling.proofs.operators.step_on.Reads as step-on-reads
+use Rattle.settling.proofs.operators.watched_truth.Reads as watched-truth-reads
+use Rattle.words.proofs.parts.put_mark.Reads as put-mark-reads
+
+abbrev Inv-loop : tie.InvT-loop
+Inv-loop scratch₀ i operator end beside₀ row₀ scratch beside row = (P C : ℕ) → P + C ≡ row₀ → SeenAhead P C (markAt scratch₀) operator (P + C) end → Back P C scratch₀ i operator scratch row beside
+
+abbrev μ-loop : tie.MeasureT-loop
+μ-loop scratch₀ i operator end beside₀ row₀ scratch beside row = row
+
+-- src/operators.rt:125:19
+add-row : tie.Need-add-row Inv-loop μ-loop
+add-row c = omega (arith, c .before .before .pre .4)
+
+-- src/operators.rt:126:5
+loop-holds : tie.Need-loop-holds Inv-loop μ-loop
+loop-holds c = λ P C e seen. back-first P C _ _ _ e seen
+
+-- src/operators.rt:127:9
+sub-row : tie.Need-sub-row Inv-loop μ-loop
+sub-row c = omega (arith, c .loop-test .taken)
+
+-- src/operators.rt:128:13
+step-on-requires : tie.Need-step-on-requires Inv-loop μ-loop
+step-on-requires c κs = (c .before .before .loop .inv (c .before .before .before .before .before .args .laid .start) (c .before .before .before .before .before .args .laid .cycle) refl (c .before .before .before .before .before .pre .5) .done .long ∙ c .before .before .before .before .before .pre .0, names-few (c .before .before .before .before .before .args .operator) (c .before .before .before .before .before .pre .1) (c .before .before .before .before .before .pre .2), omega (arith, c .before .before .loop .inv (c .before .before .before .before .before .args .laid .start) (c .before .before .before .before .before .args .laid .cycle) refl (c .before .before .before .before .before .pre .5) .few, c .before .loop-test .taken, c .before .before .before .before .before .pre .4))
+
+-- src/operators.rt:129:9
+watched-truth-requires : tie.Need-watched-truth-requires Inv-loop μ-loop
+watched-truth-requires c κs = (c .before .before .before .before .loop .inv (c .before .before .before .before .before .before .before .args .laid .start) (c .before .before .before .before .before .before .before .args .laid .cycle) refl (c .before .before .before .before .before .before .before .pre .5) .done .long ∙ c .before .before .before .before .before .before .before .pre .0, names-few (c .before .before .before .before .before .before .before .args .operator) (c .before .before .before .before .before .before .before .pre .1) (c .before .before .before .before .before .before .before .pre .2), omega (arith, c .before .before .before .before .loop .inv (c .before .before .before .before .before .before .before .args .laid .start) (c .before .before .before .before .before .before .before .args .laid .cycle) refl (c .before .before .before .before .before .before .before .pre .5) .few, c .before .before .before .loop-test .taken, c .before .before .before .before .before .before .before .pre .4))
+
+-- src/operators.rt:130:9
+put-mark-requires : tie.Need-put-mark-requires Inv-loop μ-loop
+put-mark-requires c κs = (c .before .before .before .before .before .before .loop .inv (c .before .before .before .before .before .before .before .before .before .args .laid .start) (c .before .before .before .before .before .before .before .before .before .args .laid .cycle) refl (c .before .before .before .before .before .before .before .before .before .pre .5) .done .long ∙ c .before .before .before .before .before .before .before .before .before .pre .0, c .before .before .before .before .before .before .before .before .before .pre .1, omega (arith, c .before .before .before .before .before .before .loop .inv (c .before .before .before .before .before .before .before .before .before .args .laid .start) (c .before .before .before .before .before .before .before .before .before .args .laid .cycle) refl (c .before .before .before .before .before .before .before .before .before .pre .5) .few, c .before .before .before .before .before .loop-test .taken, c .before .before .before .before .before .before .before .before .before .pre .4))
+
+-- src/operators.rt:126:5
+loop-less : tie.Need-loop-less Inv-loop μ-loop
+loop-less c = omega (arith, c .before .before .before .before .before .before .before .before .loop-test .taken)
+
+-- src/operators.rt:126:5
+loop-again : tie.Need-loop-again Inv-loop μ-loop
+loop-again c = λ P C e seen. back-next P C _ _ _ (c .before .before .before .before .before .before .before .before .before .before .before .before .pre .2) (c .before .before .before .before .before .before .before .before .before .loop .inv P C e seen) (c .before .before .before .before .before .before .before .before .loop-test .taken) (c .before .before .before .before .before .before .step-on .ensures) (c .before .before .before .before .watched-truth .ensures) (c .before .before .put-mark .ensures)
+
+-- src/operators.rt:120:1
+same-length : tie.Need-same-length Inv-loop μ-loop
+same-length c = search (needs, c .before .loop .inv (c .before .before .before .before .args .laid .start) (c .before .before .before .before .args .laid .cycle) refl (c .before .before .before .before .pre .5) .done .long)
+
+-- src/operators.rt:120:1
+returns : tie.Need-returns Inv-loop μ-loop
+returns c = back-all _ _ _ _ _ (c .before .loop .inv (c .before .before .before .before .args .laid .start) (c .before .before .before .before .args .laid .cycle) refl (c .before .before .before .before .pre .5)) (omega (arith, c .loop-test .left))
+
+pub mark-back-spec : {M : Type 1} → statement M
+mark-back-spec =
+    tie.close
+    (tie.spec
+    Inv-loop
+    μ-loop
+    add-row
+    loop-holds
+    sub-row
+    step-on-requires
+    watched-truth-requires
+    put-mark-requires
+    loop-less
+    loop-again
+    same-length
+    returns)

@@ -1,0 +1,71 @@
+-- `settling::operators::mark_onward` meets its contract. Assumes nothing.
+use borrow.Author.Needs.{needs}
+use native.Mathlib.Omega.{arith}
+use mathlib.Core.Path.{_∙_}
+use Prim.Native.Nat.{_-_}
+use Rattle.settling.proofs.Stepping.{names-few, Onward, onward-first, onward-next, onward-all}
+use Rattle.settling.proofs.operators.mark_onward.Statement.{statement}
+use Rattle.settling.proofs.operators.mark_onward.Tie as tie
+use Rattle.settling.proofs.operators.mark_onward.Reads as reads
+use Rattle.settling.proofs.operators.mark_onward.Lts as lts
+use Rattle.settling.proofs.operators.step_on.Reads as step-on-reads
+use Rattle.settling.proofs.operators.watched_truth.Reads as watched-truth-reads
+use Rattle.words.proofs.parts.put_mark.Reads as put-mark-reads
+
+abbrev Inv-loop : tie.InvT-loop
+Inv-loop scratch₀ i operator first count beside₀ row₀ scratch beside row = Onward scratch₀ i operator first count scratch row beside
+
+abbrev μ-loop : tie.MeasureT-loop
+μ-loop scratch₀ i operator first count beside₀ row₀ scratch beside row = count - row
+
+-- src/operators.rt:76:5
+loop-holds : tie.Need-loop-holds Inv-loop μ-loop
+loop-holds c = onward-first _ _ _ _ _
+
+-- src/operators.rt:77:13
+step-on-requires : tie.Need-step-on-requires Inv-loop μ-loop
+step-on-requires c κs = (c .before .before .loop .inv .done .long ∙ c .before .before .before .before .pre .0, names-few (c .before .before .before .before .args .operator) (c .before .before .before .before .pre .1) (c .before .before .before .before .pre .2), omega (arith, c .before .loop-test .taken, c .before .before .before .before .pre .3))
+
+-- src/operators.rt:78:9
+watched-truth-requires : tie.Need-watched-truth-requires Inv-loop μ-loop
+watched-truth-requires c κs = (c .before .before .before .before .loop .inv .done .long ∙ c .before .before .before .before .before .before .pre .0, names-few (c .before .before .before .before .before .before .args .operator) (c .before .before .before .before .before .before .pre .1) (c .before .before .before .before .before .before .pre .2), omega (arith, c .before .before .before .loop-test .taken, c .before .before .before .before .before .before .pre .3))
+
+-- src/operators.rt:79:9
+put-mark-requires : tie.Need-put-mark-requires Inv-loop μ-loop
+put-mark-requires c κs = (c .before .before .before .before .before .before .loop .inv .done .long ∙ c .before .before .before .before .before .before .before .before .pre .0, c .before .before .before .before .before .before .before .before .pre .1, omega (arith, c .before .before .before .before .before .loop-test .taken, c .before .before .before .before .before .before .before .before .pre .3))
+
+-- src/operators.rt:80:9
+add-row : tie.Need-add-row Inv-loop μ-loop
+add-row c = omega (arith, c .before .before .before .before .before .before .before .before .loop-test .taken, c .before .before .before .before .before .before .before .before .before .before .before .pre .3)
+
+-- src/operators.rt:76:5
+loop-less : tie.Need-loop-less Inv-loop μ-loop
+loop-less c = omega (arith, c .before .before .before .before .before .before .before .before .loop-test .taken)
+
+-- src/operators.rt:76:5
+loop-again : tie.Need-loop-again Inv-loop μ-loop
+loop-again c = onward-next _ _ _ _ _ (c .before .before .before .before .before .before .before .before .before .before .before .pre .2) (c .before .before .before .before .before .before .before .before .before .loop .inv) (c .before .before .before .before .before .before .before .before .loop-test .taken) (c .before .before .before .before .before .before .step-on .ensures) (c .before .before .before .before .watched-truth .ensures) (c .before .before .put-mark .ensures)
+
+-- src/operators.rt:70:1
+same-length : tie.Need-same-length Inv-loop μ-loop
+same-length c = search needs
+
+-- src/operators.rt:70:1
+returns : tie.Need-returns Inv-loop μ-loop
+returns c = onward-all _ _ _ _ _ (c .before .loop .inv) (c .loop-test .left)
+
+pub mark-onward-spec : {M : Type 1} → statement M
+mark-onward-spec =
+    tie.close
+    (tie.spec
+    Inv-loop
+    μ-loop
+    loop-holds
+    step-on-requires
+    watched-truth-requires
+    put-mark-requires
+    add-row
+    loop-less
+    loop-again
+    same-length
+    returns)

@@ -1,0 +1,77 @@
+-- `settling::operators::seen_round` meets its contract. Assumes nothing.
+use borrow.Author.Needs.{needs}
+use native.Mathlib.Omega.{arith}
+use Prim.Native.Nat.{ℕ, _+_}
+use mathlib.Core.Path.{_≡_, refl}
+use Rattle.words.specs.inner.Words.{markAt}
+use Rattle.settling.proofs.Stepping.{Round, round-first, round-next, round-all}
+use Rattle.settling.proofs.operators.seen_round.Statement.{statement}
+use Rattle.settling.proofs.operators.seen_round.Tie as tie
+use Rattle.settling.proofs.operators.seen_round.Reads as reads
+use Rattle.settling.proofs.operators.seen_round.Lts as lts
+use Rattle.settling.proofs.operators.end_of.Reads as end-of-reads
+use Rattle.settling.proofs.operators.step_on.Reads as step-on-reads
+use Rattle.settling.proofs.operators.watched_truth.Reads as watched-truth-reads
+
+abbrev Inv-loop : tie.InvT-loop
+Inv-loop scratch operator start beside₀ row₀ beside row = (C : ℕ) → start + C ≡ row₀ → Round start C (markAt scratch) operator row beside
+
+abbrev μ-loop : tie.MeasureT-loop
+μ-loop scratch operator start beside₀ row₀ beside row = row
+
+-- src/operators.rt:91:55
+end-of-requires : tie.Need-end-of-requires Inv-loop μ-loop
+end-of-requires c κs = search needs
+
+-- src/operators.rt:91:9
+watched-truth-requires : tie.Need-watched-truth-requires Inv-loop μ-loop
+watched-truth-requires c κs = (c .before .before .pre .0, c .before .before .pre .1, omega (arith, c .before .before .pre .2, c .before .before .pre .3))
+
+-- src/operators.rt:92:19
+add-row : tie.Need-add-row Inv-loop μ-loop
+add-row c = omega (arith, c .before .before .before .before .pre .3)
+
+-- src/operators.rt:93:5
+loop-holds : tie.Need-loop-holds Inv-loop μ-loop
+loop-holds c = λ C e. round-first _ C _ _ e (c .before .before .end-of .ensures) (c .before .watched-truth .ensures)
+
+-- src/operators.rt:94:9
+sub-row : tie.Need-sub-row Inv-loop μ-loop
+sub-row c = omega (arith, c .loop-test .taken)
+
+-- src/operators.rt:95:13
+step-on-requires : tie.Need-step-on-requires Inv-loop μ-loop
+step-on-requires c κs = (c .before .before .before .before .before .before .pre .0, c .before .before .before .before .before .before .pre .1, omega (arith, c .before .loop .inv (c .before .before .before .before .before .before .args .laid .cycle) refl .few, c .loop-test .taken, c .before .before .before .before .before .before .pre .3))
+
+-- src/operators.rt:96:9
+watched-truth-requires-2 : tie.Need-watched-truth-requires-2 Inv-loop μ-loop
+watched-truth-requires-2 c κs = (c .before .before .before .before .before .before .before .pre .0, c .before .before .before .before .before .before .before .pre .1, omega (arith, c .before .before .loop .inv (c .before .before .before .before .before .before .before .args .laid .cycle) refl .few, c .before .loop-test .taken, c .before .before .before .before .before .before .before .pre .3))
+
+-- src/operators.rt:93:5
+loop-less : tie.Need-loop-less Inv-loop μ-loop
+loop-less c = omega (arith, c .before .before .loop-test .taken)
+
+-- src/operators.rt:93:5
+loop-again : tie.Need-loop-again Inv-loop μ-loop
+loop-again c = λ C e. round-next _ C _ _ (c .before .before .before .loop .inv C e) (c .before .before .loop-test .taken) (c .before .step-on .ensures) (c .watched-truth2 .ensures)
+
+-- src/operators.rt:86:1
+returns : tie.Need-returns Inv-loop μ-loop
+returns c = round-all _ _ _ _ (c .before .before .before .before .before .before .pre .2) (c .before .loop .inv (c .before .before .before .before .before .before .args .laid .cycle) refl) (c .loop-test .left)
+
+pub seen-round-spec : {M : Type 1} → statement M
+seen-round-spec =
+    tie.close
+    (tie.spec
+    Inv-loop
+    μ-loop
+    end-of-requires
+    watched-truth-requires
+    add-row
+    loop-holds
+    sub-row
+    step-on-requires
+    watched-truth-requires-2
+    loop-less
+    loop-again
+    returns)

@@ -1,0 +1,62 @@
+-- `settling::operators::step_on` meets its contract. Assumes nothing.
+use denote.Ref.{now}
+use Rattle.words.specs.inner.Words.{mostParts, markAt}
+use Rattle.marks.proofs.Stepped as law
+use borrow.Author.Needs.{needs}
+use Rattle.settling.proofs.operators.step_on.Statement.{statement}
+use Rattle.settling.proofs.operators.step_on.Tie as tie
+use Rattle.settling.proofs.operators.step_on.Reads as reads
+use Rattle.settling.proofs.operators.step_on.Lts as lts
+use Rattle.marks.proofs.operators.mark_one.Reads as mark-one-reads
+use Rattle.marks.proofs.operators.mark_two.Reads as mark-two-reads
+use Rattle.words.proofs.parts.mark_at.Reads as mark-at-reads
+
+-- src/operators.rt:31:23
+enum-known-operator : tie.Need-enum-known-operator
+enum-known-operator c = search needs
+
+-- src/operators.rt:31:50
+mark-at-requires : tie.Need-mark-at-requires
+mark-at-requires c κs = (c .before .before .before .before .pre .0, law.one-named mostParts (c .before .before .before .before .pre .1) (c .before .operator .given .1), c .before .before .before .before .pre .2)
+
+-- src/operators.rt:31:35
+mark-one-requires : tie.Need-mark-one-requires
+mark-one-requires c κs = search needs
+
+-- src/operators.rt:32:23
+enum-known-operator-2 : tie.Need-enum-known-operator-2
+enum-known-operator-2 c = search needs
+
+-- src/operators.rt:34:13
+mark-at-requires-2 : tie.Need-mark-at-requires-2
+mark-at-requires-2 c κs = (c .before .before .before .before .pre .0, law.two-named mostParts (c .before .before .before .before .pre .1) (c .before .operator2 .given .1) .0, c .before .before .before .before .pre .2)
+
+-- src/operators.rt:35:13
+mark-at-requires-3 : tie.Need-mark-at-requires-3
+mark-at-requires-3 c κs = (c .before .before .before .before .before .pre .0, law.two-named mostParts (c .before .before .before .before .before .pre .1) (c .before .before .operator2 .given .1) .1, c .before .before .before .before .before .pre .2)
+
+-- src/operators.rt:32:38
+mark-two-requires : tie.Need-mark-two-requires
+mark-two-requires c κs = search needs
+
+-- src/operators.rt:26:1
+returns : tie.Need-returns
+returns c = law.step-one (markAt (now (c .before .before .before .before .before .before .args .scratch))) (c .before .before .before .before .before .before .args .row) (c .before .before .before .before .before .before .args .beside) (c .before .before .before .operator .given .1) (c .before .mark-at .ensures) (c .mark-one .ensures)
+
+-- src/operators.rt:26:1
+returns-2 : tie.Need-returns-2
+returns-2 c = law.step-two (markAt (now (c .before .before .before .before .before .before .before .args .scratch))) (c .before .before .before .before .before .before .before .args .row) (c .before .before .before .before .before .before .before .args .beside) (c .before .before .before .before .operator2 .given .1) (c .before .before .mark-at2 .ensures) (c .before .mark-at3 .ensures) (c .mark-two .ensures)
+
+pub step-on-spec : {M : Type 1} → statement M
+step-on-spec =
+    tie.close
+    (tie.spec
+    enum-known-operator
+    mark-at-requires
+    mark-one-requires
+    enum-known-operator-2
+    mark-at-requires-2
+    mark-at-requires-3
+    mark-two-requires
+    returns
+    returns-2)

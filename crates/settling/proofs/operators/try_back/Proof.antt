@@ -1,0 +1,53 @@
+-- `settling::operators::try_back` meets its contract. Assumes nothing.
+use native.Mathlib.Omega.{arith}
+use mathlib.Core.Path.{_∙_}
+use Rattle.settling.proofs.Stepping.{names-few, back-tried}
+use borrow.Author.Needs.{needs}
+use Rattle.settling.proofs.operators.try_back.Statement.{statement}
+use Rattle.settling.proofs.operators.try_back.Tie as tie
+use Rattle.settling.proofs.operators.try_back.Reads as reads
+use Rattle.settling.proofs.operators.try_back.Lts as lts
+use Rattle.settling.proofs.operators.mark_onward.Reads as mark-onward-reads
+use Rattle.settling.proofs.operators.step_on.Reads as step-on-reads
+use Rattle.table.proofs.sweeps.agree.Reads as agree-reads
+use Rattle.words.proofs.parts.mark_at.Reads as mark-at-reads
+
+-- src/operators.rt:136:56
+add-mark-onward : tie.Need-add-mark-onward
+add-mark-onward c = search needs
+
+-- src/operators.rt:136:9
+mark-onward-requires : tie.Need-mark-onward-requires
+mark-onward-requires c κs = search needs
+
+-- src/operators.rt:137:11
+mark-at-requires : tie.Need-mark-at-requires
+mark-at-requires c κs = search needs
+
+-- src/operators.rt:137:35
+step-on-requires : tie.Need-step-on-requires
+step-on-requires c κs = (c .before .before .before .before .before .mark-onward .ensures .1 .long ∙ c .before .before .before .before .before .before .before .before .before .pre .0, names-few (c .before .before .before .before .before .before .before .before .before .args .operator) (c .before .before .before .before .before .before .before .before .before .pre .1) (c .before .before .before .before .before .before .before .before .before .pre .2), omega (arith, c .before .before .before .before .before .before .before .before .before .pre .4, c .before .before .before .before .before .before .before .before .before .pre .5))
+
+-- src/operators.rt:137:5
+agree-requires : tie.Need-agree-requires
+agree-requires c κs = search needs
+
+-- src/operators.rt:131:1
+same-length : tie.Need-same-length
+same-length c = search needs
+
+-- src/operators.rt:131:1
+returns : tie.Need-returns
+returns c = back-tried _ _ _ _ _ (c .before .before .before .before .before .before .before .before .before .before .before .pre .3) (c .before .before .before .before .before .before .before .mark-onward .ensures .1) (c .before .before .before .before .before .before .before .before .before .before .before .pre .4) (c .before .before .before .before .before .before .before .before .before .before .before .pre .2) (c .before .before .before .before .before .before .before .mark-onward .ensures .0) (c .before .before .before .mark-at .ensures) (c .before .step-on .ensures) (c .agree .ensures)
+
+pub try-back-spec : {M : Type 1} → statement M
+try-back-spec =
+    tie.close
+    (tie.spec
+    add-mark-onward
+    mark-onward-requires
+    mark-at-requires
+    step-on-requires
+    agree-requires
+    same-length
+    returns)

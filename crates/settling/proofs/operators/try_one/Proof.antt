@@ -1,0 +1,101 @@
+-- `settling::operators::try_one` meets its contract. Assumes nothing.
+use denote.Ref.{now}
+use Rattle.settling.proofs.Copying.{not-tried, next-tried, yesterday-tried, weak-tried}
+use borrow.Author.Needs.{needs}
+use Rattle.settling.proofs.operators.try_one.Statement.{statement}
+use Rattle.settling.proofs.operators.try_one.Tie as tie
+use Rattle.settling.proofs.operators.try_one.Reads as reads
+use Rattle.settling.proofs.operators.try_one.Lts as lts
+use Rattle.settling.proofs.copies.mark_joined.Reads as mark-joined-reads
+use Rattle.settling.proofs.copies.mark_next.Reads as mark-next-reads
+use Rattle.settling.proofs.copies.try_before.Reads as try-before-reads
+
+-- src/operators.rt:147:25
+enum-told : tie.Need-enum-told
+enum-told c = search needs
+
+-- src/operators.rt:147:43
+add-mark-joined : tie.Need-add-mark-joined
+add-mark-joined c = search needs
+
+-- src/operators.rt:147:13
+mark-joined-requires : tie.Need-mark-joined-requires
+mark-joined-requires c κs = search needs
+
+-- src/operators.rt:151:23
+enum-told-2 : tie.Need-enum-told-2
+enum-told-2 c = search needs
+
+-- src/operators.rt:151:13
+mark-next-requires : tie.Need-mark-next-requires
+mark-next-requires c κs = search needs
+
+-- src/operators.rt:154:40
+enum-told-3 : tie.Need-enum-told-3
+enum-told-3 c = search needs
+
+-- src/operators.rt:154:29
+try-before-requires : tie.Need-try-before-requires
+try-before-requires c κs = search needs
+
+-- src/operators.rt:155:44
+enum-told-4 : tie.Need-enum-told-4
+enum-told-4 c = search needs
+
+-- src/operators.rt:155:33
+try-before-requires-2 : tie.Need-try-before-requires-2
+try-before-requires-2 c κs = search needs
+
+-- src/operators.rt:141:1
+same-length : tie.Need-same-length
+same-length c = search needs
+
+-- src/operators.rt:141:1
+returns : tie.Need-returns
+returns c = not-tried (c .before .before .before .before .before .before .before .before .args .laid .start) (c .before .before .before .before .before .before .before .before .args .laid .cycle) (c .before .before .before .before .before .before .before .before .pre .3) (now (c .before .before .before .before .before .before .before .before .args .scratch)) (c .before .before .before .before .before .before .before .before .args .a) (c .before .before .before .before .before .before .before .before .args .a) (c .before .before .before .before .before .enum-told .given .1) (c .before .before .mark-joined .ensures)
+
+-- src/operators.rt:141:1
+same-length-2 : tie.Need-same-length-2
+same-length-2 c = search needs
+
+-- src/operators.rt:141:1
+returns-2 : tie.Need-returns-2
+returns-2 c = next-tried (c .before .before .before .before .before .before .before .args .laid .start) (c .before .before .before .before .before .before .before .args .laid .cycle) (c .before .before .before .before .before .before .before .pre .3) (now (c .before .before .before .before .before .before .before .args .scratch)) (c .before .before .before .before .before .before .before .args .a) (c .before .before .before .before .enum-told2 .given .1) (c .before .before .mark-next .ensures)
+
+-- src/operators.rt:141:1
+same-length-3 : tie.Need-same-length-3
+same-length-3 c = search needs
+
+-- src/operators.rt:141:1
+returns-3 : tie.Need-returns-3
+returns-3 c = yesterday-tried (c .before .before .before .before .before .before .before .args .laid .start) (c .before .before .before .before .before .before .before .args .laid .cycle) (now (c .before .before .before .before .before .before .before .args .scratch)) (c .before .before .before .before .before .before .before .args .a) (c .before .before .before .before .enum-told3 .given .1) (c .before .before .try-before .ensures)
+
+-- src/operators.rt:141:1
+same-length-4 : tie.Need-same-length-4
+same-length-4 c = search needs
+
+-- src/operators.rt:141:1
+returns-4 : tie.Need-returns-4
+returns-4 c = weak-tried (c .before .before .before .before .before .before .before .args .laid .start) (c .before .before .before .before .before .before .before .args .laid .cycle) (now (c .before .before .before .before .before .before .before .args .scratch)) (c .before .before .before .before .before .before .before .args .a) (c .before .before .before .before .enum-told4 .given .1) (c .before .before .try-before2 .ensures)
+
+pub try-one-spec : {M : Type 1} → statement M
+try-one-spec =
+    tie.close
+    (tie.spec
+    enum-told
+    add-mark-joined
+    mark-joined-requires
+    enum-told-2
+    mark-next-requires
+    enum-told-3
+    try-before-requires
+    enum-told-4
+    try-before-requires-2
+    same-length
+    returns
+    same-length-2
+    returns-2
+    same-length-3
+    returns-3
+    same-length-4
+    returns-4)

@@ -1,0 +1,20 @@
+-- `words::bits::bit` meets its contract. Assumes nothing.
+use mathlib.Core.Path.{refl}
+use Rattle.words.specs.inner.Words.{bitOf}
+use borrow.Author.Needs.{needs}
+use Rattle.words.proofs.bits.bit.Statement.{statement}
+use Rattle.words.proofs.bits.bit.Tie as tie
+use Rattle.words.proofs.bits.bit.Reads as reads
+use Rattle.words.proofs.bits.bit.Lts as lts
+
+-- src/bits.rt:11:6
+shr-result : tie.Need-shr-result
+shr-result c = search needs
+
+-- src/bits.rt:7:1
+returns : tie.Need-returns
+unfolding bitOf
+returns c = refl
+
+pub bit-spec : {M : Type 1} → statement M
+bit-spec = tie.close (tie.spec shr-result returns)

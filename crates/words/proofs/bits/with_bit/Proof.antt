@@ -1,0 +1,37 @@
+-- `words::bits::with_bit` meets its contract. Assumes nothing.
+use native.Mathlib.Omega.{arith}
+use Rattle.words.proofs.SetBits.{one-positive, one-fits, set-as, unset-as}
+use borrow.Author.Needs.{needs}
+use Rattle.words.proofs.bits.with_bit.Statement.{statement}
+use Rattle.words.proofs.bits.with_bit.Tie as tie
+use Rattle.words.proofs.bits.with_bit.Reads as reads
+use Rattle.words.proofs.bits.with_bit.Lts as lts
+use Rattle.words.proofs.bits.one_bit.Reads as one-bit-reads
+
+-- src/bits.rt:27:9
+one-bit-requires : tie.Need-one-bit-requires
+one-bit-requires c κs = search needs
+
+-- src/bits.rt:28:15
+rem-result : tie.Need-rem-result
+rem-result c = one-positive (c .before .before .args .part) (c .before .before .pre) (c .before .one-bit .ensures)
+
+-- src/bits.rt:28:15
+add-result : tie.Need-add-result
+add-result c = omega (arith, one-fits (c .before .before .args .part) (c .before .before .pre) (c .before .one-bit .ensures) (c .before .before .args .word))
+
+-- src/bits.rt:28:41
+rem-result-2 : tie.Need-rem-result-2
+rem-result-2 c = one-positive (c .before .before .args .part) (c .before .before .pre) (c .before .one-bit .ensures)
+
+-- src/bits.rt:23:1
+returns : tie.Need-returns
+returns c = set-as (c .before .before .args .part) (c .before .before .pre) (c .before .one-bit .ensures) (c .before .before .args .word) (c .before .before .args .mark) (c .if1 .taken)
+
+-- src/bits.rt:23:1
+returns-2 : tie.Need-returns-2
+returns-2 c = unset-as (c .before .before .args .part) (c .before .before .pre) (c .before .one-bit .ensures) (c .before .before .args .word) (c .before .before .args .mark) (c .if1 .left)
+
+pub with-bit-spec : {M : Type 1} → statement M
+with-bit-spec =
+    tie.close (tie.spec one-bit-requires rem-result add-result rem-result-2 returns returns-2)

@@ -1,0 +1,27 @@
+-- `words::parts::mark_at` meets its contract. Assumes nothing.
+use mathlib.Core.Path.{ap, _∙_}
+use Prim.Native.Nat.{ℕ}
+use Rattle.words.specs.inner.Words.{bitOf, markAt}
+use borrow.Author.Needs.{needs}
+use Rattle.words.proofs.parts.mark_at.Statement.{statement}
+use Rattle.words.proofs.parts.mark_at.Tie as tie
+use Rattle.words.proofs.parts.mark_at.Reads as reads
+use Rattle.words.proofs.parts.mark_at.Lts as lts
+use Rattle.words.proofs.bits.bit.Reads as bit-reads
+use Rattle.words.proofs.rows.word_at.Reads as word-at-reads
+
+-- src/parts.rt:15:9
+word-at-requires : tie.Need-word-at-requires
+word-at-requires c κs = search needs
+
+-- src/parts.rt:15:5
+bit-requires : tie.Need-bit-requires
+bit-requires c κs = search needs
+
+-- src/parts.rt:11:1
+returns : tie.Need-returns
+unfolding markAt
+returns c = c .bit .ensures ∙ ap (λ (x : ℕ). bitOf x (c .before .before .before .args .part)) (c .before .word-at .ensures)
+
+pub mark-at-spec : {M : Type 1} → statement M
+mark-at-spec = tie.close (tie.spec word-at-requires bit-requires returns)

@@ -1,0 +1,34 @@
+-- `words::parts::put_mark` meets its contract. Assumes nothing.
+use Rattle.words.proofs.Marking.{mark-put}
+use borrow.Author.Needs.{needs}
+use Rattle.words.proofs.parts.put_mark.Statement.{statement}
+use Rattle.words.proofs.parts.put_mark.Tie as tie
+use Rattle.words.proofs.parts.put_mark.Reads as reads
+use Rattle.words.proofs.parts.put_mark.Lts as lts
+use Rattle.words.proofs.bits.with_bit.Reads as with-bit-reads
+use Rattle.words.proofs.rows.put_word.Reads as put-word-reads
+use Rattle.words.proofs.rows.word_at.Reads as word-at-reads
+
+-- src/parts.rt:23:9
+word-at-requires : tie.Need-word-at-requires
+word-at-requires c κs = search needs
+
+-- src/parts.rt:24:28
+with-bit-requires : tie.Need-with-bit-requires
+with-bit-requires c κs = search needs
+
+-- src/parts.rt:24:5
+put-word-requires : tie.Need-put-word-requires
+put-word-requires c κs = search needs
+
+-- src/parts.rt:19:1
+same-length : tie.Need-same-length
+same-length c = search needs
+
+-- src/parts.rt:19:1
+returns : tie.Need-returns
+returns c = mark-put (c .before .before .before .before .before .before .before .before .args .part) (c .before .before .before .before .before .before .before .before .args .row) (c .before .before .before .before .before .before .before .before .args .mark) (c .before .before .before .before .before .word-at .ensures) (c .before .before .before .with-bit .ensures) (c .before .before .put-word .ensures)
+
+pub put-mark-spec : {M : Type 1} → statement M
+put-mark-spec =
+    tie.close (tie.spec word-at-requires with-bit-requires put-word-requires same-length returns)

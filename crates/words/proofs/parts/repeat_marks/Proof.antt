@@ -1,0 +1,70 @@
+-- `words::parts::repeat_marks` meets its contract. Assumes nothing.
+use borrow.Author.Needs.{needs}
+use native.Mathlib.Omega.{arith}
+use Prim.Native.Nat.{_-_}
+use Rattle.words.proofs.Marking.{MarksRepeating, marks-none, marks-next, marks-all}
+use mathlib.Core.Path.{_∙_}
+use Rattle.words.proofs.parts.repeat_marks.Statement.{statement}
+use Rattle.words.proofs.parts.repeat_marks.Tie as tie
+use Rattle.words.proofs.parts.repeat_marks.Reads as reads
+use Rattle.words.proofs.parts.repeat_marks.Lts as lts
+use Rattle.words.proofs.parts.mark_at.Reads as mark-at-reads
+use Rattle.words.proofs.parts.put_mark.Reads as put-mark-reads
+
+abbrev Inv-loop : tie.InvT-loop
+Inv-loop scratch₀ part cycle from end row₀ scratch row = MarksRepeating scratch₀ part cycle from end scratch row
+
+abbrev μ-loop : tie.MeasureT-loop
+μ-loop scratch₀ part cycle from end row₀ scratch row = end - row
+
+-- src/parts.rt:33:5
+loop-holds : tie.Need-loop-holds Inv-loop μ-loop
+loop-holds c = marks-none _ _ _ _ _ (c .before .pre .4)
+
+-- src/parts.rt:34:43
+sub-mark-at : tie.Need-sub-mark-at Inv-loop μ-loop
+sub-mark-at c = omega (arith, c .before .before .loop .inv .0, c .before .before .before .before .pre .3)
+
+-- src/parts.rt:34:13
+mark-at-requires : tie.Need-mark-at-requires Inv-loop μ-loop
+mark-at-requires c κs = (c .before .before .loop .inv .2 .long ∙ c .before .before .before .before .pre .0, c .before .before .before .before .pre .1, omega (arith, c .before .loop-test .taken, c .before .before .before .before .pre .5))
+
+-- src/parts.rt:35:9
+put-mark-requires : tie.Need-put-mark-requires Inv-loop μ-loop
+put-mark-requires c κs = (c .before .before .before .before .loop .inv .2 .long ∙ c .before .before .before .before .before .before .pre .0, c .before .before .before .before .before .before .pre .1, omega (arith, c .before .before .before .loop-test .taken, c .before .before .before .before .before .before .pre .5))
+
+-- src/parts.rt:36:9
+add-row : tie.Need-add-row Inv-loop μ-loop
+add-row c = omega (arith, c .before .before .before .before .before .before .loop-test .taken, c .before .before .before .before .before .before .before .before .before .pre .5)
+
+-- src/parts.rt:33:5
+loop-less : tie.Need-loop-less Inv-loop μ-loop
+loop-less c = omega (arith, c .before .before .before .before .before .before .loop-test .taken)
+
+-- src/parts.rt:33:5
+loop-again : tie.Need-loop-again Inv-loop μ-loop
+loop-again c = marks-next (c .before .before .before .before .before .before .before .before .before .pre .2) (c .before .before .before .before .before .before .before .before .before .pre .3) (c .before .before .before .before .before .before .before .loop .inv) (c .before .before .before .before .before .before .loop-test .taken) (c .before .before .before .before .mark-at .ensures) (c .before .before .put-mark .ensures)
+
+-- src/parts.rt:28:1
+same-length : tie.Need-same-length Inv-loop μ-loop
+same-length c = search needs
+
+-- src/parts.rt:28:1
+returns : tie.Need-returns Inv-loop μ-loop
+returns c = marks-all _ (c .before .loop .inv) (c .loop-test .left)
+
+pub repeat-marks-spec : {M : Type 1} → statement M
+repeat-marks-spec =
+    tie.close
+    (tie.spec
+    Inv-loop
+    μ-loop
+    loop-holds
+    sub-mark-at
+    mark-at-requires
+    put-mark-requires
+    add-row
+    loop-less
+    loop-again
+    same-length
+    returns)

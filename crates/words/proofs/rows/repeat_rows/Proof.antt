@@ -1,0 +1,70 @@
+-- `words::rows::repeat_rows` meets its contract. Assumes nothing.
+use borrow.Author.Needs.{needs}
+use native.Mathlib.Omega.{arith}
+use Prim.Native.Nat.{_-_}
+use Rattle.words.proofs.Marking.{Repeating, rows-none, rows-next, rows-all}
+use mathlib.Core.Path.{_∙_}
+use Rattle.words.proofs.rows.repeat_rows.Statement.{statement}
+use Rattle.words.proofs.rows.repeat_rows.Tie as tie
+use Rattle.words.proofs.rows.repeat_rows.Reads as reads
+use Rattle.words.proofs.rows.repeat_rows.Lts as lts
+use Rattle.words.proofs.rows.put_word.Reads as put-word-reads
+use Rattle.words.proofs.rows.word_at.Reads as word-at-reads
+
+abbrev Inv-loop : tie.InvT-loop
+Inv-loop scratch₀ cycle from end row₀ scratch row = Repeating scratch₀ cycle from scratch row
+
+abbrev μ-loop : tie.MeasureT-loop
+μ-loop scratch₀ cycle from end row₀ scratch row = end - row
+
+-- src/rows.rt:35:5
+loop-holds : tie.Need-loop-holds Inv-loop μ-loop
+loop-holds c = rows-none _ _ _
+
+-- src/rows.rt:36:37
+sub-word-at : tie.Need-sub-word-at Inv-loop μ-loop
+sub-word-at c = omega (arith, c .before .before .loop .inv .0, c .before .before .before .before .pre .2)
+
+-- src/rows.rt:36:13
+word-at-requires : tie.Need-word-at-requires Inv-loop μ-loop
+word-at-requires c κs = (c .before .before .loop .inv .1 .long ∙ c .before .before .before .before .pre .0, omega (arith, c .before .loop-test .taken, c .before .before .before .before .pre .3))
+
+-- src/rows.rt:37:9
+put-word-requires : tie.Need-put-word-requires Inv-loop μ-loop
+put-word-requires c κs = (c .before .before .before .before .loop .inv .1 .long ∙ c .before .before .before .before .before .before .pre .0, omega (arith, c .before .before .before .loop-test .taken, c .before .before .before .before .before .before .pre .3))
+
+-- src/rows.rt:38:9
+add-row : tie.Need-add-row Inv-loop μ-loop
+add-row c = omega (arith, c .before .before .before .before .before .before .loop-test .taken, c .before .before .before .before .before .before .before .before .before .pre .3)
+
+-- src/rows.rt:35:5
+loop-less : tie.Need-loop-less Inv-loop μ-loop
+loop-less c = omega (arith, c .before .before .before .before .before .before .loop-test .taken)
+
+-- src/rows.rt:35:5
+loop-again : tie.Need-loop-again Inv-loop μ-loop
+loop-again c = rows-next (c .before .before .before .before .before .before .before .before .before .pre .1) (c .before .before .before .before .before .before .before .before .before .pre .2) (c .before .before .before .before .before .before .before .loop .inv) (c .before .before .before .before .word-at .ensures) (c .before .before .put-word .ensures)
+
+-- src/rows.rt:30:1
+same-length : tie.Need-same-length Inv-loop μ-loop
+same-length c = search needs
+
+-- src/rows.rt:30:1
+returns : tie.Need-returns Inv-loop μ-loop
+returns c = rows-all (c .before .loop .inv) (c .before .before .before .args .end) (c .loop-test .left)
+
+pub repeat-rows-spec : {M : Type 1} → statement M
+repeat-rows-spec =
+    tie.close
+    (tie.spec
+    Inv-loop
+    μ-loop
+    loop-holds
+    sub-word-at
+    word-at-requires
+    put-word-requires
+    add-row
+    loop-less
+    loop-again
+    same-length
+    returns)
