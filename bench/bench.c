@@ -3,8 +3,9 @@
  * C of the same work.
  *
  * The check is timed beside C written for speed (plain_check.c, plain_sweeps.c), the
- * maker beside plain C (plain_make.c), and the settler beside both: C written for speed
- * (fast_settle.c), and plain C that begins anew with each number of passes
+ * maker beside plain C (plain_make.c), and the settler beside three: C written for speed
+ * (fast_settle.c), the same within the exported one's limits, with no array beside the
+ * scratch (small_settle.c), and plain C that begins anew with each number of passes
  * (plain_settle.c). On windows the check is timed beside a second C as well, the first one
  * but for its windows: plain C that goes through their rows one by one, with a remainder for
  * each window and row, as the exported check has too (plain_window_rows.c), where C written
@@ -26,7 +27,7 @@
  * rounds' ratios: what slows the machine down for a while slows both, and leaves
  * their ratio as it is. Before that the three checks must give the answer of the second
  * evaluator, and they must have accepted; both makers must give that answer and make
- * the second evaluator's table, byte for byte; and so with the three settlers' answers
+ * the second evaluator's table, byte for byte; and so with the four settlers' answers
  * and all bytes of both buffers. The checks must also give the second evaluator's answer
  * on tables that are refused, which are not timed: of each kind that can fail to close, a
  * part that does not and that has a wrong mark too.
@@ -42,6 +43,7 @@
 #include "plain_check.h"
 #include "plain_make.h"
 #include "plain_settle.h"
+#include "small_settle.h"
 
 #include <inttypes.h>
 #include <stdio.h>
@@ -54,7 +56,7 @@ enum { ROUNDS = 251, ROUND_NS = 500000 };
 static struct sheet made;
 static uint8_t laid_out[ENDLESS_RUN_LAID_OUT_LENGTH], scratch[ENDLESS_RUN_SETTLE_SCRATCH_LENGTH];
 
-/* ---- The eight functions ---- */
+/* ---- The nine functions ---- */
 
 typedef uint64_t work(const struct sheets *s);
 
@@ -91,6 +93,12 @@ static uint64_t settle_in_fast_c(const struct sheets *s)
 {
     return fast_settle(s->rule.at, s->rule.len, s->plan.at, s->plan.len, laid_out, sizeof laid_out,
                        scratch, sizeof scratch);
+}
+
+static uint64_t settle_in_small_c(const struct sheets *s)
+{
+    return small_settle(s->rule.at, s->rule.len, s->plan.at, s->plan.len, laid_out,
+                        sizeof laid_out, scratch, sizeof scratch);
 }
 
 static uint64_t settle_in_plain_c(const struct sheets *s)
@@ -282,6 +290,7 @@ static int settlers_agree(const char *name, const struct sheets *s)
     }
     bool agree =
         answer_is(passes, name, "settle, fast C", answer_if_laid_out(settle_in_fast_c, s)) &&
+        answer_is(passes, name, "settle, small C", answer_if_laid_out(settle_in_small_c, s)) &&
         answer_is(passes, name, "settle, plain C", answer_if_laid_out(settle_in_plain_c, s)) &&
         answer_is(passes, name, "settle, exported", answer_if_laid_out(settle, s));
     return agree ? (int)passes : -1;
@@ -351,31 +360,34 @@ static bool run_window_rows(void)
     return true;
 }
 
-/* The exported settler is timed in both pairs. The time shown is that beside fast C. */
+/* The exported settler is timed in all three pairs. The time shown is that beside fast C. */
 static bool run_late_case(const char *name, late_builder *build)
 {
+    static work *const in_c[3] = { settle_in_fast_c, settle_in_small_c, settle_in_plain_c };
     static struct sheets sheets;
-    static struct pair pairs[2];
+    static struct pair pairs[3];
     build_late_case(&sheets, build);
     int passes = settlers_agree(name, &sheets);
     if (passes < 0)
         return false;
-    start_pair(&pairs[0], &sheets, settle_in_fast_c, settle);
-    start_pair(&pairs[1], &sheets, settle_in_plain_c, settle);
-    time_pairs(pairs, 2);
-    printf("%-36s %6d %9.1f %9.1f %9.1f %7.2f %7.3f\n", name, passes, median(pairs[0].c_ns) / 1000,
-           median(pairs[1].c_ns) / 1000, median(pairs[0].exported_ns) / 1000,
-           median(pairs[0].ratio), median(pairs[1].ratio));
+    for (int i = 0; i < 3; i++)
+        start_pair(&pairs[i], &sheets, in_c[i], settle);
+    time_pairs(pairs, 3);
+    printf("%-36s %6d", name, passes);
+    for (int i = 0; i < 3; i++)
+        printf(" %9.1f", median(pairs[i].c_ns) / 1000);
+    printf(" %9.1f %7.2f %7.2f %7.3f\n", median(pairs[0].exported_ns) / 1000,
+           median(pairs[0].ratio), median(pairs[1].ratio), median(pairs[2].ratio));
     return true;
 }
 
 static bool run_late_cases(void)
 {
     bool right = true;
-    printf("\nPlans that settle late\n");
-    printf("%-36s %6s %9s %9s %9s %15s\n", "", "", "settle", "", "", "ratio to");
-    printf("%-36s %6s %9s %9s %9s %7s %7s\n", "", "passes", "fast C", "plain C", "exported",
-           "fast C", "plain C");
+    printf("\nPlans that settle late; small C is fast C in the same scratch\n");
+    printf("%-36s %6s %9s %9s %9s %9s %23s\n", "", "", "settle", "", "", "", "ratio to");
+    printf("%-36s %6s %9s %9s %9s %9s %7s %7s %7s\n", "", "passes", "fast C", "small C", "plain C",
+           "exported", "fast C", "small C", "plain C");
     right &= run_late_case("i  64 parts, the last one crosses", crossing_late);
     right &= run_late_case("j  64 parts, Y of Y of .., 60 deep", yesterdays_deep);
     right &= run_late_case("k  64 comparisons, crossing in turn", crossing_in_turn);

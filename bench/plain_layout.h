@@ -1,5 +1,5 @@
 /*
- * plain_layout.h: the bytes of a plan with passes laid out, for the two settlers in C.
+ * plain_layout.h: the bytes of a plan with passes laid out, for the settlers in C.
  *
  * Every function is static, as in plain.h.
  */
@@ -10,7 +10,7 @@
 
 #include <string.h>
 
-enum { LAID_OUT_LENGTH = 16680, SCRATCH_LENGTH = 16516 };
+enum { LAID_OUT_LENGTH = 16680, SCRATCH_LENGTH = 2048 };
 
 static inline void put32(uint8_t *at, int32_t n)
 {

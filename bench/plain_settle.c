@@ -5,7 +5,8 @@
  * the plan with so many laid out fits. Each try begins anew: the marks of the parts are
  * made on all rows, the lowest part first, until one does not close. Row t of the plan
  * with the passes laid out is position t of the first plan's run, so that plan is written
- * once, at the end. The marks stand in the scratch. Nothing of it is proved. It is the
+ * once, at the end. The marks stand on the stack, a byte for each part and row, and the
+ * scratch is cleared and not used, as in fast_settle.c. Nothing of it is proved. It is the
  * measure in bench.c.
  */
 #include "plain_settle.h"
@@ -14,6 +15,8 @@
 #include "plain_layout.h"
 #include "plain_operators.h"
 #include "plain_windows.h"
+
+enum { MOST_PARTS = 64 };
 
 /* The plan with some passes laid out. */
 struct layout {
@@ -150,6 +153,7 @@ uint64_t plain_settle(const uint8_t *rule, size_t rule_len, const uint8_t *plan,
                       size_t scratch_len)
 {
     struct plan p;
+    uint8_t marks[MOST_PARTS * MOST_ROWS];
     uint64_t refused = check_inputs(rule, rule_len, plan, plan_len, &p);
     if (refused)
         return refused;
@@ -158,7 +162,7 @@ uint64_t plain_settle(const uint8_t *rule, size_t rule_len, const uint8_t *plan,
 
     int passes = 0;
     bool fit = true;
-    while (fit && !passes_settle(rule, &p, passes, scratch))
+    while (fit && !passes_settle(rule, &p, passes, marks))
         fit = passes_fit(&p, ++passes);
     memset(scratch, 0, scratch_len);
     if (!fit)

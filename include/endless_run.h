@@ -132,9 +132,11 @@ extern "C" {
  * version 7 a plan has tops behind its sizes, and a part may be of kind 14,
  * true where a reading is pinned; a rule without such a part, on a plan whose
  * tops are all 0, is answered as in version 6 on that plan without them. The
- * buffer for the plan of endless_run_settle() is 32 bytes longer.
+ * buffer for the plan of endless_run_settle() is 32 bytes longer. In version 8
+ * its scratch has 2048 bytes, where it had 16516: the old length is refused with
+ * 13, and in one of the new length the answers and the plan are as in version 7.
  */
-#define ENDLESS_RUN_VERSION 7
+#define ENDLESS_RUN_VERSION 8
 
 /* The kind byte of a part. The comments give its operand: two terms, one part,
    two parts a and b in this order, a term and two minutes of the week, or a
@@ -205,9 +207,10 @@ enum endless_run_form {
     (4 + ENDLESS_RUN_MOST_PARTS * ENDLESS_RUN_MOST_ROWS + 2 * ENDLESS_RUN_MOST_PARTS)
 
 /* The lengths in bytes of the two buffers of endless_run_settle(): 16680, room
-   for the longest plan, and 16516. */
+   for the longest plan, and 2048, 8 for each of the most rows. Both are the same
+   for every plan, however few rows it has. */
 #define ENDLESS_RUN_LAID_OUT_LENGTH ENDLESS_RUN_LONGEST_PLAN
-#define ENDLESS_RUN_SETTLE_SCRATCH_LENGTH 16516
+#define ENDLESS_RUN_SETTLE_SCRATCH_LENGTH (8 * ENDLESS_RUN_MOST_ROWS)
 
 /*
  * The refusals. Each function looks for its own in the order of their numbers,

@@ -5,18 +5,19 @@
  *
  * One input for each worked example. For each kind of part and some sizes of plan, with
  * and without lead-in rows, the true table of a rule with all kinds up to that one,
- * windows and kind 14 last. For Y, Z, S and T the true table on each plan of three rows
- * of 0 and 1, whether it closes or not, and the same with a part above that does not name
- * it; and each with a wrong mark, in that part or in one below. Atoms of each kind that
+ * windows and kind 14 last. For Y, Z, S and T the true table on each plan of three rows of
+ * 0 and 1, whether it closes or not, and the same with a part above that does not name it;
+ * and each with a wrong mark, in that part or in one below. Atoms of each kind that
  * change, with a wrong mark. For each L and each shift back the true table of comparisons
  * that look back, on a lead-in that goes on as the cycle does, on one that does not, and
  * on one that has a drift; and plans with a wrong L. Rules and plans that settle after
  * some passes, by Y, Z, S and T over one another or by a drift, or for which there is no
- * room; and lengths of the buffers of settle. Windows by both ends and over the end of
- * the week, with readings below 0 and at the ends of 32 bits, with drifts that share some
- * divisor with the week, and with faults in their operands. Readings that rise to a top
- * or fall from it, on an early pass, on a late one or never, held against a number,
- * against one another and against a window; and wrong tops and operands.
+ * room; lengths of the buffers of settle; and 64 parts on 256 rows, of which two make a
+ * chain of marks from row to row. Windows by both ends and over the end of the week, with
+ * readings below 0 and at the ends of 32 bits, with drifts that share some divisor with
+ * the week, and with faults in their operands. Readings that rise to a top or fall from
+ * it, on an early pass, on a late one or never, held against a number, against one another
+ * and against a window; and wrong tops and operands.
  */
 #include "../support/examples.h"
 
@@ -230,6 +231,7 @@ static void write_crossing(int passes, int room, int start, int cycle)
         { LAID_OUT_LENGTH - 1, SCRATCH_LENGTH }, { LAID_OUT_LENGTH + 1, SCRATCH_LENGTH },
         { LAID_OUT_LENGTH, SCRATCH_LENGTH - 1 }, { LAID_OUT_LENGTH, SCRATCH_LENGTH + 1 },
         { SCRATCH_LENGTH, LAID_OUT_LENGTH },     { 0, 0 },
+        { LAID_OUT_LENGTH, 16516 }, /* before version 8 */
     };
     char name[64];
     start_rule(&rule, 2, 2);
@@ -243,7 +245,7 @@ static void write_crossing(int passes, int room, int start, int cycle)
     write_true_marks_of(&marks, &space, &rule, &plan);
     snprintf(name, sizeof name, "crossing-%d-room-%d-start-%d-cycle-%d", passes, room, start,
              cycle);
-    write_input(name, lengths[passes % 6][0], lengths[passes % 6][1]);
+    write_input(name, lengths[passes % 7][0], lengths[passes % 7][1]);
 }
 
 static void write_all_late(void)
@@ -253,7 +255,7 @@ static void write_all_late(void)
             for (int back = 0; back <= 4; back += 2)
                 for (int cycle = 1; cycle <= 3; cycle++)
                     write_late((enum kind)kind, depth, back, cycle % 2 ? 0 : 2, cycle);
-    for (int passes = 0; passes <= 5; passes++)
+    for (int passes = 0; passes <= 6; passes++)
         for (int room = 3; room <= 4; room++) {
             write_crossing(passes, room, 0, 1);
             write_crossing(passes, room, 1, 2);
@@ -261,6 +263,42 @@ static void write_all_late(void)
         }
     for (int passes = 254; passes <= 257; passes++)
         write_crossing(passes, 300, 0, 1);
+}
+
+/* Of 64 parts a is true on all rows but the last and b on row 0 alone, where none is missing,
+   and the last part is a S b or the T of the negations: one pass is due, and 256 rows. The
+   other parts are always true or always false. There is no table, as it would be long. */
+static void write_chain(enum kind kind, int a, int b, bool others, int missing)
+{
+    enum { CYCLE = 16, START = MOST_ROWS - 2 * CYCLE };
+    char name[64];
+    start_rule(&rule, MOST_PARTS, 1);
+    for (int part = 0; part < MOST_PARTS; part++)
+        write_comparison(&rule, part, LESS, constant(0), constant(others));
+    for (int i = 0; i < 2; i++)
+        write_comparison(&rule, i == 0 ? a : b, LESS, kind == SINCE ? constant(i) : reading(0, 0),
+                         kind == SINCE ? reading(0, 0) : constant(i + 1));
+    write_binary(&rule, MOST_PARTS - 1, kind, a, b);
+    start_plan(&plan, 1, START, CYCLE);
+    for (int row = 0; row < START + CYCLE - 1; row++)
+        write_reading(&plan, row, 0, row == 0 ? 2 : row != missing);
+    resize(&marks, 0);
+    snprintf(name, sizeof name, "chain-%d-of-%d-and-%d-others-%d-missing-%d", (int)kind, a, b,
+             others, missing);
+    write_input(name, LAID_OUT_LENGTH, SCRATCH_LENGTH);
+}
+
+static void write_chains(void)
+{
+    static const int parts[][2] = { { 0, 1 },   { 7, 8 },   { 31, 32 },
+                                    { 55, 56 }, { 62, 61 }, { 5, 62 } };
+    static const int rows[] = { 0, 1, 63, 64, 127, 128, 223 };
+    for (int i = 0; i < 6; i++)
+        for (int k = 0; k < 7; k++)
+            for (int others = 0; others < 2; others++) {
+                write_chain(SINCE, parts[i][0], parts[i][1], others, rows[k]);
+                write_chain(TRIGGER, parts[i][0], parts[i][1], others, rows[k]);
+            }
 }
 
 /* Windows of a clock, looked at now and two positions back, and an operator over them. */
@@ -388,6 +426,7 @@ int main(int argc, char **argv)
                 write_looking_back(lead, start, shift);
     write_wrong_leads();
     write_all_late();
+    write_chains();
     write_clocks();
     write_wrong_windows();
     write_all_topped();

@@ -84,6 +84,7 @@ void test_tops(void);
 void test_top_rows(void);
 void test_making(void);
 void test_settling(void);
+void test_scratch(void);
 void test_vectors(void);
 void test_header(void);
 void test_random(uint64_t seed, unsigned long cases);

@@ -6,8 +6,9 @@
  *
  * The worked examples, the neighbours of each refusal, parts that do not close and have
  * wrong marks, lead-in rows, windows of the week, tops, the tables that are made, the
- * passes that are laid out, worked vectors from the papers, the header's constants and
- * functions, then random cases against the second evaluator. The same seed gives the same cases.
+ * passes that are laid out and the scratch for it, worked vectors from the papers, the
+ * header's constants and functions, then random cases against the second evaluator. The same
+ * seed gives the same cases.
  * The last line is 'N passed, M failed'; the exit status is 0 only if M is 0.
  */
 #include "expect.h"
@@ -37,6 +38,7 @@ int main(int argc, char **argv)
     run_group("tops on plans of more rows", test_top_rows);
     run_group("tables made", test_making);
     run_group("passes laid out", test_settling);
+    run_group("the scratch of settle", test_scratch);
     run_group("worked vectors", test_vectors);
     run_group("header", test_header);
     test_random(seed, cases);

@@ -35,7 +35,10 @@ static struct {
     unsigned long too_small; /* refused 15 for one below */
     unsigned long unread;    /* refused 15 for a channel that no atom reads */
     unsigned long both[2];   /* refused 13 where the right lengths settle, and give 15 */
+    unsigned long older;     /* refused 13 for a scratch of the length before version 8 */
 } counts;
+
+enum { OLDER_SCRATCH = 16516 };
 
 /* ---- Settled ---- */
 
@@ -196,6 +199,7 @@ void print_settle_counts(unsigned long cases)
         }
     hold_to_floor("settle refused 13, right lengths settle", counts.both[0], cases, 100);
     hold_to_floor("settle refused 13, right lengths give 15", counts.both[1], cases, 50);
+    hold_to_floor("settle refused 13, the older scratch", counts.older, cases, 10);
     hold_to_floor("settled by a pass, under tops", counts.topped[0], cases, 200);
     hold_to_floor("settle refused 15, under tops", counts.topped[1], cases, 100);
     hold_to_floor("settle refused 15 for the rows", counts.rows, cases, 200);
@@ -208,7 +212,7 @@ void print_settle_counts(unsigned long cases)
 
 static size_t some_length(size_t right, size_t other)
 {
-    size_t wrong[] = { 0, 1, right - 1, right + 1, other, case_plan.len,
+    size_t wrong[] = { 0, 1, right - 1, right + 1, other, case_plan.len, OLDER_SCRATCH,
                        (size_t)below(SHEET_LONGEST) };
     return wrong[below(sizeof wrong / sizeof wrong[0])];
 }
@@ -240,4 +244,6 @@ void ask_to_settle(const char *name)
     count_answer(answer);
     if (answer == refusal(13, 0, 0))
         counts.both[endless_run_is_refusal(settled)]++;
+    counts.older += answer == refusal(13, 0, 0) && laid_out.len == right &&
+                    scratch.len == OLDER_SCRATCH;
 }

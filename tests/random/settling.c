@@ -407,6 +407,7 @@ static void longest(void)
 
 static const size_t plan_bytes = ENDLESS_RUN_LAID_OUT_LENGTH;
 static const size_t scratch_bytes = ENDLESS_RUN_SETTLE_SCRATCH_LENGTH;
+static const size_t older_scratch = 16516; /* before version 8 */
 
 static void settle_in(const char *name, size_t laid_out_len, size_t scratch_len, uint64_t answer)
 {
@@ -420,8 +421,9 @@ static void settle_in(const char *name, size_t laid_out_len, size_t scratch_len,
 static void other_lengths(const char *name)
 {
     uint64_t thirteen = refusal(13, 0, 0);
-    size_t wrong[] = { 0, 1, 8, endless_run_plan_length(plan.at), 2048, plan_bytes - 1,
-                       plan_bytes + 1, scratch_bytes - 1, scratch_bytes + 1, 16648, SHEET_LONGEST };
+    size_t wrong[] = { 0, 1, 8, endless_run_plan_length(plan.at), plan_bytes - 1, plan_bytes + 1,
+                       scratch_bytes - 1, scratch_bytes + 1, 2 * scratch_bytes, 16648,
+                       older_scratch - 1, older_scratch, SHEET_LONGEST };
     size_t count = sizeof wrong / sizeof wrong[0];
     for (size_t i = 0; i < count; i++) {
         settle_in(name, wrong[i], scratch_bytes, thirteen);
@@ -432,6 +434,7 @@ static void other_lengths(const char *name)
     settle_in(name, scratch_bytes, plan_bytes, thirteen);
     settle_in(name, plan_bytes, plan_bytes, thirteen);
     settle_in(name, scratch_bytes, scratch_bytes, thirteen);
+    settle_in(name, older_scratch, older_scratch, thirteen);
     for (int times = 0; times < 8; times++) { /* by null pointers and by others */
         settle_in("no buffer for the plan", 0, scratch_bytes, thirteen);
         settle_in("no scratch", plan_bytes, 0, thirteen);
@@ -470,9 +473,25 @@ static void lengths(void)
     write_one(1, LESS, x(0), constant(0));
     settle_in("right lengths, closes", plan_bytes, scratch_bytes, 0);
     other_lengths("other length, closes");
+    drifting_plan(0, 1, 0, 0);
+    other_lengths("other length, nothing drifts");
 }
 
 /* ---- The order ---- */
+
+/* The same in no buffers, and in a scratch of the older length. */
+static void settle_in_wrong(const char *name, uint64_t answer)
+{
+    settle_in(name, 0, 0, answer);
+    settle_in(name, plan_bytes, older_scratch, answer);
+}
+
+/* In buffers of the right lengths too. */
+static void settle_in_any(const char *name, uint64_t answer)
+{
+    settle_in_wrong(name, answer);
+    settle_in(name, plan_bytes, scratch_bytes, answer);
+}
 
 /* Everything wrong at once, then put right one after the other. */
 static void order(void)
@@ -486,27 +505,27 @@ static void order(void)
     resize(&rule, 3);
     start_plan(&plan, 1, 0, 1);
     resize(&plan, 7);
-    settle_in(name, 0, 0, refusal(1, 0, 0));
+    settle_in_any(name, refusal(1, 0, 0));
     rule = right_rule;
     *kind_byte(&rule, 1) = 15;
     operand_bytes(&rule, 0)[0] = 2;
-    settle_in(name, 0, 0, refusal(2, 1, 0));
+    settle_in_any(name, refusal(2, 1, 0));
     *kind_byte(&rule, 1) = YESTERDAY;
-    settle_in(name, 0, 0, refusal(3, 0, 0));
+    settle_in_any(name, refusal(3, 0, 0));
     rule = right_rule;
-    settle_in(name, 0, 0, refusal(4, 0, 0));
+    settle_in_any(name, refusal(4, 0, 0));
     start_plan_with_lead(&plan, 2, 1, 1, 1);
     write_drift(&plan, -1, 0, 1);
-    settle_in(name, 0, 0, refusal(5, 0, 0));
+    settle_in_any(name, refusal(5, 0, 0));
     start_plan_with_lead(&plan, 1, 1, 2, 1);
     write_drift(&plan, -1, 0, 1);
-    settle_in(name, 0, 0, refusal(6, 0, 0));
+    settle_in_any(name, refusal(6, 0, 0));
     write_drift(&plan, -1, 0, 0);
     write_drift(&plan, 1, 0, 1);
-    settle_in(name, 0, 0, refusal(6, 0, 1));
+    settle_in_any(name, refusal(6, 0, 1));
     write_drift(&plan, 1, 0, 0);
     write_drift(&plan, 2, 0, 1);
-    settle_in(name, 0, 0, refusal(13, 0, 0));
+    settle_in_wrong(name, refusal(13, 0, 0));
     settle_in(name, plan_bytes, scratch_bytes - 1, refusal(13, 0, 0));
     settle_in(name, plan_bytes, scratch_bytes, none);
     write_drift(&plan, 2, 0, 100);

@@ -218,7 +218,7 @@ uint64_t second_make(struct truth *space, struct slice rule, struct slice plan, 
 
 /* ---- Passes laid out (settle.c) ---- */
 
-enum { LAID_OUT_LENGTH = 16680, SCRATCH_LENGTH = 16516 };
+enum { LAID_OUT_LENGTH = 16680, SCRATCH_LENGTH = 2048 };
 
 /* Lay out the first pass of the cycle as start rows. False, and the plan as it was,
    where it would have more than 256 rows or a reading of more than 32 bits. */
