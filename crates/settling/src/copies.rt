@@ -92,8 +92,8 @@ fn before(scratch: &[u8], a: usize, first: bool, row: usize) -> bool
     }
 }
 
-// Y or Z, before row 0 of which `first` counts. It closes where the rows before row P and before the last one's next, which is row P
-// again, have the same mark; its marks are made only then.
+// Y or Z, before row 0 of which `first` counts. It closes where what comes before row P the first time and row W - 1, which comes before
+// it later on, have the same mark; its marks are made only then.
 pub fn try_before(scratch: &mut [u8], laid: Sizes, i: usize, a: usize, first: bool) -> bool
     requires { ⌜ (Room (now scratch)) × (i < mostParts) × (a < i) × (1 ≤ laid .cycle) × (allRows laid ≤ mostRows) ⌝ }
     ensures { λ r. ⌜ Tried (now (scratch .entry)) (now (scratch .exit)) i (allRows laid) (markBeside 0 0 (Before first) (markAt (now (scratch .entry)) a)) (Bool·beq (markBeside 0 0 (Before first) (markAt (now (scratch .entry)) a) (laid .start)) (markAt (now (scratch .entry)) a (laid .start + laid .cycle - 1))) r ⌝ }

@@ -26,22 +26,22 @@ abbrev pub isNone : Option ℕ → Bool
 isNone none = true
 isNone (some k) = false
 
--- A part that has been tried on w rows. It closes or not,
-pub record Tried (old new : List ℕ) (i w : ℕ) (mark : ℕ → Bool) (closing closes : Bool) : Type 0 where
-  pub outcome : closes ≡ closing
-  -- there is as much room as before, and the marks of the lower parts are what they were,
+-- A part that has been tried on w rows. The answer is whether it closes;
+pub record Tried (old new : List ℕ) (i w : ℕ) (mark : ℕ → Bool) (closing answer : Bool) : Type 0 where
+  pub outcome : answer ≡ closing
+  -- there is as much room as before, and the marks of the lower parts are what they were;
   pub long : length new ≡ length old
   pub lower : (a : ℕ) → a < i → (row : ℕ) → markAt new a row ≡ markAt old a row
-  -- and where it closes, its marks are made
-  pub made : closes ≡ true → (row : ℕ) → row < w → markAt new i row ≡ mark row
+  -- where it closes, its marks are made
+  pub made : answer ≡ true → (row : ℕ) → row < w → markAt new i row ≡ mark row
 
 -- Part i, which is an operator, with P start rows and C cycle rows.
 abbrev pub OperatorTried : ℕ → ℕ → List ℕ → List ℕ → ℕ → Operator → Bool → Type 0
-OperatorTried P C old new i o closing = Tried old new i (P + C) (operatorLabel P C (markAt old) o) (closes P C (markAt old) o) closing
+OperatorTried P C old new i o answer = Tried old new i (P + C) (operatorLabel P C (markAt old) o) (closes P C (markAt old) o) answer
 
 -- Part i on a layout.
 abbrev pub PartTried : List ℕ → List ℕ → List ℕ → ℕ → View → Bool → Type 0
-PartTried layout old new i p closing = Tried old new i (rows layout) (labelOf layout (markAt old) p) (isClear (closingOutcome layout (markAt old) p i)) closing
+PartTried layout old new i p answer = Tried old new i (rows layout) (labelOf layout (markAt old) p) (isClear (closingOutcome layout (markAt old) p i)) answer
 
 -- In the scratch the marks of the parts below i are made, on the rows of a layout.
 pub record MadeTo (rule layout scratch : List ℕ) (i : ℕ) : Type 0 where

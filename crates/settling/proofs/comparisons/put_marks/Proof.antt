@@ -59,7 +59,13 @@ same-length-3 c = search needs
 
 -- src/comparisons.rt:58:1
 returns-3 : tie.Need-returns-3
-returns-3 c = marks-repeat (now (c .before .before .before .before .before .before .before .before .before .before .before .before .before .before .args .plan)) (c .before .before .before .before .before .before .before .before .before .before .before .before .before .before .pre .0) (c .before .before .before .before .before .before .before .before .before .before .before .before .before .before .args .comparison) (c .before .before .before .before .before .before .before .before .before .before .before .before .before .before .pre .1) (sym (passed (c .before .before .before .before .before .before .before .before .before .before .steady .ensures) (c .before .before .before .before .before .before .before .before .before .if2 .left))) (c .before .before .before .before .before .before .put-truths3 .ensures) (c .before .before .repeat-marks .ensures) (omega (arith, c .before .before .before .before .before .before .before .before .before .before .before .before .before .before .pre .5))
+returns-3 c =
+    let start = c .before .before .before .before .before .before .before .before .before .before .before .before .before .before in
+    let steady = c .before .before .before .before .before .before .before .before .before .before .steady in
+    let if2 = c .before .before .before .before .before .before .before .before .before .if2 in
+    let put-truths3 = c .before .before .before .before .before .before .put-truths3 in
+    let repeat-marks = c .before .before .repeat-marks in
+    marks-repeat (now (start .args .plan)) (start .pre .0) (start .args .comparison) (start .pre .1) (sym (passed (steady .ensures) (if2 .left))) (put-truths3 .ensures) (repeat-marks .ensures) (omega (arith, start .pre .5))
 
 pub put-marks-spec : {M : Type 1} → statement M
 put-marks-spec =

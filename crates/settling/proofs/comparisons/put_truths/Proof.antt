@@ -24,15 +24,25 @@ loop-holds c = law.upward-none _ _ _ _
 
 -- src/comparisons.rt:51:33
 test-at-requires : tie.Need-test-at-requires Inv-loop μ-loop
-test-at-requires c κs = (c .before .before .before .before .before .pre .0, c .before .before .before .before .before .pre .1, omega (arith, c .before .loop-test .taken, c .before .before .before .before .before .pre .4))
+test-at-requires c κs =
+    let start = c .before .before .before .before .before in
+    let loop-test = c .before .loop-test in
+    (start .pre .0, start .pre .1, omega (arith, loop-test .taken, start .pre .4))
 
 -- src/comparisons.rt:51:9
 put-mark-requires : tie.Need-put-mark-requires Inv-loop μ-loop
-put-mark-requires c κs = (c .before .before .before .loop .inv .1 .long ∙ c .before .before .before .before .before .before .pre .2, c .before .before .before .before .before .before .pre .3, omega (arith, c .before .before .loop-test .taken, c .before .before .before .before .before .before .pre .4))
+put-mark-requires c κs =
+    let start = c .before .before .before .before .before .before in
+    let loop = c .before .before .before .loop in
+    let loop-test = c .before .before .loop-test in
+    (loop .inv .1 .long ∙ start .pre .2, start .pre .3, omega (arith, loop-test .taken, start .pre .4))
 
 -- src/comparisons.rt:52:9
 add-t : tie.Need-add-t Inv-loop μ-loop
-add-t c = omega (arith, c .before .before .before .before .before .loop-test .taken, c .before .before .before .before .before .before .before .before .before .pre .4)
+add-t c =
+    let start = c .before .before .before .before .before .before .before .before .before in
+    let loop-test = c .before .before .before .before .before .loop-test in
+    omega (arith, loop-test .taken, start .pre .4)
 
 -- src/comparisons.rt:50:5
 loop-less : tie.Need-loop-less Inv-loop μ-loop
@@ -40,7 +50,12 @@ loop-less c = omega (arith, c .before .before .before .before .before .loop-test
 
 -- src/comparisons.rt:50:5
 loop-again : tie.Need-loop-again Inv-loop μ-loop
-loop-again c = law.upward-next _ _ _ (c .before .before .before .before .before .before .loop .inv) (c .before .before .before .before .before .loop-test .taken) (c .before .before .before .test-at .ensures) (c .before .before .put-mark .ensures)
+loop-again c =
+    let loop = c .before .before .before .before .before .before .loop in
+    let loop-test = c .before .before .before .before .before .loop-test in
+    let test-at = c .before .before .before .test-at in
+    let put-mark = c .before .before .put-mark in
+    law.upward-next _ _ _ (loop .inv) (loop-test .taken) (test-at .ensures) (put-mark .ensures)
 
 -- src/comparisons.rt:38:1
 same-length : tie.Need-same-length Inv-loop μ-loop
@@ -48,7 +63,10 @@ same-length c = search needs
 
 -- src/comparisons.rt:38:1
 returns : tie.Need-returns Inv-loop μ-loop
-returns c = law.upward-all _ _ _ (c .before .loop .inv) (c .loop-test .left)
+returns c =
+    let loop = c .before .loop in
+    let loop-test = c .loop-test in
+    law.upward-all _ _ _ (loop .inv) (loop-test .left)
 
 pub put-truths-spec : {M : Type 1} → statement M
 put-truths-spec =

@@ -16,15 +16,24 @@ sub-mark-at c = search needs
 
 -- src/copies.rt:91:9
 mark-at-requires : tie.Need-mark-at-requires
-mark-at-requires c κs = (c .before .before .pre .0, c .before .before .pre .1, omega (arith, c .before .before .pre .2))
+mark-at-requires c κs =
+    let start = c .before .before in
+    (start .pre .0, start .pre .1, omega (arith, start .pre .2))
 
 -- src/copies.rt:84:1
 returns : tie.Need-returns
-returns c = moved-first (c .before .before .args .first) (markAt (now (c .before .before .args .scratch)) (c .before .before .args .a)) (c .before .before .args .row) (c .if1 .taken)
+returns c =
+    let start = c .before .before in
+    let if1 = c .if1 in
+    moved-first (start .args .first) (markAt (now (start .args .scratch)) (start .args .a)) (start .args .row) (if1 .taken)
 
 -- src/copies.rt:84:1
 returns-2 : tie.Need-returns-2
-returns-2 c = moved-later (c .before .before .before .args .first) (markAt (now (c .before .before .before .args .scratch)) (c .before .before .before .args .a)) (c .before .before .before .args .row) (c .before .if1 .left) (c .mark-at .ensures)
+returns-2 c =
+    let start = c .before .before .before in
+    let if1 = c .before .if1 in
+    let mark-at = c .mark-at in
+    moved-later (start .args .first) (markAt (now (start .args .scratch)) (start .args .a)) (start .args .row) (if1 .left) (mark-at .ensures)
 
 pub before-spec : {M : Type 1} → statement M
 before-spec = tie.close (tie.spec sub-mark-at mark-at-requires returns returns-2)

@@ -24,19 +24,33 @@ loop-holds c = law.upward-none _ _ _ _
 
 -- src/copies.rt:53:40
 add-mark-at : tie.Need-add-mark-at Inv-loop μ-loop
-add-mark-at c = omega (arith, c .before .loop-test .taken, c .before .before .before .before .pre .3)
+add-mark-at c =
+    let start = c .before .before .before .before in
+    let loop-test = c .before .loop-test in
+    omega (arith, loop-test .taken, start .pre .3)
 
 -- src/copies.rt:53:13
 mark-at-requires : tie.Need-mark-at-requires Inv-loop μ-loop
-mark-at-requires c κs = (c .before .before .loop .inv .1 .long ∙ c .before .before .before .before .pre .0, omega (arith, c .before .before .before .before .pre .1, c .before .before .before .before .pre .2), omega (arith, c .before .loop-test .taken, c .before .before .before .before .pre .3))
+mark-at-requires c κs =
+    let start = c .before .before .before .before in
+    let loop = c .before .before .loop in
+    let loop-test = c .before .loop-test in
+    (loop .inv .1 .long ∙ start .pre .0, omega (arith, start .pre .1, start .pre .2), omega (arith, loop-test .taken, start .pre .3))
 
 -- src/copies.rt:54:9
 put-mark-requires : tie.Need-put-mark-requires Inv-loop μ-loop
-put-mark-requires c κs = (c .before .before .before .before .loop .inv .1 .long ∙ c .before .before .before .before .before .before .pre .0, c .before .before .before .before .before .before .pre .1, omega (arith, c .before .before .before .loop-test .taken, c .before .before .before .before .before .before .pre .3))
+put-mark-requires c κs =
+    let start = c .before .before .before .before .before .before in
+    let loop = c .before .before .before .before .loop in
+    let loop-test = c .before .before .before .loop-test in
+    (loop .inv .1 .long ∙ start .pre .0, start .pre .1, omega (arith, loop-test .taken, start .pre .3))
 
 -- src/copies.rt:55:9
 add-row : tie.Need-add-row Inv-loop μ-loop
-add-row c = omega (arith, c .before .before .before .before .before .before .loop-test .taken, c .before .before .before .before .before .before .before .before .before .pre .3)
+add-row c =
+    let start = c .before .before .before .before .before .before .before .before .before in
+    let loop-test = c .before .before .before .before .before .before .loop-test in
+    omega (arith, loop-test .taken, start .pre .3)
 
 -- src/copies.rt:52:5
 loop-less : tie.Need-loop-less Inv-loop μ-loop
@@ -44,7 +58,13 @@ loop-less c = omega (arith, c .before .before .before .before .before .before .l
 
 -- src/copies.rt:52:5
 loop-again : tie.Need-loop-again Inv-loop μ-loop
-loop-again c = law.upward-next _ _ _ (c .before .before .before .before .before .before .before .loop .inv) (c .before .before .before .before .before .before .loop-test .taken) (c .before .before .before .before .mark-at .ensures ∙ c .before .before .before .before .before .before .before .loop .inv .1 .lower _ (c .before .before .before .before .before .before .before .before .before .pre .2) _) (c .before .before .put-mark .ensures)
+loop-again c =
+    let start = c .before .before .before .before .before .before .before .before .before in
+    let loop = c .before .before .before .before .before .before .before .loop in
+    let loop-test = c .before .before .before .before .before .before .loop-test in
+    let mark-at = c .before .before .before .before .mark-at in
+    let put-mark = c .before .before .put-mark in
+    law.upward-next _ _ _ (loop .inv) (loop-test .taken) (mark-at .ensures ∙ loop .inv .1 .lower _ (start .pre .2) _) (put-mark .ensures)
 
 -- src/copies.rt:47:1
 same-length : tie.Need-same-length Inv-loop μ-loop
@@ -52,7 +72,10 @@ same-length c = search needs
 
 -- src/copies.rt:47:1
 returns : tie.Need-returns Inv-loop μ-loop
-returns c = law.upward-all _ _ _ (c .before .loop .inv) (c .loop-test .left)
+returns c =
+    let loop = c .before .loop in
+    let loop-test = c .loop-test in
+    law.upward-all _ _ _ (loop .inv) (loop-test .left)
 
 pub mark-after-spec : {M : Type 1} → statement M
 mark-after-spec =

@@ -31,11 +31,19 @@ sub-mark-at c = omega (arith, c .before .loop-test .taken)
 
 -- src/copies.rt:78:13
 mark-at-requires : tie.Need-mark-at-requires Inv-loop μ-loop
-mark-at-requires c κs = (c .before .before .loop .inv .2 .long ∙ c .before .before .before .before .pre .0, omega (arith, c .before .before .before .before .pre .1, c .before .before .before .before .pre .2), omega (arith, c .before .before .loop .inv .1, c .before .loop-test .taken, c .before .before .before .before .pre .4))
+mark-at-requires c κs =
+    let start = c .before .before .before .before in
+    let loop = c .before .before .loop in
+    let loop-test = c .before .loop-test in
+    (loop .inv .2 .long ∙ start .pre .0, omega (arith, start .pre .1, start .pre .2), omega (arith, loop .inv .1, loop-test .taken, start .pre .4))
 
 -- src/copies.rt:79:9
 put-mark-requires : tie.Need-put-mark-requires Inv-loop μ-loop
-put-mark-requires c κs = (c .before .before .before .before .loop .inv .2 .long ∙ c .before .before .before .before .before .before .pre .0, c .before .before .before .before .before .before .pre .1, omega (arith, c .before .before .before .before .loop .inv .1, c .before .before .before .loop-test .taken, c .before .before .before .before .before .before .pre .4))
+put-mark-requires c κs =
+    let start = c .before .before .before .before .before .before in
+    let loop = c .before .before .before .before .loop in
+    let loop-test = c .before .before .before .loop-test in
+    (loop .inv .2 .long ∙ start .pre .0, start .pre .1, omega (arith, loop .inv .1, loop-test .taken, start .pre .4))
 
 -- src/copies.rt:76:5
 loop-less : tie.Need-loop-less Inv-loop μ-loop
@@ -43,7 +51,13 @@ loop-less c = omega (arith, c .before .before .before .before .before .before .l
 
 -- src/copies.rt:76:5
 loop-again : tie.Need-loop-again Inv-loop μ-loop
-loop-again c = law.moving-next (c .before .before .before .before .before .before .before .before .before .pre .2) (c .before .before .before .before .before .before .before .loop .inv) (c .before .before .before .before .before .before .loop-test .taken) (c .before .before .before .before .mark-at .ensures) (c .before .before .put-mark .ensures)
+loop-again c =
+    let start = c .before .before .before .before .before .before .before .before .before in
+    let loop = c .before .before .before .before .before .before .before .loop in
+    let loop-test = c .before .before .before .before .before .before .loop-test in
+    let mark-at = c .before .before .before .before .mark-at in
+    let put-mark = c .before .before .put-mark in
+    law.moving-next (start .pre .2) (loop .inv) (loop-test .taken) (mark-at .ensures) (put-mark .ensures)
 
 -- src/copies.rt:71:1
 same-length : tie.Need-same-length Inv-loop μ-loop
@@ -51,7 +65,10 @@ same-length c = search needs
 
 -- src/copies.rt:71:1
 returns : tie.Need-returns Inv-loop μ-loop
-returns c = law.moving-all _ (c .before .loop .inv) (omega (arith, c .loop-test .left))
+returns c =
+    let loop = c .before .loop in
+    let loop-test = c .loop-test in
+    law.moving-all _ (loop .inv) (omega (arith, loop-test .left))
 
 pub mark-before-spec : {M : Type 1} → statement M
 mark-before-spec =

@@ -25,7 +25,11 @@ loop-holds c = law.upward-none _ _ _ _
 
 -- src/copies.rt:40:25
 mark-at-requires : tie.Need-mark-at-requires Inv-loop μ-loop
-mark-at-requires c κs = (c .before .before .loop .inv .1 .long ∙ c .before .before .before .before .pre .0, omega (arith, c .before .before .before .before .pre .1, c .before .before .before .before .pre .3), omega (arith, c .before .loop-test .taken, c .before .before .before .before .pre .4))
+mark-at-requires c κs =
+    let start = c .before .before .before .before in
+    let loop = c .before .before .loop in
+    let loop-test = c .before .loop-test in
+    (loop .inv .1 .long ∙ start .pre .0, omega (arith, start .pre .1, start .pre .3), omega (arith, loop-test .taken, start .pre .4))
 
 -- src/copies.rt:40:20
 flip-requires : tie.Need-flip-requires Inv-loop μ-loop
@@ -33,7 +37,11 @@ flip-requires c κs = search needs
 
 -- src/copies.rt:40:62
 mark-at-requires-2 : tie.Need-mark-at-requires-2 Inv-loop μ-loop
-mark-at-requires-2 c κs = (c .before .before .before .before .before .loop .inv .1 .long ∙ c .before .before .before .before .before .before .before .pre .0, omega (arith, c .before .before .before .before .before .before .before .pre .1, c .before .before .before .before .before .before .before .pre .2), omega (arith, c .before .before .before .before .loop-test .taken, c .before .before .before .before .before .before .before .pre .4))
+mark-at-requires-2 c κs =
+    let start = c .before .before .before .before .before .before .before in
+    let loop = c .before .before .before .before .before .loop in
+    let loop-test = c .before .before .before .before .loop-test in
+    (loop .inv .1 .long ∙ start .pre .0, omega (arith, start .pre .1, start .pre .2), omega (arith, loop-test .taken, start .pre .4))
 
 -- src/copies.rt:40:57
 flip-requires-2 : tie.Need-flip-requires-2 Inv-loop μ-loop
@@ -45,19 +53,38 @@ flip-requires-3 c κs = search needs
 
 -- src/copies.rt:41:9
 put-mark-requires : tie.Need-put-mark-requires Inv-loop μ-loop
-put-mark-requires c κs = (c .before .before .before .before .before .before .before .before .before .loop .inv .1 .long ∙ c .before .before .before .before .before .before .before .before .before .before .before .pre .0, c .before .before .before .before .before .before .before .before .before .before .before .pre .1, omega (arith, c .before .before .before .before .before .before .before .before .loop-test .taken, c .before .before .before .before .before .before .before .before .before .before .before .pre .4))
+put-mark-requires c κs =
+    let start = c .before .before .before .before .before .before .before .before .before .before .before in
+    let loop = c .before .before .before .before .before .before .before .before .before .loop in
+    let loop-test = c .before .before .before .before .before .before .before .before .loop-test in
+    (loop .inv .1 .long ∙ start .pre .0, start .pre .1, omega (arith, loop-test .taken, start .pre .4))
 
 -- src/copies.rt:42:9
 add-row : tie.Need-add-row Inv-loop μ-loop
-add-row c = omega (arith, c .before .before .before .before .before .before .before .before .before .before .before .loop-test .taken, c .before .before .before .before .before .before .before .before .before .before .before .before .before .before .pre .4)
+add-row c =
+    let start = c .before .before .before .before .before .before .before .before .before .before .before .before .before .before in
+    let loop-test = c .before .before .before .before .before .before .before .before .before .before .before .loop-test in
+    omega (arith, loop-test .taken, start .pre .4)
 
 -- src/copies.rt:39:5
 loop-less : tie.Need-loop-less Inv-loop μ-loop
-loop-less c = omega (arith, c .before .before .before .before .before .before .before .before .before .before .before .loop-test .taken)
+loop-less c =
+    let loop-test = c .before .before .before .before .before .before .before .before .before .before .before .loop-test in
+    omega (arith, loop-test .taken)
 
 -- src/copies.rt:39:5
 loop-again : tie.Need-loop-again Inv-loop μ-loop
-loop-again c = law.upward-next _ _ _ (c .before .before .before .before .before .before .before .before .before .before .before .before .loop .inv) (c .before .before .before .before .before .before .before .before .before .before .before .loop-test .taken) (joined-on _ _ _ _ _ (c .before .before .before .before .before .before .before .before .before .before .before .before .before .before .args .of) (c .before .before .before .before .before .before .before .before .before .before .before .before .before .before .args .opposite) (c .before .before .before .before .before .before .before .before .before .before .before .before .before .before .pre .2) (c .before .before .before .before .before .before .before .before .before .before .before .before .before .before .pre .3) (c .before .before .before .before .before .before .before .before .before .before .before .before .loop .inv .1 .lower) (c .before .before .before .before .before .before .before .before .before .mark-at .ensures) (c .before .before .before .before .before .before .before .before .flip .ensures) (c .before .before .before .before .before .before .mark-at2 .ensures) (c .before .before .before .before .before .flip2 .ensures) (c .before .before .before .flip3 .ensures)) (c .before .before .put-mark .ensures)
+loop-again c =
+    let start = c .before .before .before .before .before .before .before .before .before .before .before .before .before .before in
+    let loop = c .before .before .before .before .before .before .before .before .before .before .before .before .loop in
+    let loop-test = c .before .before .before .before .before .before .before .before .before .before .before .loop-test in
+    let mark-at = c .before .before .before .before .before .before .before .before .before .mark-at in
+    let flip = c .before .before .before .before .before .before .before .before .flip in
+    let mark-at2 = c .before .before .before .before .before .before .mark-at2 in
+    let flip2 = c .before .before .before .before .before .flip2 in
+    let flip3 = c .before .before .before .flip3 in
+    let put-mark = c .before .before .put-mark in
+    law.upward-next _ _ _ (loop .inv) (loop-test .taken) (joined-on _ _ _ _ _ (start .args .of) (start .args .opposite) (start .pre .2) (start .pre .3) (loop .inv .1 .lower) (mark-at .ensures) (flip .ensures) (mark-at2 .ensures) (flip2 .ensures) (flip3 .ensures)) (put-mark .ensures)
 
 -- src/copies.rt:26:1
 same-length : tie.Need-same-length Inv-loop μ-loop
@@ -65,7 +92,10 @@ same-length c = search needs
 
 -- src/copies.rt:26:1
 returns : tie.Need-returns Inv-loop μ-loop
-returns c = law.upward-all _ _ _ (c .before .loop .inv) (c .loop-test .left)
+returns c =
+    let loop = c .before .loop in
+    let loop-test = c .loop-test in
+    law.upward-all _ _ _ (loop .inv) (loop-test .left)
 
 pub mark-joined-spec : {M : Type 1} → statement M
 mark-joined-spec =

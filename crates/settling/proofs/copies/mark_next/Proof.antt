@@ -36,7 +36,12 @@ same-length c = search needs
 
 -- src/copies.rt:60:1
 returns : tie.Need-returns
-returns c = next-marked (c .before .before .before .before .before .before .before .before .before .before .before .before .args .laid .start) (c .before .before .before .before .before .before .before .before .before .before .before .before .args .laid .cycle) (c .before .before .before .before .before .before .before .before .before .before .before .before .pre .3) (now (c .before .before .before .before .before .before .before .before .before .before .before .before .args .scratch)) (c .before .before .before .before .before .before .before .before .before .before .before .before .args .a) (c .before .before .before .before .before .before .mark-after .ensures) (c .before .before .before .before .before .before .before .before .mark-at .ensures) (c .before .before .put-mark .ensures)
+returns c =
+    let start = c .before .before .before .before .before .before .before .before .before .before .before .before in
+    let mark-at = c .before .before .before .before .before .before .before .before .mark-at in
+    let mark-after = c .before .before .before .before .before .before .mark-after in
+    let put-mark = c .before .before .put-mark in
+    next-marked (start .args .laid .start) (start .args .laid .cycle) (start .pre .3) (now (start .args .scratch)) (start .args .a) (mark-after .ensures) (mark-at .ensures) (put-mark .ensures)
 
 pub mark-next-spec : {M : Type 1} → statement M
 mark-next-spec =

@@ -39,7 +39,13 @@ same-length c = search needs
 
 -- src/copies.rt:104:9
 returns : tie.Need-returns
-returns c = before-open (now (c .before .before .before .before .before .before .before .before .args .scratch)) (c .before .before .before .before .before .before .before .before .args .a) (c .before .before .before .before .before .before .before .before .args .laid .start) (c .before .before .before .before .before .before .before .before .args .first) _ (c .before .before .before .before .before2 .ensures) (c .before .before .mark-at .ensures) (c .before .agree .ensures) (c .if1 .taken)
+returns c =
+    let start = c .before .before .before .before .before .before .before .before in
+    let before2 = c .before .before .before .before .before2 in
+    let mark-at = c .before .before .mark-at in
+    let agree = c .before .agree in
+    let if1 = c .if1 in
+    before-open (now (start .args .scratch)) (start .args .a) (start .args .laid .start) (start .args .first) _ (before2 .ensures) (mark-at .ensures) (agree .ensures) (if1 .taken)
 
 -- src/copies.rt:106:5
 mark-before-requires : tie.Need-mark-before-requires
@@ -55,7 +61,15 @@ same-length-2 c = search needs
 
 -- src/copies.rt:97:1
 returns-2 : tie.Need-returns-2
-returns-2 c = before-closed (now (c .before .before .before .before .before .before .before .before .before .before .before .before .before .before .before .before .args .scratch)) (c .before .before .before .before .before .before .before .before .before .before .before .before .before .before .before .before .args .a) (c .before .before .before .before .before .before .before .before .before .before .before .before .before .before .before .before .args .laid .start) (c .before .before .before .before .before .before .before .before .before .before .before .before .before .before .before .before .args .first) _ (c .before .before .before .before .before .before .before .before .before .before .before .before .before2 .ensures) (c .before .before .before .before .before .before .before .before .before .before .mark-at .ensures) (c .before .before .before .before .before .before .before .before .before .agree .ensures) (c .before .before .before .before .before .before .before .before .if1 .left) (before-marked (now (c .before .before .before .before .before .before .before .before .before .before .before .before .before .before .before .before .args .scratch)) (c .before .before .before .before .before .before .before .before .before .before .before .before .before .before .before .before .args .a) (c .before .before .before .before .before .before .before .before .before .before .before .before .before .before .before .before .args .laid .start) (c .before .before .before .before .before .before .before .before .before .before .before .before .before .before .before .before .args .first) (omega (arith, c .before .before .before .before .before .before .before .before .before .before .before .before .before .before .before .before .pre .3)) (c .before .before .before .before .before .before .mark-before .ensures) (c .before .before .put-mark .ensures))
+returns-2 c =
+    let start = c .before .before .before .before .before .before .before .before .before .before .before .before .before .before .before .before in
+    let before2 = c .before .before .before .before .before .before .before .before .before .before .before .before .before2 in
+    let mark-at = c .before .before .before .before .before .before .before .before .before .before .mark-at in
+    let agree = c .before .before .before .before .before .before .before .before .before .agree in
+    let if1 = c .before .before .before .before .before .before .before .before .if1 in
+    let mark-before = c .before .before .before .before .before .before .mark-before in
+    let put-mark = c .before .before .put-mark in
+    before-closed (now (start .args .scratch)) (start .args .a) (start .args .laid .start) (start .args .first) _ (before2 .ensures) (mark-at .ensures) (agree .ensures) (if1 .left) (before-marked (now (start .args .scratch)) (start .args .a) (start .args .laid .start) (start .args .first) (omega (arith, start .pre .3)) (mark-before .ensures) (put-mark .ensures))
 
 pub try-before-spec : {M : Type 1} → statement M
 try-before-spec =

@@ -1,5 +1,5 @@
 -- `settling::operators::mark_ahead` meets its contract. Assumes nothing.
-use Rattle.settling.proofs.Stepping.{names-few, seen-round, ahead-marked}
+use Rattle.settling.proofs.Stepping as law
 use borrow.Author.Needs.{needs}
 use Rattle.settling.proofs.operators.mark_ahead.Statement.{statement}
 use Rattle.settling.proofs.operators.mark_ahead.Tie as tie
@@ -10,11 +10,16 @@ use Rattle.settling.proofs.operators.seen_round.Reads as seen-round-rea
 
 -- src/operators.rt:126:9
 seen-round-requires : tie.Need-seen-round-requires
-seen-round-requires c κs = (c .before .before .pre .0, names-few (c .before .before .args .operator) (c .before .before .pre .1) (c .before .before .pre .2), c .before .before .pre .4, c .before .before .pre .5)
+seen-round-requires c κs =
+    let start = c .before .before in
+    (start .pre .0, law.names-few (start .args .operator) (start .pre .1) (start .pre .2), start .pre .4, start .pre .5)
 
 -- src/operators.rt:127:5
 mark-back-requires : tie.Need-mark-back-requires
-mark-back-requires c κs = (c .before .before .before .before .pre .0, c .before .before .before .before .pre .1, c .before .before .before .before .pre .2, c .before .before .before .before .pre .4, c .before .before .before .before .pre .5, seen-round _ _ _ _ (c .before .seen-round .ensures))
+mark-back-requires c κs =
+    let start = c .before .before .before .before in
+    let seen-round = c .before .seen-round in
+    (start .pre .0, start .pre .1, start .pre .2, start .pre .4, start .pre .5, law.seen-round _ _ _ _ (seen-round .ensures))
 
 -- src/operators.rt:122:1
 same-length : tie.Need-same-length
@@ -22,7 +27,10 @@ same-length c = search needs
 
 -- src/operators.rt:122:1
 returns : tie.Need-returns
-returns c = ahead-marked _ _ _ _ _ (c .before .before .before .before .before .before .before .pre .3) (c .before .before .mark-back .ensures)
+returns c =
+    let start = c .before .before .before .before .before .before .before in
+    let mark-back = c .before .before .mark-back in
+    law.ahead-marked _ _ _ _ _ (start .pre .3) (mark-back .ensures)
 
 pub mark-ahead-spec : {M : Type 1} → statement M
 mark-ahead-spec = tie.close (tie.spec seen-round-requires mark-back-requires same-length returns)

@@ -34,31 +34,59 @@ sub-row c = omega (arith, c .loop-test .taken)
 
 -- src/operators.rt:128:13
 step-on-requires : tie.Need-step-on-requires Inv-loop μ-loop
-step-on-requires c κs = (c .before .before .loop .inv (c .before .before .before .before .before .args .laid .start) (c .before .before .before .before .before .args .laid .cycle) refl (c .before .before .before .before .before .pre .5) .done .long ∙ c .before .before .before .before .before .pre .0, names-few (c .before .before .before .before .before .args .operator) (c .before .before .before .before .before .pre .1) (c .before .before .before .before .before .pre .2), omega (arith, c .before .before .loop .inv (c .before .before .before .before .before .args .laid .start) (c .before .before .before .before .before .args .laid .cycle) refl (c .before .before .before .before .before .pre .5) .few, c .before .loop-test .taken, c .before .before .before .before .before .pre .4))
+step-on-requires c κs =
+    let start = c .before .before .before .before .before in
+    let loop = c .before .before .loop in
+    let loop-test = c .before .loop-test in
+    (loop .inv (start .args .laid .start) (start .args .laid .cycle) refl (start .pre .5) .done .long ∙ start .pre .0, names-few (start .args .operator) (start .pre .1) (start .pre .2), omega (arith, loop .inv (start .args .laid .start) (start .args .laid .cycle) refl (start .pre .5) .few, loop-test .taken, start .pre .4))
 
 -- src/operators.rt:129:9
 watched-truth-requires : tie.Need-watched-truth-requires Inv-loop μ-loop
-watched-truth-requires c κs = (c .before .before .before .before .loop .inv (c .before .before .before .before .before .before .before .args .laid .start) (c .before .before .before .before .before .before .before .args .laid .cycle) refl (c .before .before .before .before .before .before .before .pre .5) .done .long ∙ c .before .before .before .before .before .before .before .pre .0, names-few (c .before .before .before .before .before .before .before .args .operator) (c .before .before .before .before .before .before .before .pre .1) (c .before .before .before .before .before .before .before .pre .2), omega (arith, c .before .before .before .before .loop .inv (c .before .before .before .before .before .before .before .args .laid .start) (c .before .before .before .before .before .before .before .args .laid .cycle) refl (c .before .before .before .before .before .before .before .pre .5) .few, c .before .before .before .loop-test .taken, c .before .before .before .before .before .before .before .pre .4))
+watched-truth-requires c κs =
+    let start = c .before .before .before .before .before .before .before in
+    let loop = c .before .before .before .before .loop in
+    let loop-test = c .before .before .before .loop-test in
+    (loop .inv (start .args .laid .start) (start .args .laid .cycle) refl (start .pre .5) .done .long ∙ start .pre .0, names-few (start .args .operator) (start .pre .1) (start .pre .2), omega (arith, loop .inv (start .args .laid .start) (start .args .laid .cycle) refl (start .pre .5) .few, loop-test .taken, start .pre .4))
 
 -- src/operators.rt:130:9
 put-mark-requires : tie.Need-put-mark-requires Inv-loop μ-loop
-put-mark-requires c κs = (c .before .before .before .before .before .before .loop .inv (c .before .before .before .before .before .before .before .before .before .args .laid .start) (c .before .before .before .before .before .before .before .before .before .args .laid .cycle) refl (c .before .before .before .before .before .before .before .before .before .pre .5) .done .long ∙ c .before .before .before .before .before .before .before .before .before .pre .0, c .before .before .before .before .before .before .before .before .before .pre .1, omega (arith, c .before .before .before .before .before .before .loop .inv (c .before .before .before .before .before .before .before .before .before .args .laid .start) (c .before .before .before .before .before .before .before .before .before .args .laid .cycle) refl (c .before .before .before .before .before .before .before .before .before .pre .5) .few, c .before .before .before .before .before .loop-test .taken, c .before .before .before .before .before .before .before .before .before .pre .4))
+put-mark-requires c κs =
+    let start = c .before .before .before .before .before .before .before .before .before in
+    let loop = c .before .before .before .before .before .before .loop in
+    let loop-test = c .before .before .before .before .before .loop-test in
+    (loop .inv (start .args .laid .start) (start .args .laid .cycle) refl (start .pre .5) .done .long ∙ start .pre .0, start .pre .1, omega (arith, loop .inv (start .args .laid .start) (start .args .laid .cycle) refl (start .pre .5) .few, loop-test .taken, start .pre .4))
 
 -- src/operators.rt:126:5
 loop-less : tie.Need-loop-less Inv-loop μ-loop
-loop-less c = omega (arith, c .before .before .before .before .before .before .before .before .loop-test .taken)
+loop-less c =
+    let loop-test = c .before .before .before .before .before .before .before .before .loop-test in
+    omega (arith, loop-test .taken)
 
 -- src/operators.rt:126:5
 loop-again : tie.Need-loop-again Inv-loop μ-loop
-loop-again c = λ P C e seen. back-next P C _ _ _ (c .before .before .before .before .before .before .before .before .before .before .before .before .pre .2) (c .before .before .before .before .before .before .before .before .before .loop .inv P C e seen) (c .before .before .before .before .before .before .before .before .loop-test .taken) (c .before .before .before .before .before .before .step-on .ensures) (c .before .before .before .before .watched-truth .ensures) (c .before .before .put-mark .ensures)
+loop-again c =
+    let start = c .before .before .before .before .before .before .before .before .before .before .before .before in
+    let loop = c .before .before .before .before .before .before .before .before .before .loop in
+    let loop-test = c .before .before .before .before .before .before .before .before .loop-test in
+    let step-on = c .before .before .before .before .before .before .step-on in
+    let watched-truth = c .before .before .before .before .watched-truth in
+    let put-mark = c .before .before .put-mark in
+    λ P C e seen. back-next P C _ _ _ (start .pre .2) (loop .inv P C e seen) (loop-test .taken) (step-on .ensures) (watched-truth .ensures) (put-mark .ensures)
 
 -- src/operators.rt:120:1
 same-length : tie.Need-same-length Inv-loop μ-loop
-same-length c = search (needs, c .before .loop .inv (c .before .before .before .before .args .laid .start) (c .before .before .before .before .args .laid .cycle) refl (c .before .before .before .before .pre .5) .done .long)
+same-length c =
+    let start = c .before .before .before .before in
+    let loop = c .before .loop in
+    search (needs, loop .inv (start .args .laid .start) (start .args .laid .cycle) refl (start .pre .5) .done .long)
 
 -- src/operators.rt:120:1
 returns : tie.Need-returns Inv-loop μ-loop
-returns c = back-all _ _ _ _ _ (c .before .loop .inv (c .before .before .before .before .args .laid .start) (c .before .before .before .before .args .laid .cycle) refl (c .before .before .before .before .pre .5)) (omega (arith, c .loop-test .left))
+returns c =
+    let start = c .before .before .before .before in
+    let loop = c .before .loop in
+    let loop-test = c .loop-test in
+    back-all _ _ _ _ _ (loop .inv (start .args .laid .start) (start .args .laid .cycle) refl (start .pre .5)) (omega (arith, loop-test .left))
 
 pub mark-back-spec : {M : Type 1} → statement M
 mark-back-spec =

@@ -24,27 +24,51 @@ loop-holds c = onward-first _ _ _ _ _
 
 -- src/operators.rt:77:13
 step-on-requires : tie.Need-step-on-requires Inv-loop μ-loop
-step-on-requires c κs = (c .before .before .loop .inv .done .long ∙ c .before .before .before .before .pre .0, names-few (c .before .before .before .before .args .operator) (c .before .before .before .before .pre .1) (c .before .before .before .before .pre .2), omega (arith, c .before .loop-test .taken, c .before .before .before .before .pre .3))
+step-on-requires c κs =
+    let start = c .before .before .before .before in
+    let loop = c .before .before .loop in
+    let loop-test = c .before .loop-test in
+    (loop .inv .done .long ∙ start .pre .0, names-few (start .args .operator) (start .pre .1) (start .pre .2), omega (arith, loop-test .taken, start .pre .3))
 
 -- src/operators.rt:78:9
 watched-truth-requires : tie.Need-watched-truth-requires Inv-loop μ-loop
-watched-truth-requires c κs = (c .before .before .before .before .loop .inv .done .long ∙ c .before .before .before .before .before .before .pre .0, names-few (c .before .before .before .before .before .before .args .operator) (c .before .before .before .before .before .before .pre .1) (c .before .before .before .before .before .before .pre .2), omega (arith, c .before .before .before .loop-test .taken, c .before .before .before .before .before .before .pre .3))
+watched-truth-requires c κs =
+    let start = c .before .before .before .before .before .before in
+    let loop = c .before .before .before .before .loop in
+    let loop-test = c .before .before .before .loop-test in
+    (loop .inv .done .long ∙ start .pre .0, names-few (start .args .operator) (start .pre .1) (start .pre .2), omega (arith, loop-test .taken, start .pre .3))
 
 -- src/operators.rt:79:9
 put-mark-requires : tie.Need-put-mark-requires Inv-loop μ-loop
-put-mark-requires c κs = (c .before .before .before .before .before .before .loop .inv .done .long ∙ c .before .before .before .before .before .before .before .before .pre .0, c .before .before .before .before .before .before .before .before .pre .1, omega (arith, c .before .before .before .before .before .loop-test .taken, c .before .before .before .before .before .before .before .before .pre .3))
+put-mark-requires c κs =
+    let start = c .before .before .before .before .before .before .before .before in
+    let loop = c .before .before .before .before .before .before .loop in
+    let loop-test = c .before .before .before .before .before .loop-test in
+    (loop .inv .done .long ∙ start .pre .0, start .pre .1, omega (arith, loop-test .taken, start .pre .3))
 
 -- src/operators.rt:80:9
 add-row : tie.Need-add-row Inv-loop μ-loop
-add-row c = omega (arith, c .before .before .before .before .before .before .before .before .loop-test .taken, c .before .before .before .before .before .before .before .before .before .before .before .pre .3)
+add-row c =
+    let start = c .before .before .before .before .before .before .before .before .before .before .before in
+    let loop-test = c .before .before .before .before .before .before .before .before .loop-test in
+    omega (arith, loop-test .taken, start .pre .3)
 
 -- src/operators.rt:76:5
 loop-less : tie.Need-loop-less Inv-loop μ-loop
-loop-less c = omega (arith, c .before .before .before .before .before .before .before .before .loop-test .taken)
+loop-less c =
+    let loop-test = c .before .before .before .before .before .before .before .before .loop-test in
+    omega (arith, loop-test .taken)
 
 -- src/operators.rt:76:5
 loop-again : tie.Need-loop-again Inv-loop μ-loop
-loop-again c = onward-next _ _ _ _ _ (c .before .before .before .before .before .before .before .before .before .before .before .pre .2) (c .before .before .before .before .before .before .before .before .before .loop .inv) (c .before .before .before .before .before .before .before .before .loop-test .taken) (c .before .before .before .before .before .before .step-on .ensures) (c .before .before .before .before .watched-truth .ensures) (c .before .before .put-mark .ensures)
+loop-again c =
+    let start = c .before .before .before .before .before .before .before .before .before .before .before in
+    let loop = c .before .before .before .before .before .before .before .before .before .loop in
+    let loop-test = c .before .before .before .before .before .before .before .before .loop-test in
+    let step-on = c .before .before .before .before .before .before .step-on in
+    let watched-truth = c .before .before .before .before .watched-truth in
+    let put-mark = c .before .before .put-mark in
+    onward-next _ _ _ _ _ (start .pre .2) (loop .inv) (loop-test .taken) (step-on .ensures) (watched-truth .ensures) (put-mark .ensures)
 
 -- src/operators.rt:70:1
 same-length : tie.Need-same-length Inv-loop μ-loop
@@ -52,7 +76,10 @@ same-length c = search needs
 
 -- src/operators.rt:70:1
 returns : tie.Need-returns Inv-loop μ-loop
-returns c = onward-all _ _ _ _ _ (c .before .loop .inv) (c .loop-test .left)
+returns c =
+    let loop = c .before .loop in
+    let loop-test = c .loop-test in
+    onward-all _ _ _ _ _ (loop .inv) (loop-test .left)
 
 pub mark-onward-spec : {M : Type 1} → statement M
 mark-onward-spec =

@@ -25,7 +25,9 @@ end-of-requires c κs = search needs
 
 -- src/operators.rt:91:9
 watched-truth-requires : tie.Need-watched-truth-requires Inv-loop μ-loop
-watched-truth-requires c κs = (c .before .before .pre .0, c .before .before .pre .1, omega (arith, c .before .before .pre .2, c .before .before .pre .3))
+watched-truth-requires c κs =
+    let start = c .before .before in
+    (start .pre .0, start .pre .1, omega (arith, start .pre .2, start .pre .3))
 
 -- src/operators.rt:92:19
 add-row : tie.Need-add-row Inv-loop μ-loop
@@ -33,7 +35,10 @@ add-row c = omega (arith, c .before .before .before .before .pre .3)
 
 -- src/operators.rt:93:5
 loop-holds : tie.Need-loop-holds Inv-loop μ-loop
-loop-holds c = λ C e. round-first _ C _ _ e (c .before .before .end-of .ensures) (c .before .watched-truth .ensures)
+loop-holds c =
+    let end-of = c .before .before .end-of in
+    let watched-truth = c .before .watched-truth in
+    λ C e. round-first _ C _ _ e (end-of .ensures) (watched-truth .ensures)
 
 -- src/operators.rt:94:9
 sub-row : tie.Need-sub-row Inv-loop μ-loop
@@ -41,11 +46,19 @@ sub-row c = omega (arith, c .loop-test .taken)
 
 -- src/operators.rt:95:13
 step-on-requires : tie.Need-step-on-requires Inv-loop μ-loop
-step-on-requires c κs = (c .before .before .before .before .before .before .pre .0, c .before .before .before .before .before .before .pre .1, omega (arith, c .before .loop .inv (c .before .before .before .before .before .before .args .laid .cycle) refl .few, c .loop-test .taken, c .before .before .before .before .before .before .pre .3))
+step-on-requires c κs =
+    let start = c .before .before .before .before .before .before in
+    let loop = c .before .loop in
+    let loop-test = c .loop-test in
+    (start .pre .0, start .pre .1, omega (arith, loop .inv (start .args .laid .cycle) refl .few, loop-test .taken, start .pre .3))
 
 -- src/operators.rt:96:9
 watched-truth-requires-2 : tie.Need-watched-truth-requires-2 Inv-loop μ-loop
-watched-truth-requires-2 c κs = (c .before .before .before .before .before .before .before .pre .0, c .before .before .before .before .before .before .before .pre .1, omega (arith, c .before .before .loop .inv (c .before .before .before .before .before .before .before .args .laid .cycle) refl .few, c .before .loop-test .taken, c .before .before .before .before .before .before .before .pre .3))
+watched-truth-requires-2 c κs =
+    let start = c .before .before .before .before .before .before .before in
+    let loop = c .before .before .loop in
+    let loop-test = c .before .loop-test in
+    (start .pre .0, start .pre .1, omega (arith, loop .inv (start .args .laid .cycle) refl .few, loop-test .taken, start .pre .3))
 
 -- src/operators.rt:93:5
 loop-less : tie.Need-loop-less Inv-loop μ-loop
@@ -53,11 +66,20 @@ loop-less c = omega (arith, c .before .before .loop-test .taken)
 
 -- src/operators.rt:93:5
 loop-again : tie.Need-loop-again Inv-loop μ-loop
-loop-again c = λ C e. round-next _ C _ _ (c .before .before .before .loop .inv C e) (c .before .before .loop-test .taken) (c .before .step-on .ensures) (c .watched-truth2 .ensures)
+loop-again c =
+    let loop = c .before .before .before .loop in
+    let loop-test = c .before .before .loop-test in
+    let step-on = c .before .step-on in
+    let watched-truth2 = c .watched-truth2 in
+    λ C e. round-next _ C _ _ (loop .inv C e) (loop-test .taken) (step-on .ensures) (watched-truth2 .ensures)
 
 -- src/operators.rt:86:1
 returns : tie.Need-returns Inv-loop μ-loop
-returns c = round-all _ _ _ _ (c .before .before .before .before .before .before .pre .2) (c .before .loop .inv (c .before .before .before .before .before .before .args .laid .cycle) refl) (c .loop-test .left)
+returns c =
+    let start = c .before .before .before .before .before .before in
+    let loop = c .before .loop in
+    let loop-test = c .loop-test in
+    round-all _ _ _ _ (start .pre .2) (loop .inv (start .args .laid .cycle) refl) (loop-test .left)
 
 pub seen-round-spec : {M : Type 1} → statement M
 seen-round-spec =

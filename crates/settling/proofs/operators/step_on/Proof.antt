@@ -17,7 +17,10 @@ enum-known-operator c = search needs
 
 -- src/operators.rt:31:50
 mark-at-requires : tie.Need-mark-at-requires
-mark-at-requires c κs = (c .before .before .before .before .pre .0, law.one-named mostParts (c .before .before .before .before .pre .1) (c .before .operator .given .1), c .before .before .before .before .pre .2)
+mark-at-requires c κs =
+    let start = c .before .before .before .before in
+    let operator = c .before .operator in
+    (start .pre .0, law.one-named mostParts (start .pre .1) (operator .given .1), start .pre .2)
 
 -- src/operators.rt:31:35
 mark-one-requires : tie.Need-mark-one-requires
@@ -29,11 +32,17 @@ enum-known-operator-2 c = search needs
 
 -- src/operators.rt:34:13
 mark-at-requires-2 : tie.Need-mark-at-requires-2
-mark-at-requires-2 c κs = (c .before .before .before .before .pre .0, law.two-named mostParts (c .before .before .before .before .pre .1) (c .before .operator2 .given .1) .0, c .before .before .before .before .pre .2)
+mark-at-requires-2 c κs =
+    let start = c .before .before .before .before in
+    let operator2 = c .before .operator2 in
+    (start .pre .0, law.two-named mostParts (start .pre .1) (operator2 .given .1) .0, start .pre .2)
 
 -- src/operators.rt:35:13
 mark-at-requires-3 : tie.Need-mark-at-requires-3
-mark-at-requires-3 c κs = (c .before .before .before .before .before .pre .0, law.two-named mostParts (c .before .before .before .before .before .pre .1) (c .before .before .operator2 .given .1) .1, c .before .before .before .before .before .pre .2)
+mark-at-requires-3 c κs =
+    let start = c .before .before .before .before .before in
+    let operator2 = c .before .before .operator2 in
+    (start .pre .0, law.two-named mostParts (start .pre .1) (operator2 .given .1) .1, start .pre .2)
 
 -- src/operators.rt:32:38
 mark-two-requires : tie.Need-mark-two-requires
@@ -41,11 +50,22 @@ mark-two-requires c κs = search needs
 
 -- src/operators.rt:26:1
 returns : tie.Need-returns
-returns c = law.step-one (markAt (now (c .before .before .before .before .before .before .args .scratch))) (c .before .before .before .before .before .before .args .row) (c .before .before .before .before .before .before .args .beside) (c .before .before .before .operator .given .1) (c .before .mark-at .ensures) (c .mark-one .ensures)
+returns c =
+    let start = c .before .before .before .before .before .before in
+    let operator = c .before .before .before .operator in
+    let mark-at = c .before .mark-at in
+    let mark-one = c .mark-one in
+    law.step-one (markAt (now (start .args .scratch))) (start .args .row) (start .args .beside) (operator .given .1) (mark-at .ensures) (mark-one .ensures)
 
 -- src/operators.rt:26:1
 returns-2 : tie.Need-returns-2
-returns-2 c = law.step-two (markAt (now (c .before .before .before .before .before .before .before .args .scratch))) (c .before .before .before .before .before .before .before .args .row) (c .before .before .before .before .before .before .before .args .beside) (c .before .before .before .before .operator2 .given .1) (c .before .before .mark-at2 .ensures) (c .before .mark-at3 .ensures) (c .mark-two .ensures)
+returns-2 c =
+    let start = c .before .before .before .before .before .before .before in
+    let operator2 = c .before .before .before .before .operator2 in
+    let mark-at2 = c .before .before .mark-at2 in
+    let mark-at3 = c .before .mark-at3 in
+    let mark-two = c .mark-two in
+    law.step-two (markAt (now (start .args .scratch))) (start .args .row) (start .args .beside) (operator2 .given .1) (mark-at2 .ensures) (mark-at3 .ensures) (mark-two .ensures)
 
 pub step-on-spec : {M : Type 1} → statement M
 step-on-spec =

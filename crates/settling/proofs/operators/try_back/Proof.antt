@@ -26,7 +26,10 @@ mark-at-requires c κs = search needs
 
 -- src/operators.rt:137:35
 step-on-requires : tie.Need-step-on-requires
-step-on-requires c κs = (c .before .before .before .before .before .mark-onward .ensures .1 .long ∙ c .before .before .before .before .before .before .before .before .before .pre .0, names-few (c .before .before .before .before .before .before .before .before .before .args .operator) (c .before .before .before .before .before .before .before .before .before .pre .1) (c .before .before .before .before .before .before .before .before .before .pre .2), omega (arith, c .before .before .before .before .before .before .before .before .before .pre .4, c .before .before .before .before .before .before .before .before .before .pre .5))
+step-on-requires c κs =
+    let start = c .before .before .before .before .before .before .before .before .before in
+    let mark-onward = c .before .before .before .before .before .mark-onward in
+    (mark-onward .ensures .1 .long ∙ start .pre .0, names-few (start .args .operator) (start .pre .1) (start .pre .2), omega (arith, start .pre .4, start .pre .5))
 
 -- src/operators.rt:137:5
 agree-requires : tie.Need-agree-requires
@@ -38,7 +41,13 @@ same-length c = search needs
 
 -- src/operators.rt:131:1
 returns : tie.Need-returns
-returns c = back-tried _ _ _ _ _ (c .before .before .before .before .before .before .before .before .before .before .before .pre .3) (c .before .before .before .before .before .before .before .mark-onward .ensures .1) (c .before .before .before .before .before .before .before .before .before .before .before .pre .4) (c .before .before .before .before .before .before .before .before .before .before .before .pre .2) (c .before .before .before .before .before .before .before .mark-onward .ensures .0) (c .before .before .before .mark-at .ensures) (c .before .step-on .ensures) (c .agree .ensures)
+returns c =
+    let start = c .before .before .before .before .before .before .before .before .before .before .before in
+    let mark-onward = c .before .before .before .before .before .before .before .mark-onward in
+    let mark-at = c .before .before .before .mark-at in
+    let step-on = c .before .step-on in
+    let agree = c .agree in
+    back-tried _ _ _ _ _ (start .pre .3) (mark-onward .ensures .1) (start .pre .4) (start .pre .2) (mark-onward .ensures .0) (mark-at .ensures) (step-on .ensures) (agree .ensures)
 
 pub try-back-spec : {M : Type 1} → statement M
 try-back-spec =

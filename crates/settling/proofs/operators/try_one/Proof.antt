@@ -52,7 +52,11 @@ same-length c = search needs
 
 -- src/operators.rt:141:1
 returns : tie.Need-returns
-returns c = not-tried (c .before .before .before .before .before .before .before .before .args .laid .start) (c .before .before .before .before .before .before .before .before .args .laid .cycle) (c .before .before .before .before .before .before .before .before .pre .3) (now (c .before .before .before .before .before .before .before .before .args .scratch)) (c .before .before .before .before .before .before .before .before .args .a) (c .before .before .before .before .before .before .before .before .args .a) (c .before .before .before .before .before .enum-told .given .1) (c .before .before .mark-joined .ensures)
+returns c =
+    let start = c .before .before .before .before .before .before .before .before in
+    let enum-told = c .before .before .before .before .before .enum-told in
+    let mark-joined = c .before .before .mark-joined in
+    not-tried (start .args .laid .start) (start .args .laid .cycle) (start .pre .3) (now (start .args .scratch)) (start .args .a) (start .args .a) (enum-told .given .1) (mark-joined .ensures)
 
 -- src/operators.rt:141:1
 same-length-2 : tie.Need-same-length-2
@@ -60,7 +64,11 @@ same-length-2 c = search needs
 
 -- src/operators.rt:141:1
 returns-2 : tie.Need-returns-2
-returns-2 c = next-tried (c .before .before .before .before .before .before .before .args .laid .start) (c .before .before .before .before .before .before .before .args .laid .cycle) (c .before .before .before .before .before .before .before .pre .3) (now (c .before .before .before .before .before .before .before .args .scratch)) (c .before .before .before .before .before .before .before .args .a) (c .before .before .before .before .enum-told2 .given .1) (c .before .before .mark-next .ensures)
+returns-2 c =
+    let start = c .before .before .before .before .before .before .before in
+    let enum-told2 = c .before .before .before .before .enum-told2 in
+    let mark-next = c .before .before .mark-next in
+    next-tried (start .args .laid .start) (start .args .laid .cycle) (start .pre .3) (now (start .args .scratch)) (start .args .a) (enum-told2 .given .1) (mark-next .ensures)
 
 -- src/operators.rt:141:1
 same-length-3 : tie.Need-same-length-3
@@ -68,7 +76,11 @@ same-length-3 c = search needs
 
 -- src/operators.rt:141:1
 returns-3 : tie.Need-returns-3
-returns-3 c = yesterday-tried (c .before .before .before .before .before .before .before .args .laid .start) (c .before .before .before .before .before .before .before .args .laid .cycle) (now (c .before .before .before .before .before .before .before .args .scratch)) (c .before .before .before .before .before .before .before .args .a) (c .before .before .before .before .enum-told3 .given .1) (c .before .before .try-before .ensures)
+returns-3 c =
+    let start = c .before .before .before .before .before .before .before in
+    let enum-told3 = c .before .before .before .before .enum-told3 in
+    let try-before = c .before .before .try-before in
+    yesterday-tried (start .args .laid .start) (start .args .laid .cycle) (now (start .args .scratch)) (start .args .a) (enum-told3 .given .1) (try-before .ensures)
 
 -- src/operators.rt:141:1
 same-length-4 : tie.Need-same-length-4
@@ -76,7 +88,11 @@ same-length-4 c = search needs
 
 -- src/operators.rt:141:1
 returns-4 : tie.Need-returns-4
-returns-4 c = weak-tried (c .before .before .before .before .before .before .before .args .laid .start) (c .before .before .before .before .before .before .before .args .laid .cycle) (now (c .before .before .before .before .before .before .before .args .scratch)) (c .before .before .before .before .before .before .before .args .a) (c .before .before .before .before .enum-told4 .given .1) (c .before .before .try-before2 .ensures)
+returns-4 c =
+    let start = c .before .before .before .before .before .before .before in
+    let enum-told4 = c .before .before .before .before .enum-told4 in
+    let try-before2 = c .before .before .try-before2 in
+    weak-tried (start .args .laid .start) (start .args .laid .cycle) (now (start .args .scratch)) (start .args .a) (enum-told4 .given .1) (try-before2 .ensures)
 
 pub try-one-spec : {M : Type 1} → statement M
 try-one-spec =

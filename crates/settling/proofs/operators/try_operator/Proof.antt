@@ -16,7 +16,10 @@ enum-known-operator c = search needs
 
 -- src/operators.rt:193:35
 try-one-requires : tie.Need-try-one-requires
-try-one-requires c κs = (c .before .before .before .before .before .pre .0, c .before .before .before .before .before .pre .1, law.one-named (c .before .before .before .before .before .args .i) (c .before .before .before .before .before .pre .2) (c .before .before .operator .given .1), c .before .before .before .before .before .pre .3, c .before .before .before .before .before .pre .4)
+try-one-requires c κs =
+    let start = c .before .before .before .before .before in
+    let operator = c .before .before .operator in
+    (start .pre .0, start .pre .1, law.one-named (start .args .i) (start .pre .2) (operator .given .1), start .pre .3, start .pre .4)
 
 -- src/operators.rt:194:23
 enum-known-operator-2 : tie.Need-enum-known-operator-2
@@ -24,7 +27,10 @@ enum-known-operator-2 c = search needs
 
 -- src/operators.rt:194:38
 try-two-requires : tie.Need-try-two-requires
-try-two-requires c κs = (c .before .before .before .before .before .pre .0, c .before .before .before .before .before .pre .1, law.two-named (c .before .before .before .before .before .args .i) (c .before .before .before .before .before .pre .2) (c .before .before .operator2 .given .1) .0, law.two-named (c .before .before .before .before .before .args .i) (c .before .before .before .before .before .pre .2) (c .before .before .operator2 .given .1) .1, c .before .before .before .before .before .pre .3, c .before .before .before .before .before .pre .4)
+try-two-requires c κs =
+    let start = c .before .before .before .before .before in
+    let operator2 = c .before .before .operator2 in
+    (start .pre .0, start .pre .1, law.two-named (start .args .i) (start .pre .2) (operator2 .given .1) .0, law.two-named (start .args .i) (start .pre .2) (operator2 .given .1) .1, start .pre .3, start .pre .4)
 
 -- src/operators.rt:188:1
 same-length : tie.Need-same-length
@@ -32,7 +38,11 @@ same-length c = search needs
 
 -- src/operators.rt:188:1
 returns : tie.Need-returns
-returns c = tried-as (c .before .before .before .before .before .before .before .before .args .laid .start) (c .before .before .before .before .before .before .before .before .args .laid .cycle) (now (c .before .before .before .before .before .before .before .before .args .scratch)) (c .before .before .before .before .before .operator .given .1) (c .before .before .try-one .ensures)
+returns c =
+    let start = c .before .before .before .before .before .before .before .before in
+    let operator = c .before .before .before .before .before .operator in
+    let try-one = c .before .before .try-one in
+    tried-as (start .args .laid .start) (start .args .laid .cycle) (now (start .args .scratch)) (operator .given .1) (try-one .ensures)
 
 -- src/operators.rt:188:1
 same-length-2 : tie.Need-same-length-2
@@ -40,7 +50,11 @@ same-length-2 c = search needs
 
 -- src/operators.rt:188:1
 returns-2 : tie.Need-returns-2
-returns-2 c = tried-as (c .before .before .before .before .before .before .before .before .args .laid .start) (c .before .before .before .before .before .before .before .before .args .laid .cycle) (now (c .before .before .before .before .before .before .before .before .args .scratch)) (c .before .before .before .before .before .operator2 .given .1) (c .before .before .try-two .ensures)
+returns-2 c =
+    let start = c .before .before .before .before .before .before .before .before in
+    let operator2 = c .before .before .before .before .before .operator2 in
+    let try-two = c .before .before .try-two in
+    tried-as (start .args .laid .start) (start .args .laid .cycle) (now (start .args .scratch)) (operator2 .given .1) (try-two .ensures)
 
 pub try-operator-spec : {M : Type 1} → statement M
 try-operator-spec =

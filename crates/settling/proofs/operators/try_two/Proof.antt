@@ -43,7 +43,10 @@ enum-told-3 c = search needs
 
 -- src/operators.rt:175:13
 mark-ahead-requires : tie.Need-mark-ahead-requires
-mark-ahead-requires c κs = (c .before .before .before .before .pre .0, c .before .before .before .before .pre .1, names-two _ (c .before .before .before .before .pre .2) (c .before .before .before .before .pre .3), ap besideTwo (c .before .enum-told3 .given .1), c .before .before .before .before .pre .4, c .before .before .before .before .pre .5)
+mark-ahead-requires c κs =
+    let start = c .before .before .before .before in
+    let enum-told3 = c .before .enum-told3 in
+    (start .pre .0, start .pre .1, names-two _ (start .pre .2) (start .pre .3), ap besideTwo (enum-told3 .given .1), start .pre .4, start .pre .5)
 
 -- src/operators.rt:179:24
 enum-told-4 : tie.Need-enum-told-4
@@ -51,7 +54,10 @@ enum-told-4 c = search needs
 
 -- src/operators.rt:179:13
 mark-ahead-requires-2 : tie.Need-mark-ahead-requires-2
-mark-ahead-requires-2 c κs = (c .before .before .before .before .pre .0, c .before .before .before .before .pre .1, names-two _ (c .before .before .before .before .pre .2) (c .before .before .before .before .pre .3), ap besideTwo (c .before .enum-told4 .given .1), c .before .before .before .before .pre .4, c .before .before .before .before .pre .5)
+mark-ahead-requires-2 c κs =
+    let start = c .before .before .before .before in
+    let enum-told4 = c .before .enum-told4 in
+    (start .pre .0, start .pre .1, names-two _ (start .pre .2) (start .pre .3), ap besideTwo (enum-told4 .given .1), start .pre .4, start .pre .5)
 
 -- src/operators.rt:182:35
 enum-told-5 : tie.Need-enum-told-5
@@ -59,7 +65,10 @@ enum-told-5 c = search needs
 
 -- src/operators.rt:182:26
 try-back-requires : tie.Need-try-back-requires
-try-back-requires c κs = (c .before .before .before .before .pre .0, c .before .before .before .before .pre .1, names-two _ (c .before .before .before .before .pre .2) (c .before .before .before .before .pre .3), ap besideTwo (c .before .enum-told5 .given .1), c .before .before .before .before .pre .4, c .before .before .before .before .pre .5)
+try-back-requires c κs =
+    let start = c .before .before .before .before in
+    let enum-told5 = c .before .enum-told5 in
+    (start .pre .0, start .pre .1, names-two _ (start .pre .2) (start .pre .3), ap besideTwo (enum-told5 .given .1), start .pre .4, start .pre .5)
 
 -- src/operators.rt:183:37
 enum-told-6 : tie.Need-enum-told-6
@@ -67,7 +76,10 @@ enum-told-6 c = search needs
 
 -- src/operators.rt:183:28
 try-back-requires-2 : tie.Need-try-back-requires-2
-try-back-requires-2 c κs = (c .before .before .before .before .pre .0, c .before .before .before .before .pre .1, names-two _ (c .before .before .before .before .pre .2) (c .before .before .before .before .pre .3), ap besideTwo (c .before .enum-told6 .given .1), c .before .before .before .before .pre .4, c .before .before .before .before .pre .5)
+try-back-requires-2 c κs =
+    let start = c .before .before .before .before in
+    let enum-told6 = c .before .enum-told6 in
+    (start .pre .0, start .pre .1, names-two _ (start .pre .2) (start .pre .3), ap besideTwo (enum-told6 .given .1), start .pre .4, start .pre .5)
 
 -- src/operators.rt:160:1
 same-length : tie.Need-same-length
@@ -75,7 +87,11 @@ same-length c = search needs
 
 -- src/operators.rt:160:1
 returns : tie.Need-returns
-returns c = and-tried (c .before .before .before .before .before .before .before .before .args .laid .start) (c .before .before .before .before .before .before .before .before .args .laid .cycle) (c .before .before .before .before .before .before .before .before .pre .4) (now (c .before .before .before .before .before .before .before .before .args .scratch)) (c .before .before .before .before .before .before .before .before .args .a) (c .before .before .before .before .before .before .before .before .args .b) (c .before .before .before .before .before .enum-told .given .1) (c .before .before .mark-joined .ensures)
+returns c =
+    let start = c .before .before .before .before .before .before .before .before in
+    let enum-told = c .before .before .before .before .before .enum-told in
+    let mark-joined = c .before .before .mark-joined in
+    and-tried (start .args .laid .start) (start .args .laid .cycle) (start .pre .4) (now (start .args .scratch)) (start .args .a) (start .args .b) (enum-told .given .1) (mark-joined .ensures)
 
 -- src/operators.rt:160:1
 same-length-2 : tie.Need-same-length-2
@@ -83,7 +99,11 @@ same-length-2 c = search needs
 
 -- src/operators.rt:160:1
 returns-2 : tie.Need-returns-2
-returns-2 c = or-tried (c .before .before .before .before .before .before .before .before .args .laid .start) (c .before .before .before .before .before .before .before .before .args .laid .cycle) (c .before .before .before .before .before .before .before .before .pre .4) (now (c .before .before .before .before .before .before .before .before .args .scratch)) (c .before .before .before .before .before .before .before .before .args .a) (c .before .before .before .before .before .before .before .before .args .b) (c .before .before .before .before .before .enum-told2 .given .1) (c .before .before .mark-joined2 .ensures)
+returns-2 c =
+    let start = c .before .before .before .before .before .before .before .before in
+    let enum-told2 = c .before .before .before .before .before .enum-told2 in
+    let mark-joined2 = c .before .before .mark-joined2 in
+    or-tried (start .args .laid .start) (start .args .laid .cycle) (start .pre .4) (now (start .args .scratch)) (start .args .a) (start .args .b) (enum-told2 .given .1) (mark-joined2 .ensures)
 
 -- src/operators.rt:160:1
 same-length-3 : tie.Need-same-length-3
@@ -91,7 +111,10 @@ same-length-3 c = search needs
 
 -- src/operators.rt:160:1
 returns-3 : tie.Need-returns-3
-returns-3 c = ahead-tried _ _ _ _ _ (ap besideTwo (c .before .before .before .before .enum-told3 .given .1)) (c .before .before .mark-ahead .ensures)
+returns-3 c =
+    let enum-told3 = c .before .before .before .before .enum-told3 in
+    let mark-ahead = c .before .before .mark-ahead in
+    ahead-tried _ _ _ _ _ (ap besideTwo (enum-told3 .given .1)) (mark-ahead .ensures)
 
 -- src/operators.rt:160:1
 same-length-4 : tie.Need-same-length-4
@@ -99,7 +122,10 @@ same-length-4 c = search needs
 
 -- src/operators.rt:160:1
 returns-4 : tie.Need-returns-4
-returns-4 c = ahead-tried _ _ _ _ _ (ap besideTwo (c .before .before .before .before .enum-told4 .given .1)) (c .before .before .mark-ahead2 .ensures)
+returns-4 c =
+    let enum-told4 = c .before .before .before .before .enum-told4 in
+    let mark-ahead2 = c .before .before .mark-ahead2 in
+    ahead-tried _ _ _ _ _ (ap besideTwo (enum-told4 .given .1)) (mark-ahead2 .ensures)
 
 -- src/operators.rt:160:1
 same-length-5 : tie.Need-same-length-5

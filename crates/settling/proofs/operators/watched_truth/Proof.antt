@@ -15,7 +15,10 @@ enum-known-operator c = search needs
 
 -- src/operators.rt:47:32
 mark-at-requires : tie.Need-mark-at-requires
-mark-at-requires c κs = (c .before .before .before .before .pre .0, law.one-named mostParts (c .before .before .before .before .pre .1) (c .before .operator .given .1), c .before .before .before .before .pre .2)
+mark-at-requires c κs =
+    let start = c .before .before .before .before in
+    let operator = c .before .operator in
+    (start .pre .0, law.one-named mostParts (start .pre .1) (operator .given .1), start .pre .2)
 
 -- src/operators.rt:48:35
 enum-told : tie.Need-enum-told
@@ -23,7 +26,11 @@ enum-told c = search needs
 
 -- src/operators.rt:42:1
 returns : tie.Need-returns
-returns c = law.sees-named (markAt (now (c .before .before .before .before .before .args .scratch))) (c .before .before .before .before .before .args .own) (c .before .before .before .before .before .args .row) (c .before .before .operator .given .1) (c .mark-at .ensures)
+returns c =
+    let start = c .before .before .before .before .before in
+    let operator = c .before .before .operator in
+    let mark-at = c .mark-at in
+    law.sees-named (markAt (now (start .args .scratch))) (start .args .own) (start .args .row) (operator .given .1) (mark-at .ensures)
 
 -- src/operators.rt:42:1
 returns-2 : tie.Need-returns-2

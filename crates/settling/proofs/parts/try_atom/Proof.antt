@@ -23,23 +23,43 @@ comparison-of-requires c κs = (c .before .before .args .sizes .channels, c .bef
 
 -- src/parts.rt:36:9
 laid-sizes-requires : tie.Need-laid-sizes-requires
-laid-sizes-requires c κs = (few-passes (c .before .before .before .pre .0) (c .before .before .before .args .passes) (c .before .before .before .pre .1), c .before .before .before .pre .0 .few-rows)
+laid-sizes-requires c κs =
+    let start = c .before .before .before in
+    (few-passes (start .pre .0) (start .args .passes) (start .pre .1), start .pre .0 .few-rows)
 
 -- src/parts.rt:38:9
 steady-requires : tie.Need-steady-requires
-steady-requires c κs = (c .before .before .before .before .pre .0, atom-fit (c .before .before .before .before .args .sizes) _ (c .before .before .before .before .pre .4) (c .before .comparison-of .ensures), omega (arith, ap (λ (q : Sizes). q .start) (c .laid-sizes .ensures), laid-rows (now (c .before .before .before .before .args .plan)) (c .before .before .before .before .pre .0) (c .before .before .before .before .args .passes) (c .before .before .before .before .pre .1) .2), omega (arith, ap (λ (q : Sizes). q .start) (c .laid-sizes .ensures), laid-rows (now (c .before .before .before .before .args .plan)) (c .before .before .before .before .pre .0) (c .before .before .before .before .args .passes) (c .before .before .before .before .pre .1) .0))
+steady-requires c κs =
+    let start = c .before .before .before .before in
+    let comparison-of = c .before .comparison-of in
+    let laid-sizes = c .laid-sizes in
+    (start .pre .0, atom-fit (start .args .sizes) _ (start .pre .4) (comparison-of .ensures), omega (arith, ap (λ (q : Sizes). q .start) (laid-sizes .ensures), laid-rows (now (start .args .plan)) (start .pre .0) (start .args .passes) (start .pre .1) .2), omega (arith, ap (λ (q : Sizes). q .start) (laid-sizes .ensures), laid-rows (now (start .args .plan)) (start .pre .0) (start .args .passes) (start .pre .1) .0))
 
 -- src/parts.rt:39:9
 returns : tie.Need-returns
-returns c = atom-open (now (c .before .before .before .before .before .before .args .plan)) (c .before .before .before .before .before .before .pre .0) (c .before .before .before .before .before .before .args .passes) (c .before .before .before .before .before .before .pre .1) (as-bytes (now (c .before .before .before .before .before .before .args .plan)) (λ i. omega (arith, c .before .before .before .before .before .shared-slice-known .given i))) (c .before .before .before .before .before .before .args .atom) (c .before .before .before .before .before .before .pre .4) (c .before .before .before .comparison-of .ensures) (ap (λ (q : Sizes). q .start) (c .before .before .laid-sizes .ensures)) (ap (λ (q : Sizes). q .cycle) (c .before .before .laid-sizes .ensures)) (c .before .steady .ensures) (c .before .before .before .before .before .before .args .i) (c .if1 .taken)
+returns c =
+    let start = c .before .before .before .before .before .before in
+    let shared-slice-known = c .before .before .before .before .before .shared-slice-known in
+    let comparison-of = c .before .before .before .comparison-of in
+    let laid-sizes = c .before .before .laid-sizes in
+    let steady = c .before .steady in
+    let if1 = c .if1 in
+    atom-open (now (start .args .plan)) (start .pre .0) (start .args .passes) (start .pre .1) (as-bytes (now (start .args .plan)) (λ i. omega (arith, shared-slice-known .given i))) (start .args .atom) (start .pre .4) (comparison-of .ensures) (ap (λ (q : Sizes). q .start) (laid-sizes .ensures)) (ap (λ (q : Sizes). q .cycle) (laid-sizes .ensures)) (steady .ensures) (start .args .i) (if1 .taken)
 
 -- src/parts.rt:48:9
 add-put-marks : tie.Need-add-put-marks
-add-put-marks c = omega (arith, ap (λ (q : Sizes). q .start) (c .before .before .before .before .laid-sizes .ensures), ap (λ (q : Sizes). q .cycle) (c .before .before .before .before .laid-sizes .ensures), laid-rows (now (c .before .before .before .before .before .before .before .before .args .plan)) (c .before .before .before .before .before .before .before .before .pre .0) (c .before .before .before .before .before .before .before .before .args .passes) (c .before .before .before .before .before .before .before .before .pre .1) .0)
+add-put-marks c =
+    let start = c .before .before .before .before .before .before .before .before in
+    let laid-sizes = c .before .before .before .before .laid-sizes in
+    omega (arith, ap (λ (q : Sizes). q .start) (laid-sizes .ensures), ap (λ (q : Sizes). q .cycle) (laid-sizes .ensures), laid-rows (now (start .args .plan)) (start .pre .0) (start .args .passes) (start .pre .1) .0)
 
 -- src/parts.rt:41:5
 put-marks-requires : tie.Need-put-marks-requires
-put-marks-requires c κs = (c .before .before .before .before .before .before .before .before .pre .0, atom-fit (c .before .before .before .before .before .before .before .before .args .sizes) _ (c .before .before .before .before .before .before .before .before .pre .4) (c .before .before .before .before .before .comparison-of .ensures), c .before .before .before .before .before .before .before .before .pre .2, c .before .before .before .before .before .before .before .before .pre .3, omega (arith, ap (λ (q : Sizes). q .start) (c .before .before .before .before .laid-sizes .ensures), ap (λ (q : Sizes). q .cycle) (c .before .before .before .before .laid-sizes .ensures), laid-rows (now (c .before .before .before .before .before .before .before .before .args .plan)) (c .before .before .before .before .before .before .before .before .pre .0) (c .before .before .before .before .before .before .before .before .args .passes) (c .before .before .before .before .before .before .before .before .pre .1) .0), omega (arith, ap (λ (q : Sizes). q .start) (c .before .before .before .before .laid-sizes .ensures), ap (λ (q : Sizes). q .cycle) (c .before .before .before .before .laid-sizes .ensures)))
+put-marks-requires c κs =
+    let start = c .before .before .before .before .before .before .before .before in
+    let comparison-of = c .before .before .before .before .before .comparison-of in
+    let laid-sizes = c .before .before .before .before .laid-sizes in
+    (start .pre .0, atom-fit (start .args .sizes) _ (start .pre .4) (comparison-of .ensures), start .pre .2, start .pre .3, omega (arith, ap (λ (q : Sizes). q .start) (laid-sizes .ensures), ap (λ (q : Sizes). q .cycle) (laid-sizes .ensures), laid-rows (now (start .args .plan)) (start .pre .0) (start .args .passes) (start .pre .1) .0), omega (arith, ap (λ (q : Sizes). q .start) (laid-sizes .ensures), ap (λ (q : Sizes). q .cycle) (laid-sizes .ensures)))
 
 -- src/parts.rt:24:1
 same-length : tie.Need-same-length
@@ -47,7 +67,15 @@ same-length c = search needs
 
 -- src/parts.rt:24:1
 returns-2 : tie.Need-returns-2
-returns-2 c = atom-closed (now (c .before .before .before .before .before .before .before .before .before .before .before .args .plan)) (c .before .before .before .before .before .before .before .before .before .before .before .pre .0) (c .before .before .before .before .before .before .before .before .before .before .before .args .passes) (c .before .before .before .before .before .before .before .before .before .before .before .pre .1) (as-bytes (now (c .before .before .before .before .before .before .before .before .before .before .before .args .plan)) (λ i. omega (arith, c .before .before .before .before .before .before .before .before .before .before .shared-slice-known .given i))) (c .before .before .before .before .before .before .before .before .before .before .before .args .atom) (c .before .before .before .before .before .before .before .before .before .before .before .pre .4) (c .before .before .before .before .before .before .before .before .comparison-of .ensures) (ap (λ (q : Sizes). q .start) (c .before .before .before .before .before .before .before .laid-sizes .ensures)) (ap (λ (q : Sizes). q .cycle) (c .before .before .before .before .before .before .before .laid-sizes .ensures)) (c .before .before .before .before .before .before .steady .ensures) (c .before .before .before .before .before .before .before .before .before .before .before .args .i) (c .before .before .before .before .before .if1 .left) (c .before .before .put-marks .ensures)
+returns-2 c =
+    let start = c .before .before .before .before .before .before .before .before .before .before .before in
+    let shared-slice-known = c .before .before .before .before .before .before .before .before .before .before .shared-slice-known in
+    let comparison-of = c .before .before .before .before .before .before .before .before .comparison-of in
+    let laid-sizes = c .before .before .before .before .before .before .before .laid-sizes in
+    let steady = c .before .before .before .before .before .before .steady in
+    let if1 = c .before .before .before .before .before .if1 in
+    let put-marks = c .before .before .put-marks in
+    atom-closed (now (start .args .plan)) (start .pre .0) (start .args .passes) (start .pre .1) (as-bytes (now (start .args .plan)) (λ i. omega (arith, shared-slice-known .given i))) (start .args .atom) (start .pre .4) (comparison-of .ensures) (ap (λ (q : Sizes). q .start) (laid-sizes .ensures)) (ap (λ (q : Sizes). q .cycle) (laid-sizes .ensures)) (steady .ensures) (start .args .i) (if1 .left) (put-marks .ensures)
 
 pub try-atom-spec : {M : Type 1} → statement M
 try-atom-spec =

@@ -24,7 +24,10 @@ enum-known-view c = search needs
 
 -- src/parts.rt:66:29
 try-atom-requires : tie.Need-try-atom-requires
-try-atom-requires c κs = (c .before .before .before .before .before .before .pre .0, c .before .before .before .before .before .before .pre .1, c .before .before .before .before .before .before .pre .2, c .before .before .before .before .before .before .pre .3, atom-fits (c .before .before .before .before .before .before .args .sizes .channels) (c .before .before .before .before .before .before .args .i) _ (subst (λ (q : View). viewFits (c .before .before .before .before .before .before .args .sizes .channels) (c .before .before .before .before .before .before .args .i) q ≡ true) (c .before .before .view .given .1) (c .before .before .before .before .before .before .pre .4)))
+try-atom-requires c κs =
+    let start = c .before .before .before .before .before .before in
+    let view = c .before .before .view in
+    (start .pre .0, start .pre .1, start .pre .2, start .pre .3, atom-fits (start .args .sizes .channels) (start .args .i) _ (subst (λ (q : View). viewFits (start .args .sizes .channels) (start .args .i) q ≡ true) (view .given .1) (start .pre .4)))
 
 -- src/parts.rt:67:24
 enum-known-view-2 : tie.Need-enum-known-view-2
@@ -32,11 +35,18 @@ enum-known-view-2 c = search needs
 
 -- src/parts.rt:67:59
 laid-sizes-requires : tie.Need-laid-sizes-requires
-laid-sizes-requires c κs = (few-passes (c .before .before .before .before .before .before .pre .0) (c .before .before .before .before .before .before .args .passes) (c .before .before .before .before .before .before .pre .1), c .before .before .before .before .before .before .pre .0 .few-rows)
+laid-sizes-requires c κs =
+    let start = c .before .before .before .before .before .before in
+    (few-passes (start .pre .0) (start .args .passes) (start .pre .1), start .pre .0 .few-rows)
 
 -- src/parts.rt:67:37
 try-operator-requires : tie.Need-try-operator-requires
-try-operator-requires c κs = (c .before .before .before .before .before .before .before .pre .2, c .before .before .before .before .before .before .before .pre .3, operator-fits (c .before .before .before .before .before .before .before .args .sizes .channels) (c .before .before .before .before .before .before .before .args .i) _ (subst (λ (q : View). viewFits (c .before .before .before .before .before .before .before .args .sizes .channels) (c .before .before .before .before .before .before .before .args .i) q ≡ true) (c .before .before .before .view2 .given .1) (c .before .before .before .before .before .before .before .pre .4)), operator-room (now (c .before .before .before .before .before .before .before .args .plan)) (c .before .before .before .before .before .before .before .pre .0) (c .before .before .before .before .before .before .before .args .passes) (c .before .before .before .before .before .before .before .pre .1) (as-bytes (now (c .before .before .before .before .before .before .before .args .plan)) (λ i. omega (arith, c .before .before .before .before .before .before .shared-slice-known .given i))) (c .laid-sizes .ensures) .0, operator-room (now (c .before .before .before .before .before .before .before .args .plan)) (c .before .before .before .before .before .before .before .pre .0) (c .before .before .before .before .before .before .before .args .passes) (c .before .before .before .before .before .before .before .pre .1) (as-bytes (now (c .before .before .before .before .before .before .before .args .plan)) (λ i. omega (arith, c .before .before .before .before .before .before .shared-slice-known .given i))) (c .laid-sizes .ensures) .1)
+try-operator-requires c κs =
+    let start = c .before .before .before .before .before .before .before in
+    let shared-slice-known = c .before .before .before .before .before .before .shared-slice-known in
+    let view2 = c .before .before .before .view2 in
+    let laid-sizes = c .laid-sizes in
+    (start .pre .2, start .pre .3, operator-fits (start .args .sizes .channels) (start .args .i) _ (subst (λ (q : View). viewFits (start .args .sizes .channels) (start .args .i) q ≡ true) (view2 .given .1) (start .pre .4)), operator-room (now (start .args .plan)) (start .pre .0) (start .args .passes) (start .pre .1) (as-bytes (now (start .args .plan)) (λ i. omega (arith, shared-slice-known .given i))) (laid-sizes .ensures) .0, operator-room (now (start .args .plan)) (start .pre .0) (start .args .passes) (start .pre .1) (as-bytes (now (start .args .plan)) (λ i. omega (arith, shared-slice-known .given i))) (laid-sizes .ensures) .1)
 
 -- src/parts.rt:54:1
 same-length : tie.Need-same-length
@@ -44,7 +54,10 @@ same-length c = search needs
 
 -- src/parts.rt:54:1
 returns : tie.Need-returns
-returns c = tried-view _ (c .before .before .before .before .before .view .given .1) (c .before .before .try-atom .ensures)
+returns c =
+    let view = c .before .before .before .before .before .view in
+    let try-atom = c .before .before .try-atom in
+    tried-view _ (view .given .1) (try-atom .ensures)
 
 -- src/parts.rt:54:1
 same-length-2 : tie.Need-same-length-2
@@ -52,7 +65,13 @@ same-length-2 c = search needs
 
 -- src/parts.rt:54:1
 returns-2 : tie.Need-returns-2
-returns-2 c = tried-view _ (c .before .before .before .before .before .before .view2 .given .1) (operator-tried (now (c .before .before .before .before .before .before .before .before .before .before .args .plan)) (c .before .before .before .before .before .before .before .before .before .before .pre .0) (c .before .before .before .before .before .before .before .before .before .before .args .passes) (c .before .before .before .before .before .before .before .before .before .before .pre .1) (as-bytes (now (c .before .before .before .before .before .before .before .before .before .before .args .plan)) (λ i. omega (arith, c .before .before .before .before .before .before .before .before .before .shared-slice-known .given i))) (c .before .before .before .laid-sizes .ensures) (c .before .before .before .before .before .before .before .before .before .before .args .i) _ (c .before .before .try-operator .ensures))
+returns-2 c =
+    let start = c .before .before .before .before .before .before .before .before .before .before in
+    let shared-slice-known = c .before .before .before .before .before .before .before .before .before .shared-slice-known in
+    let view2 = c .before .before .before .before .before .before .view2 in
+    let laid-sizes = c .before .before .before .laid-sizes in
+    let try-operator = c .before .before .try-operator in
+    tried-view _ (view2 .given .1) (operator-tried (now (start .args .plan)) (start .pre .0) (start .args .passes) (start .pre .1) (as-bytes (now (start .args .plan)) (λ i. omega (arith, shared-slice-known .given i))) (laid-sizes .ensures) (start .args .i) _ (try-operator .ensures))
 
 pub try-view-spec : {M : Type 1} → statement M
 try-view-spec =

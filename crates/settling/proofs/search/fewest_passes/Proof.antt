@@ -23,11 +23,18 @@ abbrev μ-loop : tie.MeasureT-loop
 
 -- src/search.rt:23:5
 loop-holds : tie.Need-loop-holds Inv-loop μ-loop
-loop-holds c = searching-first (now (c .before .before .before .args .rule)) (now (c .before .before .before .args .plan)) (c .before .before .before .pre .0) (as-bytes (now (c .before .before .before .args .plan)) (λ i. omega (arith, c .before .shared-slice-known2 .given i))) (c .before .before .before .pre .1)
+loop-holds c =
+    let start = c .before .before .before in
+    let shared-slice-known2 = c .before .shared-slice-known2 in
+    searching-first (now (start .args .rule)) (now (start .args .plan)) (start .pre .0) (as-bytes (now (start .args .plan)) (λ i. omega (arith, shared-slice-known2 .given i))) (start .pre .1)
 
 -- src/search.rt:24:12
 try-part-requires : tie.Need-try-part-requires Inv-loop μ-loop
-try-part-requires c κs = (c .before .before .before .before .before .before .pre .0, c .before .before .loop .inv .can, c .before .before .loop .inv .made, c .before .loop-test .taken)
+try-part-requires c κs =
+    let start = c .before .before .before .before .before .before in
+    let loop = c .before .before .loop in
+    let loop-test = c .before .loop-test in
+    (start .pre .0, loop .inv .can, loop .inv .made, loop-test .taken)
 
 -- src/search.rt:25:13
 add-i : tie.Need-add-i Inv-loop μ-loop
@@ -39,15 +46,28 @@ loop-less c = omega (arith, c .before .before .before .before .before .loop-test
 
 -- src/search.rt:23:5
 loop-again : tie.Need-loop-again Inv-loop μ-loop
-loop-again c = part-closes (now (c .before .before .before .before .before .before .before .before .before .before .args .rule)) (now (c .before .before .before .before .before .before .before .before .before .before .args .plan)) (c .before .before .before .before .before .before .before .before .before .before .pre .0) (c .before .before .before .before .before .before .loop .inv) (c .before .before .before .try-part .ensures .0) (c .before .before .before .before .before .loop-test .taken) (c .if1 .taken) (c .before .before .before .try-part .ensures .2 (c .if1 .taken))
+loop-again c =
+    let start = c .before .before .before .before .before .before .before .before .before .before in
+    let loop = c .before .before .before .before .before .before .loop in
+    let loop-test = c .before .before .before .before .before .loop-test in
+    let try-part = c .before .before .before .try-part in
+    let if1 = c .if1 in
+    part-closes (now (start .args .rule)) (now (start .args .plan)) (start .pre .0) (loop .inv) (try-part .ensures .0) (loop-test .taken) (if1 .taken) (try-part .ensures .2 (if1 .taken))
 
 -- src/search.rt:27:17
 next-passes-requires : tie.Need-next-passes-requires Inv-loop μ-loop
-next-passes-requires c κs = (c .before .before .before .before .before .before .before .before .before .before .pre .0, c .before .before .before .before .before .loop-test .taken, few-passes (now (c .before .before .before .before .before .before .before .before .before .before .args .rule)) (now (c .before .before .before .before .before .before .before .before .before .before .args .plan)) (c .before .before .before .before .before .before .before .before .before .before .pre .0) (c .before .before .before .before .before .before .loop .passes) (c .before .before .before .before .before .before .loop .inv .can))
+next-passes-requires c κs =
+    let start = c .before .before .before .before .before .before .before .before .before .before in
+    let loop = c .before .before .before .before .before .before .loop in
+    let loop-test = c .before .before .before .before .before .loop-test in
+    (start .pre .0, loop-test .taken, few-passes (now (start .args .rule)) (now (start .args .plan)) (start .pre .0) (loop .passes) (loop .inv .can))
 
 -- src/search.rt:28:17
 can-be-laid-requires : tie.Need-can-be-laid-requires Inv-loop μ-loop
-can-be-laid-requires c κs = (c .before .before .before .before .before .before .before .before .before .before .before .pre .0 .fits, c .next-passes .ensures .1)
+can-be-laid-requires c κs =
+    let start = c .before .before .before .before .before .before .before .before .before .before .before in
+    let next-passes = c .next-passes in
+    (start .pre .0 .fits, next-passes .ensures .1)
 
 -- src/search.rt:29:17
 same-length : tie.Need-same-length Inv-loop μ-loop
@@ -55,39 +75,94 @@ same-length c = search needs
 
 -- src/search.rt:29:17
 returns : tie.Need-returns Inv-loop μ-loop
-returns c = no-more (now (c .before .before .before .before .before .before .before .before .before .before .before .before .before .args .rule)) (now (c .before .before .before .before .before .before .before .before .before .before .before .before .before .args .plan)) (c .before .before .before .before .before .before .before .before .before .before .before .before .before .pre .0) (c .before .before .before .before .before .before .before .before .before .loop .inv) (c .before .before .before .before .before .before .try-part .ensures .0) (c .before .before .before .before .before .before .before .before .loop-test .taken) (c .before .before .before .if1 .left) (c .before .before .next-passes .ensures .0) (c .before .before .next-passes .ensures .2) (c .before .can-be-laid .ensures) (c .if2 .taken)
+returns c =
+    let start = c .before .before .before .before .before .before .before .before .before .before .before .before .before in
+    let loop = c .before .before .before .before .before .before .before .before .before .loop in
+    let loop-test = c .before .before .before .before .before .before .before .before .loop-test in
+    let try-part = c .before .before .before .before .before .before .try-part in
+    let if1 = c .before .before .before .if1 in
+    let next-passes = c .before .before .next-passes in
+    let can-be-laid = c .before .can-be-laid in
+    let if2 = c .if2 in
+    no-more (now (start .args .rule)) (now (start .args .plan)) (start .pre .0) (loop .inv) (try-part .ensures .0) (loop-test .taken) (if1 .left) (next-passes .ensures .0) (next-passes .ensures .2) (can-be-laid .ensures) (if2 .taken)
 
 -- src/search.rt:31:17
 laid-sizes-requires : tie.Need-laid-sizes-requires Inv-loop μ-loop
-laid-sizes-requires c κs = (few-passes (now (c .before .before .before .before .before .before .before .before .before .before .before .before .before .args .rule)) (now (c .before .before .before .before .before .before .before .before .before .before .before .before .before .args .plan)) (c .before .before .before .before .before .before .before .before .before .before .before .before .before .pre .0) (c .before .before .before .before .before .before .before .before .before .loop .passes) (c .before .before .before .before .before .before .before .before .before .loop .inv .can), c .before .before .before .before .before .before .before .before .before .before .before .before .before .pre .0 .fits .few-rows)
+laid-sizes-requires c κs =
+    let start = c .before .before .before .before .before .before .before .before .before .before .before .before .before in
+    let loop = c .before .before .before .before .before .before .before .before .before .loop in
+    (few-passes (now (start .args .rule)) (now (start .args .plan)) (start .pre .0) (loop .passes) (loop .inv .can), start .pre .0 .fits .few-rows)
 
 -- src/search.rt:33:24
 add-from : tie.Need-add-from Inv-loop μ-loop
-add-from c = omega (arith, more-room (now (c .before .before .before .before .before .before .before .before .before .before .before .before .before .before .before .args .rule)) (now (c .before .before .before .before .before .before .before .before .before .before .before .before .before .before .before .args .plan)) (c .before .before .before .before .before .before .before .before .before .before .before .before .before .before .before .pre .0) (c .before .before .before .before .next-passes .ensures .0) (passed (c .before .before .before .can-be-laid .ensures) (c .before .before .if2 .left)) (c .before .laid-sizes .ensures) .1)
+add-from c =
+    let start = c .before .before .before .before .before .before .before .before .before .before .before .before .before .before .before in
+    let next-passes = c .before .before .before .before .next-passes in
+    let can-be-laid = c .before .before .before .can-be-laid in
+    let if2 = c .before .before .if2 in
+    let laid-sizes = c .before .laid-sizes in
+    omega (arith, more-room (now (start .args .rule)) (now (start .args .plan)) (start .pre .0) (next-passes .ensures .0) (passed (can-be-laid .ensures) (if2 .left)) (laid-sizes .ensures) .1)
 
 -- src/search.rt:34:55
 sub-repeat-rows : tie.Need-sub-repeat-rows Inv-loop μ-loop
-sub-repeat-rows c = omega (arith, c .before .before .before .before .before .next-passes .ensures .0)
+sub-repeat-rows c =
+    let next-passes = c .before .before .before .before .before .next-passes in
+    omega (arith, next-passes .ensures .0)
 
 -- src/search.rt:34:54
 mul-repeat-rows : tie.Need-mul-repeat-rows Inv-loop μ-loop
-mul-repeat-rows c = omega (arith, more-room (now (c .before .before .before .before .before .before .before .before .before .before .before .before .before .before .before .before .args .rule)) (now (c .before .before .before .before .before .before .before .before .before .before .before .before .before .before .before .before .args .plan)) (c .before .before .before .before .before .before .before .before .before .before .before .before .before .before .before .before .pre .0) (c .before .before .before .before .before .next-passes .ensures .0) (passed (c .before .before .before .before .can-be-laid .ensures) (c .before .before .before .if2 .left)) (c .before .before .laid-sizes .ensures) .1)
+mul-repeat-rows c =
+    let start = c .before .before .before .before .before .before .before .before .before .before .before .before .before .before .before .before in
+    let next-passes = c .before .before .before .before .before .next-passes in
+    let can-be-laid = c .before .before .before .before .can-be-laid in
+    let if2 = c .before .before .before .if2 in
+    let laid-sizes = c .before .before .laid-sizes in
+    omega (arith, more-room (now (start .args .rule)) (now (start .args .plan)) (start .pre .0) (next-passes .ensures .0) (passed (can-be-laid .ensures) (if2 .left)) (laid-sizes .ensures) .1)
 
 -- src/search.rt:34:47
 add-repeat-rows : tie.Need-add-repeat-rows Inv-loop μ-loop
-add-repeat-rows c = omega (arith, more-room (now (c .before .before .before .before .before .before .before .before .before .before .before .before .before .before .before .before .args .rule)) (now (c .before .before .before .before .before .before .before .before .before .before .before .before .before .before .before .before .args .plan)) (c .before .before .before .before .before .before .before .before .before .before .before .before .before .before .before .before .pre .0) (c .before .before .before .before .before .next-passes .ensures .0) (passed (c .before .before .before .before .can-be-laid .ensures) (c .before .before .before .if2 .left)) (c .before .before .laid-sizes .ensures) .1)
+add-repeat-rows c =
+    let start = c .before .before .before .before .before .before .before .before .before .before .before .before .before .before .before .before in
+    let next-passes = c .before .before .before .before .before .next-passes in
+    let can-be-laid = c .before .before .before .before .can-be-laid in
+    let if2 = c .before .before .before .if2 in
+    let laid-sizes = c .before .before .laid-sizes in
+    omega (arith, more-room (now (start .args .rule)) (now (start .args .plan)) (start .pre .0) (next-passes .ensures .0) (passed (can-be-laid .ensures) (if2 .left)) (laid-sizes .ensures) .1)
 
 -- src/search.rt:34:13
 repeat-rows-requires : tie.Need-repeat-rows-requires Inv-loop μ-loop
-repeat-rows-requires c κs = (c .before .before .before .before .before .before .before .before .before .try-part .ensures .1 .room, more-room (now (c .before .before .before .before .before .before .before .before .before .before .before .before .before .before .before .before .args .rule)) (now (c .before .before .before .before .before .before .before .before .before .before .before .before .before .before .before .before .args .plan)) (c .before .before .before .before .before .before .before .before .before .before .before .before .before .before .before .before .pre .0) (c .before .before .before .before .before .next-passes .ensures .0) (passed (c .before .before .before .before .can-be-laid .ensures) (c .before .before .before .if2 .left)) (c .before .before .laid-sizes .ensures) .0, omega arith, more-room (now (c .before .before .before .before .before .before .before .before .before .before .before .before .before .before .before .before .args .rule)) (now (c .before .before .before .before .before .before .before .before .before .before .before .before .before .before .before .before .args .plan)) (c .before .before .before .before .before .before .before .before .before .before .before .before .before .before .before .before .pre .0) (c .before .before .before .before .before .next-passes .ensures .0) (passed (c .before .before .before .before .can-be-laid .ensures) (c .before .before .before .if2 .left)) (c .before .before .laid-sizes .ensures) .1)
+repeat-rows-requires c κs =
+    let start = c .before .before .before .before .before .before .before .before .before .before .before .before .before .before .before .before in
+    let try-part = c .before .before .before .before .before .before .before .before .before .try-part in
+    let next-passes = c .before .before .before .before .before .next-passes in
+    let can-be-laid = c .before .before .before .before .can-be-laid in
+    let if2 = c .before .before .before .if2 in
+    let laid-sizes = c .before .before .laid-sizes in
+    (try-part .ensures .1 .room, more-room (now (start .args .rule)) (now (start .args .plan)) (start .pre .0) (next-passes .ensures .0) (passed (can-be-laid .ensures) (if2 .left)) (laid-sizes .ensures) .0, omega arith, more-room (now (start .args .rule)) (now (start .args .plan)) (start .pre .0) (next-passes .ensures .0) (passed (can-be-laid .ensures) (if2 .left)) (laid-sizes .ensures) .1)
 
 -- src/search.rt:23:5
 loop-less-2 : tie.Need-loop-less-2 Inv-loop μ-loop
-loop-less-2 c = omega (arith, few-passes (now (c .before .before .before .before .before .before .before .before .before .before .before .before .before .before .before .before .before .before .before .args .rule)) (now (c .before .before .before .before .before .before .before .before .before .before .before .before .before .before .before .before .before .before .before .args .plan)) (c .before .before .before .before .before .before .before .before .before .before .before .before .before .before .before .before .before .before .before .pre .0) (c .before .before .before .before .before .before .before .before .before .before .before .before .before .before .before .loop .passes) (c .before .before .before .before .before .before .before .before .before .before .before .before .before .before .before .loop .inv .can), c .before .before .before .before .before .before .before .before .next-passes .ensures .0)
+loop-less-2 c =
+    let start = c .before .before .before .before .before .before .before .before .before .before .before .before .before .before .before .before .before .before .before in
+    let loop = c .before .before .before .before .before .before .before .before .before .before .before .before .before .before .before .loop in
+    let next-passes = c .before .before .before .before .before .before .before .before .next-passes in
+    omega (arith, few-passes (now (start .args .rule)) (now (start .args .plan)) (start .pre .0) (loop .passes) (loop .inv .can), next-passes .ensures .0)
 
 -- src/search.rt:23:5
 loop-again-2 : tie.Need-loop-again-2 Inv-loop μ-loop
-loop-again-2 c = more-laid (now (c .before .before .before .before .before .before .before .before .before .before .before .before .before .before .before .before .before .before .before .args .rule)) (now (c .before .before .before .before .before .before .before .before .before .before .before .before .before .before .before .before .before .before .before .args .plan)) (c .before .before .before .before .before .before .before .before .before .before .before .before .before .before .before .before .before .before .before .pre .0) (c .before .before .before .before .before .before .before .before .before .before .before .before .before .before .before .loop .inv) (c .before .before .before .before .before .before .before .before .before .before .before .before .try-part .ensures .0) (c .before .before .before .before .before .before .before .before .before .before .before .before .before .before .loop-test .taken) (c .before .before .before .before .before .before .before .before .before .if1 .left) (c .before .before .before .before .before .before .before .before .next-passes .ensures .0) (c .before .before .before .before .before .before .before .before .next-passes .ensures .2) (as-bytes (now (c .before .before .before .before .before .before .before .before .before .before .before .before .before .before .before .before .before .before .before .args .plan)) (λ i. omega (arith, c .before .before .before .before .before .before .before .before .before .before .before .before .before .before .before .before .before .shared-slice-known2 .given i))) (passed (c .before .before .before .before .before .before .before .can-be-laid .ensures) (c .before .before .before .before .before .before .if2 .left)) (c .before .before .before .before .before .before .before .before .before .before .before .before .try-part .ensures .1) (c .before .before .before .before .before .laid-sizes .ensures) (c .before .before .repeat-rows .ensures)
+loop-again-2 c =
+    let start = c .before .before .before .before .before .before .before .before .before .before .before .before .before .before .before .before .before .before .before in
+    let shared-slice-known2 = c .before .before .before .before .before .before .before .before .before .before .before .before .before .before .before .before .before .shared-slice-known2 in
+    let loop = c .before .before .before .before .before .before .before .before .before .before .before .before .before .before .before .loop in
+    let loop-test = c .before .before .before .before .before .before .before .before .before .before .before .before .before .before .loop-test in
+    let try-part = c .before .before .before .before .before .before .before .before .before .before .before .before .try-part in
+    let if1 = c .before .before .before .before .before .before .before .before .before .if1 in
+    let next-passes = c .before .before .before .before .before .before .before .before .next-passes in
+    let can-be-laid = c .before .before .before .before .before .before .before .can-be-laid in
+    let if2 = c .before .before .before .before .before .before .if2 in
+    let laid-sizes = c .before .before .before .before .before .laid-sizes in
+    let repeat-rows = c .before .before .repeat-rows in
+    more-laid (now (start .args .rule)) (now (start .args .plan)) (start .pre .0) (loop .inv) (try-part .ensures .0) (loop-test .taken) (if1 .left) (next-passes .ensures .0) (next-passes .ensures .2) (as-bytes (now (start .args .plan)) (λ i. omega (arith, shared-slice-known2 .given i))) (passed (can-be-laid .ensures) (if2 .left)) (try-part .ensures .1) (laid-sizes .ensures) (repeat-rows .ensures)
 
 -- src/search.rt:17:1
 same-length-2 : tie.Need-same-length-2 Inv-loop μ-loop
@@ -95,7 +170,11 @@ same-length-2 c = search needs
 
 -- src/search.rt:17:1
 returns-2 : tie.Need-returns-2 Inv-loop μ-loop
-returns-2 c = all-close (now (c .before .before .before .before .before .args .rule)) (now (c .before .before .before .before .before .args .plan)) (c .before .before .before .before .before .pre .0) (c .before .loop .inv) (c .loop-test .left)
+returns-2 c =
+    let start = c .before .before .before .before .before in
+    let loop = c .before .loop in
+    let loop-test = c .loop-test in
+    all-close (now (start .args .rule)) (now (start .args .plan)) (start .pre .0) (loop .inv) (loop-test .left)
 
 pub fewest-passes-spec : {M : Type 1} → statement M
 fewest-passes-spec =

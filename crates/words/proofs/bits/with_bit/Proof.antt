@@ -14,23 +14,40 @@ one-bit-requires c κs = search needs
 
 -- src/bits.rt:28:15
 rem-result : tie.Need-rem-result
-rem-result c = one-positive (c .before .before .args .part) (c .before .before .pre) (c .before .one-bit .ensures)
+rem-result c =
+    let start = c .before .before in
+    let one-bit = c .before .one-bit in
+    one-positive (start .args .part) (start .pre) (one-bit .ensures)
 
 -- src/bits.rt:28:15
 add-result : tie.Need-add-result
-add-result c = omega (arith, one-fits (c .before .before .args .part) (c .before .before .pre) (c .before .one-bit .ensures) (c .before .before .args .word))
+add-result c =
+    let start = c .before .before in
+    let one-bit = c .before .one-bit in
+    omega (arith, one-fits (start .args .part) (start .pre) (one-bit .ensures) (start .args .word))
 
 -- src/bits.rt:28:41
 rem-result-2 : tie.Need-rem-result-2
-rem-result-2 c = one-positive (c .before .before .args .part) (c .before .before .pre) (c .before .one-bit .ensures)
+rem-result-2 c =
+    let start = c .before .before in
+    let one-bit = c .before .one-bit in
+    one-positive (start .args .part) (start .pre) (one-bit .ensures)
 
 -- src/bits.rt:23:1
 returns : tie.Need-returns
-returns c = set-as (c .before .before .args .part) (c .before .before .pre) (c .before .one-bit .ensures) (c .before .before .args .word) (c .before .before .args .mark) (c .if1 .taken)
+returns c =
+    let start = c .before .before in
+    let one-bit = c .before .one-bit in
+    let if1 = c .if1 in
+    set-as (start .args .part) (start .pre) (one-bit .ensures) (start .args .word) (start .args .mark) (if1 .taken)
 
 -- src/bits.rt:23:1
 returns-2 : tie.Need-returns-2
-returns-2 c = unset-as (c .before .before .args .part) (c .before .before .pre) (c .before .one-bit .ensures) (c .before .before .args .word) (c .before .before .args .mark) (c .if1 .left)
+returns-2 c =
+    let start = c .before .before in
+    let one-bit = c .before .one-bit in
+    let if1 = c .if1 in
+    unset-as (start .args .part) (start .pre) (one-bit .ensures) (start .args .word) (start .args .mark) (if1 .left)
 
 pub with-bit-spec : {M : Type 1} → statement M
 with-bit-spec =

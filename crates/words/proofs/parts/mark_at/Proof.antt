@@ -21,7 +21,11 @@ bit-requires c κs = search needs
 -- src/parts.rt:11:1
 returns : tie.Need-returns
 unfolding markAt
-returns c = c .bit .ensures ∙ ap (λ (x : ℕ). bitOf x (c .before .before .before .args .part)) (c .before .word-at .ensures)
+returns c =
+    let start = c .before .before .before in
+    let word-at = c .before .word-at in
+    let bit = c .bit in
+    bit .ensures ∙ ap (λ (x : ℕ). bitOf x (start .args .part)) (word-at .ensures)
 
 pub mark-at-spec : {M : Type 1} → statement M
 mark-at-spec = tie.close (tie.spec word-at-requires bit-requires returns)

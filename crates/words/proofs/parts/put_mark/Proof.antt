@@ -27,7 +27,12 @@ same-length c = search needs
 
 -- src/parts.rt:19:1
 returns : tie.Need-returns
-returns c = mark-put (c .before .before .before .before .before .before .before .before .args .part) (c .before .before .before .before .before .before .before .before .args .row) (c .before .before .before .before .before .before .before .before .args .mark) (c .before .before .before .before .before .word-at .ensures) (c .before .before .before .with-bit .ensures) (c .before .before .put-word .ensures)
+returns c =
+    let start = c .before .before .before .before .before .before .before .before in
+    let word-at = c .before .before .before .before .before .word-at in
+    let with-bit = c .before .before .before .with-bit in
+    let put-word = c .before .before .put-word in
+    mark-put (start .args .part) (start .args .row) (start .args .mark) (word-at .ensures) (with-bit .ensures) (put-word .ensures)
 
 pub put-mark-spec : {M : Type 1} → statement M
 put-mark-spec =

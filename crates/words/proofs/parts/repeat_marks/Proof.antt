@@ -23,19 +23,33 @@ loop-holds c = marks-none _ _ _ _ _ (c .before .pre .4)
 
 -- src/parts.rt:34:43
 sub-mark-at : tie.Need-sub-mark-at Inv-loop μ-loop
-sub-mark-at c = omega (arith, c .before .before .loop .inv .0, c .before .before .before .before .pre .3)
+sub-mark-at c =
+    let start = c .before .before .before .before in
+    let loop = c .before .before .loop in
+    omega (arith, loop .inv .0, start .pre .3)
 
 -- src/parts.rt:34:13
 mark-at-requires : tie.Need-mark-at-requires Inv-loop μ-loop
-mark-at-requires c κs = (c .before .before .loop .inv .2 .long ∙ c .before .before .before .before .pre .0, c .before .before .before .before .pre .1, omega (arith, c .before .loop-test .taken, c .before .before .before .before .pre .5))
+mark-at-requires c κs =
+    let start = c .before .before .before .before in
+    let loop = c .before .before .loop in
+    let loop-test = c .before .loop-test in
+    (loop .inv .2 .long ∙ start .pre .0, start .pre .1, omega (arith, loop-test .taken, start .pre .5))
 
 -- src/parts.rt:35:9
 put-mark-requires : tie.Need-put-mark-requires Inv-loop μ-loop
-put-mark-requires c κs = (c .before .before .before .before .loop .inv .2 .long ∙ c .before .before .before .before .before .before .pre .0, c .before .before .before .before .before .before .pre .1, omega (arith, c .before .before .before .loop-test .taken, c .before .before .before .before .before .before .pre .5))
+put-mark-requires c κs =
+    let start = c .before .before .before .before .before .before in
+    let loop = c .before .before .before .before .loop in
+    let loop-test = c .before .before .before .loop-test in
+    (loop .inv .2 .long ∙ start .pre .0, start .pre .1, omega (arith, loop-test .taken, start .pre .5))
 
 -- src/parts.rt:36:9
 add-row : tie.Need-add-row Inv-loop μ-loop
-add-row c = omega (arith, c .before .before .before .before .before .before .loop-test .taken, c .before .before .before .before .before .before .before .before .before .pre .5)
+add-row c =
+    let start = c .before .before .before .before .before .before .before .before .before in
+    let loop-test = c .before .before .before .before .before .before .loop-test in
+    omega (arith, loop-test .taken, start .pre .5)
 
 -- src/parts.rt:33:5
 loop-less : tie.Need-loop-less Inv-loop μ-loop
@@ -43,7 +57,13 @@ loop-less c = omega (arith, c .before .before .before .before .before .before .l
 
 -- src/parts.rt:33:5
 loop-again : tie.Need-loop-again Inv-loop μ-loop
-loop-again c = marks-next (c .before .before .before .before .before .before .before .before .before .pre .2) (c .before .before .before .before .before .before .before .before .before .pre .3) (c .before .before .before .before .before .before .before .loop .inv) (c .before .before .before .before .before .before .loop-test .taken) (c .before .before .before .before .mark-at .ensures) (c .before .before .put-mark .ensures)
+loop-again c =
+    let start = c .before .before .before .before .before .before .before .before .before in
+    let loop = c .before .before .before .before .before .before .before .loop in
+    let loop-test = c .before .before .before .before .before .before .loop-test in
+    let mark-at = c .before .before .before .before .mark-at in
+    let put-mark = c .before .before .put-mark in
+    marks-next (start .pre .2) (start .pre .3) (loop .inv) (loop-test .taken) (mark-at .ensures) (put-mark .ensures)
 
 -- src/parts.rt:28:1
 same-length : tie.Need-same-length Inv-loop μ-loop
@@ -51,7 +71,10 @@ same-length c = search needs
 
 -- src/parts.rt:28:1
 returns : tie.Need-returns Inv-loop μ-loop
-returns c = marks-all _ (c .before .loop .inv) (c .loop-test .left)
+returns c =
+    let loop = c .before .loop in
+    let loop-test = c .loop-test in
+    marks-all _ (loop .inv) (loop-test .left)
 
 pub repeat-marks-spec : {M : Type 1} → statement M
 repeat-marks-spec =

@@ -69,9 +69,11 @@ same-length c = search needs
 
 -- src/rows.rt:21:1
 returns : tie.Need-returns
-returns c = word-put (c .before .before .before .before .before .before .before .before .before .args .row) (c .before .before .before .before .before .before .before .before .before .args .word) (omega arith)
-    (stored-lent _ (bytesOf 4 _) _ _ (length-bytes 4 _) (omega (arith, c .before .before .before .before .before .before .before .before .before .pre .0, c .before .before .before .before .before .before .before .before .before .pre .1)) _ (c .before .before .before .before .before .before .put-u32 .ensures))
-    (stored-lent _ (bytesOf 4 _) _ _ (length-bytes 4 _) (omega (arith, c .before .before .before .before .before .before .before .before .before .pre .0, c .before .before .before .before .before .before .before .before .before .pre .1)) _ (c .before .before .put-u322 .ensures))
+returns c =
+    let start = c .before .before .before .before .before .before .before .before .before in
+    let put-u32 = c .before .before .before .before .before .before .put-u32 in
+    let put-u322 = c .before .before .put-u322 in
+    word-put (start .args .row) (start .args .word) (omega arith) (stored-lent _ (bytesOf 4 _) _ _ (length-bytes 4 _) (omega (arith, start .pre .0, start .pre .1)) _ (put-u32 .ensures)) (stored-lent _ (bytesOf 4 _) _ _ (length-bytes 4 _) (omega (arith, start .pre .0, start .pre .1)) _ (put-u322 .ensures))
 
 pub put-word-spec : {M : Type 1} → statement M
 put-word-spec =

@@ -23,19 +23,33 @@ loop-holds c = rows-none _ _ _
 
 -- src/rows.rt:36:37
 sub-word-at : tie.Need-sub-word-at Inv-loop μ-loop
-sub-word-at c = omega (arith, c .before .before .loop .inv .0, c .before .before .before .before .pre .2)
+sub-word-at c =
+    let start = c .before .before .before .before in
+    let loop = c .before .before .loop in
+    omega (arith, loop .inv .0, start .pre .2)
 
 -- src/rows.rt:36:13
 word-at-requires : tie.Need-word-at-requires Inv-loop μ-loop
-word-at-requires c κs = (c .before .before .loop .inv .1 .long ∙ c .before .before .before .before .pre .0, omega (arith, c .before .loop-test .taken, c .before .before .before .before .pre .3))
+word-at-requires c κs =
+    let start = c .before .before .before .before in
+    let loop = c .before .before .loop in
+    let loop-test = c .before .loop-test in
+    (loop .inv .1 .long ∙ start .pre .0, omega (arith, loop-test .taken, start .pre .3))
 
 -- src/rows.rt:37:9
 put-word-requires : tie.Need-put-word-requires Inv-loop μ-loop
-put-word-requires c κs = (c .before .before .before .before .loop .inv .1 .long ∙ c .before .before .before .before .before .before .pre .0, omega (arith, c .before .before .before .loop-test .taken, c .before .before .before .before .before .before .pre .3))
+put-word-requires c κs =
+    let start = c .before .before .before .before .before .before in
+    let loop = c .before .before .before .before .loop in
+    let loop-test = c .before .before .before .loop-test in
+    (loop .inv .1 .long ∙ start .pre .0, omega (arith, loop-test .taken, start .pre .3))
 
 -- src/rows.rt:38:9
 add-row : tie.Need-add-row Inv-loop μ-loop
-add-row c = omega (arith, c .before .before .before .before .before .before .loop-test .taken, c .before .before .before .before .before .before .before .before .before .pre .3)
+add-row c =
+    let start = c .before .before .before .before .before .before .before .before .before in
+    let loop-test = c .before .before .before .before .before .before .loop-test in
+    omega (arith, loop-test .taken, start .pre .3)
 
 -- src/rows.rt:35:5
 loop-less : tie.Need-loop-less Inv-loop μ-loop
@@ -43,7 +57,12 @@ loop-less c = omega (arith, c .before .before .before .before .before .before .l
 
 -- src/rows.rt:35:5
 loop-again : tie.Need-loop-again Inv-loop μ-loop
-loop-again c = rows-next (c .before .before .before .before .before .before .before .before .before .pre .1) (c .before .before .before .before .before .before .before .before .before .pre .2) (c .before .before .before .before .before .before .before .loop .inv) (c .before .before .before .before .word-at .ensures) (c .before .before .put-word .ensures)
+loop-again c =
+    let start = c .before .before .before .before .before .before .before .before .before in
+    let loop = c .before .before .before .before .before .before .before .loop in
+    let word-at = c .before .before .before .before .word-at in
+    let put-word = c .before .before .put-word in
+    rows-next (start .pre .1) (start .pre .2) (loop .inv) (word-at .ensures) (put-word .ensures)
 
 -- src/rows.rt:30:1
 same-length : tie.Need-same-length Inv-loop μ-loop
@@ -51,7 +70,11 @@ same-length c = search needs
 
 -- src/rows.rt:30:1
 returns : tie.Need-returns Inv-loop μ-loop
-returns c = rows-all (c .before .loop .inv) (c .before .before .before .args .end) (c .loop-test .left)
+returns c =
+    let start = c .before .before .before in
+    let loop = c .before .loop in
+    let loop-test = c .loop-test in
+    rows-all (loop .inv) (start .args .end) (loop-test .left)
 
 pub repeat-rows-spec : {M : Type 1} → statement M
 repeat-rows-spec =
