@@ -45,10 +45,12 @@
  * made. At the end come three plans with a top; pinned-rule.bin, pinned-plan.bin
  * and pinned-marks.bin are the rule and the first of these with the table made
  * for it, and pinned-hasty.bin is the second plan. Build and run, from the
- * repository's root:
+ * repository's root, so that the files come to stand in target/:
  *
- *   cc -std=c11 -Wall -Wextra -o planner examples/planner.c target/staticlib/libendless_run.a
- *   ./planner
+ *   rt staticlib endless_run
+ *   cc -std=c11 -Wall -Wextra -o target/planner examples/planner.c \
+ *      target/staticlib/libendless_run.a
+ *   cd target && ./planner
  */
 #include "../include/endless_run.h"
 
