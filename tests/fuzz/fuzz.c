@@ -1,23 +1,32 @@
 /*
- * fuzz.c: check, judge, make and settle on bytes that a fuzzer makes up.
+ * fuzz.c: check, judge, make and settle on bytes that a fuzzer makes up, and the
+ * header's own functions.
  *
  * An input is cut into a question: 2 bytes each for the length of the rule, the
  * length of the plan, the part and the row, then the rule, the plan and, to the
  * end, the mark table. Lengths that are too long are cut off. The mark table is
  * also what the buffer of make has in it, once in its own length and once in the
  * length that the sizes of the rule and the plan give; and what the two buffers of
- * settle have, in the right lengths, and in lengths that the part and the row give.
+ * settle have, in the right lengths, and in lengths that the part and the row give, both
+ * at once and one at a time.
+ *
+ * Numbers that do not fit 16 bits come from the same input: judge is also asked for a
+ * part and a row that are a power of 2 higher, from 2^16 on, and check for a rule, a
+ * plan and marks that are 2^16 bytes longer.
  *
  * Each function is called twice and must answer alike, leave every byte lent as
  * it was, but for the buffers of make and settle, and stay within the slices
  * (lend.c). Where the sizes are small enough for it to be quick, the answers and the
- * buffers are held to the second evaluator too.
+ * buffers are held to the second evaluator too. The functions of the header are tried
+ * on every answer, and on a number that the first 8 bytes of the input make.
  *
  * With -DWITH_LIBFUZZER the entry is LLVMFuzzerTestOneInput alone. Without it
  * there is a main for AFL and for looking at single inputs: it reads the files
  * named, or the standard input where none is.
  */
 #include "../support/lend.h"
+
+#include "../../include/endless_run.h"
 
 #include <inttypes.h>
 #include <stdio.h>
@@ -34,6 +43,14 @@ struct question {
 static unsigned field2(const uint8_t *at)
 {
     return at[0] + 256u * at[1];
+}
+
+static uint64_t field8(const uint8_t *at)
+{
+    uint64_t n = 0;
+    for (int i = 7; i >= 0; i--)
+        n = n << 8 | at[i];
+    return n;
 }
 
 static struct slice take(struct slice *rest, size_t len)
@@ -81,6 +98,51 @@ static void hold(bool right, const char *what, uint64_t answer, uint64_t due)
     abort();
 }
 
+/* ---- The header's own functions ---- */
+
+static bool is_text(const char *text)
+{
+    return text != NULL && text[0] != '\0';
+}
+
+/* They take every number: a refusal is put together again from its number, part and row,
+   the three other readings are as they are said to be, and there is always a text. */
+static void try_header(uint64_t n)
+{
+    uint64_t whole = (uint64_t)endless_run_number(n) << 32 | (uint64_t)endless_run_part(n) << 16 |
+                     endless_run_row(n);
+    bool refused = n > UINT32_MAX;
+    hold((endless_run_is_refusal(n) != 0) == refused, "is it a refusal", n, n);
+    hold(whole == (refused ? n : 0), "number, part and row", whole, n);
+    hold(endless_run_verdict(n) == (n == 1), "verdict", n, n);
+    hold(endless_run_finding(n) == (n <= 2 ? (int)n : -1), "finding", n, n);
+    hold(endless_run_passes(n) == (n <= 255 ? (int)n : -1), "passes", n, n);
+    hold(is_text(endless_run_message(n)) && is_text(endless_run_judge_message(n)) &&
+             is_text(endless_run_make_message(n)) && is_text(endless_run_settle_message(n)),
+         "text", n, n);
+}
+
+/* An answer of the checker, and the text that the header has for it: not the one of a number
+   that is no answer. */
+static void try_answer(uint64_t answer, const char *text)
+{
+    try_header(answer);
+    hold(strcmp(text, endless_run_refusal_message(0)) != 0, "text of an answer", answer, answer);
+}
+
+/* The length by the sizes at the front of a plan, of whatever bytes. */
+static void try_plan_length(struct slice plan)
+{
+    if (plan.len < 8)
+        return;
+    uint64_t rows = (uint64_t)field2(plan.at + 2) + field2(plan.at + 4) + field2(plan.at + 6);
+    uint64_t due = 8 + field2(plan.at) * (4 + 8 * rows);
+    hold(endless_run_plan_length(plan.at) == due, "length of a plan",
+         endless_run_plan_length(plan.at), due);
+}
+
+/* ---- Check and judge ---- */
+
 /* The truth agrees: a table is accepted, or refused for a part that does not close,
    just as the published truth has it. */
 static bool as_truth_has_it(const struct question *q, uint64_t answer)
@@ -106,6 +168,7 @@ static void try_check(const struct question *q)
     struct asked again = ask_check(q->rule, q->plan, q->marks);
     hold(first.unchanged && again.unchanged, "check wrote to a slice", first.answer, first.answer);
     hold(first.answer == again.answer, "check answers twice", first.answer, again.answer);
+    try_answer(first.answer, endless_run_message(first.answer));
     if (!is_cheap(q))
         return;
     uint64_t due = second_check(q->rule, q->plan, q->marks);
@@ -113,14 +176,46 @@ static void try_check(const struct question *q)
     hold(as_truth_has_it(q, first.answer), "check and the truth", first.answer, due);
 }
 
-static void try_judge(const struct question *q)
+/* The same bytes, and behind them 2^16 zero bytes more. */
+static struct slice longer(struct slice bytes)
 {
-    struct asked first = ask_judge(q->rule, q->plan, q->part, q->row);
-    struct asked again = ask_judge(q->rule, q->plan, q->part, q->row);
+    static uint8_t room[2 * LONGEST];
+    if (bytes.len > 0)
+        memcpy(room, bytes.at, bytes.len);
+    memset(room + bytes.len, 0, LONGEST);
+    return (struct slice){ room, bytes.len + LONGEST };
+}
+
+/* With a rule, a plan or marks whose length is right in its lower 16 bits alone. */
+static void try_longer(const struct question *q)
+{
+    struct question rule = *q, plan = *q, marks = *q;
+    rule.rule = longer(q->rule);
+    try_check(&rule);
+    plan.plan = longer(q->plan);
+    try_check(&plan);
+    marks.marks = longer(q->marks);
+    try_check(&marks);
+}
+
+static void try_judge(const struct question *q, uint64_t part, uint64_t row)
+{
+    struct asked first = ask_judge(q->rule, q->plan, part, row);
+    struct asked again = ask_judge(q->rule, q->plan, part, row);
     hold(first.unchanged && again.unchanged, "judge wrote to a slice", first.answer, first.answer);
     hold(first.answer == again.answer, "judge answers twice", first.answer, again.answer);
-    uint64_t due = second_judge(q->rule, q->plan, q->part, q->row);
+    try_answer(first.answer, endless_run_judge_message(first.answer));
+    uint64_t due = second_judge(q->rule, q->plan, part, row);
     hold(first.answer == due, "judge", first.answer, due);
+}
+
+/* A part and a row that are there in their lower bits alone: higher by a power of 2 from 2^16
+   to 2^63. */
+static void try_judge_wide(const struct question *q)
+{
+    uint64_t more = (uint64_t)1 << (16 + (q->part + q->row) % 48);
+    try_judge(q, q->part + more, q->row);
+    try_judge(q, q->part, q->row + more);
 }
 
 /* ---- Make ---- */
@@ -165,6 +260,7 @@ static void try_make(const struct question *q, size_t len)
     bool writes = answer <= 1 || answer >= refusal(14, 0, 0);
     hold(one.unchanged && two.unchanged, "make wrote beside its buffer", answer, answer);
     hold(answer == two.answer, "make answers twice", answer, two.answer);
+    try_answer(answer, endless_run_make_message(answer));
     hold(!writes || memcmp(first, again, len) == 0, "make writes twice", answer, answer);
     hold(is_left_right(q, answer, before, first, len), "what make left", answer, answer);
     if (!is_cheap(q))
@@ -227,6 +323,7 @@ static bool are_left_right(const struct question *q, uint64_t answer, const stru
     size_t written = 0;
     if (answer <= 255) {
         struct slice plan = plan_at(after->laid_out);
+        try_plan_length(plan);
         if (plan.len > after->laid_out_len || !can_be_made(q, plan))
             return false;
         written = plan.len;
@@ -248,6 +345,7 @@ static void try_settle(const struct question *q, size_t laid_out_len, size_t scr
     uint64_t answer = one.answer;
     hold(one.unchanged && two.unchanged, "settle wrote beside its buffers", answer, answer);
     hold(answer == two.answer, "settle answers twice", answer, two.answer);
+    try_answer(answer, endless_run_settle_message(answer));
     fill_both(&before, laid_out_len, scratch_len, q->marks, 0xFF);
     hold(are_left_right(q, answer, &before, &again), "what settle left", answer, answer);
     fill_both(&before, laid_out_len, scratch_len, q->marks, 0);
@@ -279,12 +377,18 @@ int LLVMFuzzerTestOneInput(const uint8_t *data, size_t len)
     if (len < HEAD || len > LONGEST)
         return 0;
     struct question q = cut(data, len);
+    try_header(field8(data));
+    try_plan_length(q.plan);
     try_check(&q);
-    try_judge(&q);
+    try_longer(&q);
+    try_judge(&q, q.part, q.row);
+    try_judge_wide(&q);
     try_make(&q, q.marks.len);
     try_make(&q, right_length(&q));
     try_settle(&q, LAID_OUT_LENGTH, SCRATCH_LENGTH);
     try_settle(&q, q.part, q.row);
+    try_settle(&q, LAID_OUT_LENGTH, q.row);
+    try_settle(&q, q.part, SCRATCH_LENGTH);
     return 0;
 }
 
