@@ -1,7 +1,6 @@
 // The logic CLTLB over the whole numbers with < and =, windows of the week, and pinned readings: the terms and parts that a rule is
 // made of, and how the logic looks at a part. What they mean is in specs/.
 ghost use mathlib.Core.Path.{_≡_};
-ghost use mathlib.Core.Bool.{_&&_};
 ghost use Rattle.cltlb.specs.Views.{oneView, twoView, viewOf};
 ghost use Rattle.cltlb.specs.Fits.{termFits, windowFits, atomFits, namesLower, viewFits};
 
@@ -134,7 +133,7 @@ pub fn view_of(part: Part) -> View
 }
 
 // A term's channel is below `v`, and its shift is -4 to 4.
-pub fn term_fits(x: Term, v: usize) -> bool
+fn term_fits(x: Term, v: usize) -> bool
     ensures { λ r. ⌜ r ≡ termFits v x ⌝ }
 {
     match x {

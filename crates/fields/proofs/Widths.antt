@@ -45,6 +45,16 @@ number-of-bytes (suc w) n s at h same =
     ap (λ (i : ℕ). getD s i 0) next ∙ same (suc k) (omega arith)) in
     omega (arith, here, rest)
 
+-- fields of the same bytes are the same number
+pub number-same : (w : ℕ) (s t : List ℕ) (at : ℕ) → ((k : ℕ) → k < w → getD s (at + k) 0 ≡ getD t (at + k) 0) → numberAt w s at ≡ numberAt w t at
+unfolding numberAt
+number-same zero s t at same = refl
+number-same (suc w) s t at same =
+    ap₂ (λ (x y : ℕ). x + 256 * y)
+    (ap (λ (i : ℕ). getD s i 0) (sym (add-zero at)) ∙ same 0 (omega arith) ∙ ap (λ (i : ℕ). getD t i 0) (add-zero at))
+    (number-same w s t (at + 1) (λ k l. let next : at + 1 + k ≡ at + suc k = omega arith in
+    ap (λ (i : ℕ). getD s i 0) next ∙ same (suc k) (omega arith) ∙ ap (λ (i : ℕ). getD t i 0) (sym next)))
+
 -- writing what was read leaves the bytes
 pub written-read : (w : ℕ) (s : List ℕ) (at : ℕ) → Bytes s → at + w ≤ length s → bytesOf w (numberAt w s at) ≡ take w (drop at s)
 unfolding numberAt bytesOf Bytes

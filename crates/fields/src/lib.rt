@@ -21,7 +21,7 @@ pub fn wide(x: u8) -> u32
     x as u32
 }
 
-pub fn wide_index(x: u8) -> usize
+fn wide_index(x: u8) -> usize
     ensures { λ r. ⌜ (r ≡ x) × (r < 256) ⌝ }
 {
     x as usize
@@ -65,7 +65,7 @@ pub fn u64_at(s: &[u8], at: usize) -> u64
 }
 
 // The number that a pattern of 32 bits stands for in two's complement.
-pub fn signed(pattern: u32) -> i32
+fn signed(pattern: u32) -> i32
     ensures { λ r. ⌜ r ≡ signedOf 4 pattern ⌝ }
 {
     if pattern < HALF {

@@ -13,7 +13,7 @@ use Rattle.refusal.specs.First.{_orElse_, unless, refusedAt, atLowest, i
 use Rattle.refusal.specs.declared.Refusal.{Refusal}
 use Rattle.refusal.specs.declared.Outcome.{Outcome}
 use Rattle.refusal.specs.declared.Outcome.the-variants.{Clear, Refused}
-use Rattle.refusal.proofs.Lowest.{lowest-none, found}
+use Rattle.refusal.proofs.Lowest.{lowest-none}
 
 pub clear-refused : {r : Refusal} → Refused r ≡ Clear → ⊥
 clear-refused e = let z : _≡_ {A = ℕ} 0 1 = cc in omega arith

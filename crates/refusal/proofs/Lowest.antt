@@ -107,7 +107,3 @@ module _ (f g : ℕ → Bool) where
   unfolding lowestFrom
   from-ext k zero h = refl
   from-ext k (suc n) h = ap₂ (λ b rest. orAfter b k rest) (h k (omega arith) (omega arith)) (from-ext (suc k) n (λ j a b. h j (omega arith) (omega arith)))
-
-  pub lowest-ext : (n : ℕ) → ((j : ℕ) → j < n → f j ≡ g j) → lowest f n ≡ lowest g n
-  unfolding lowest
-  lowest-ext n h = from-ext 0 n (λ j a b. h j (omega arith))

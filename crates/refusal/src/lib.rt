@@ -2,7 +2,7 @@
 ghost use mathlib.Core.Path.{_≡_};
 ghost use Rattle.refusal.specs.Report.{reportOf};
 
-// Why a rule sheet, a plan, a mark table or a lent buffer is turned away, in the order of checking. A case carries the part and the row
+// Why a rule sheet, a plan, a mark table or a lent buffer is turned away, in the order of their numbers. A case carries the part and the row
 // that the document names for it, and no other.
 pub enum Refusal {
     RuleSizes,

@@ -1,27 +1,16 @@
 -- The word of a row as bytes: written in two halves. Assumes nothing.
 use Prim.Native.Nat.{ℕ, zero, suc, _+_, _*_, _/_, _%_, _^_, _<_}
-use native.Mathlib.Nat.{add-zero}
 use native.Mathlib.Omega.{arith}
-use mathlib.Core.Path.{_≡_, refl, sym, ap, ap₂, _∙_}
+use mathlib.Core.Path.{_≡_}
 use mathlib.Core.List.{List}
-use mathlib.Core.Logic.{_⊎_, inl, inr, ⊎-elim}
+use mathlib.Core.Logic.{inl, inr, ⊎-elim}
 use lib.ListN.{getD}
-use Rattle.fields.specs.LittleEndian.{numberAt, bytesOf}
-use Rattle.fields.proofs.Widths.{number-of-bytes}
+use Rattle.fields.specs.LittleEndian.{bytesOf}
+use Rattle.fields.proofs.Widths.{number-of-bytes, number-same}
 use Rattle.table.specs.inner.Stored.{Stored}
 use Rattle.table.proofs.Stores.{stored-join}
 use Rattle.words.specs.inner.Words.{wordOn}
 use Rattle.words.specs.inner.Written.{WordPut}
-
--- Two lists with the same bytes at a place have the same number there.
-number-same : (w : ℕ) (s t : List ℕ) (at : ℕ) → ((k : ℕ) → k < w → getD s (at + k) 0 ≡ getD t (at + k) 0) → numberAt w s at ≡ numberAt w t at
-unfolding numberAt
-number-same zero s t at same = refl
-number-same (suc w) s t at same =
-    ap₂ (λ (x y : ℕ). x + 256 * y)
-    (ap (λ (i : ℕ). getD s i 0) (sym (add-zero at)) ∙ same 0 (omega arith) ∙ ap (λ (i : ℕ). getD t i 0) (add-zero at))
-    (number-same w s t (at + 1) (λ k l. let next : at + 1 + k ≡ at + suc k = omega arith in
-    ap (λ (i : ℕ). getD s i 0) next ∙ same (suc k) (omega arith) ∙ ap (λ (i : ℕ). getD t i 0) (sym next)))
 
 -- The bytes of the halves of a word are its bytes.
 low-bytes : (word k : ℕ) → k < 4 → getD (bytesOf 4 (word % 4294967296)) k 0 ≡ getD (bytesOf 8 word) k 0

@@ -3,8 +3,6 @@ use mathlib.Core.Path.{refl}
 use Rattle.cltlb.specs.Fits.{windowFits}
 use Rattle.cltlb.proofs.window_fits.Statement.{statement}
 use Rattle.cltlb.proofs.window_fits.Tie as tie
-use Rattle.cltlb.proofs.window_fits.Reads as reads
-use Rattle.cltlb.proofs.window_fits.Lts as lts
 
 -- src/lib.rt:146:1
 returns : tie.Need-returns
