@@ -6,12 +6,13 @@ use mathlib.Core.Path.{_≡_, refl, sym, ap, ap₂, _∙_}
 use mathlib.Core.Bool.{Bool, true, false, cond, not, _&&_, false≢true}
 use mathlib.Core.List.{List}
 use mathlib.Core.Logic.{by-cases}
-use lib.IntN.{ℤ, pos, negsuc, subℕ}
-use lib.ListN.{length, take, drop, length-take, length-drop}
-use lib.Signed.{nonNeg, leZ}
+use lib.IntN.{ℤ, pos}
+use lib.ListN.{take, drop}
+use lib.Signed.{nonNeg}
 use borrow.Author.Tests.{le-leb, lt-leb, ne-eqb, not-true, not-false}
 use Rattle.cltlb.specs.Run.{Seen, number, pinned, isTop, isPinned, under}
-use Rattle.fields.specs.inner.Biased.{patterns, bias, unbiased}
+use Rattle.cltlb.proofs.Pinned.{no-top-pins-nothing}
+use Rattle.fields.specs.inner.Biased.{bias, unbiased}
 use Rattle.fields.proofs.Differences.{sub-pos, sub-neg}
 use Rattle.plan.specs.Layout.{channels, sizesLength, headLength, entry, tops, topOf, anyBelow, negativeTop, topsFit}
 use Rattle.plan.proofs.Searches.{one-here}
@@ -60,10 +61,6 @@ module _ (plan : List ℕ) {v : ℕ} (v-is : v ≡ channels plan) (a b : ℕ) (f
     found-none h channel l = top-natural plan channel (none-negative (tops plan) (channels plan) (sym found ∙ not-false r h) channel (rw (← v-is) l))
 
 module _ {plan : List ℕ} {z : Sizes} (fits : Fitting plan z) where
-  pub top-in-part : (a b channel : ℕ) → a ≡ sizesLength → b ≡ headLength (z .channels) → channel < z .channels
-      → 4 * channel + 4 ≤ length (take (b - a) (drop a plan))
-  top-in-part a b channel f g h = simp (length-take, length-drop) (omega (arith, fits .whole))
-
   -- what is read of a top is not below 0
   module _ (a b channel n : ℕ) (f : a ≡ sizesLength) (g : b ≡ headLength (z .channels)) (h : channel < z .channels) (e : unbiased n ≡ entry (take (b - a) (drop a plan)) channel) where
     top-is : unbiased n ≡ topOf plan channel
@@ -82,12 +79,11 @@ module _ {plan : List ℕ} {z : Sizes} (fits : Fitting plan z) where
 -- ---- what is seen of a value under a top
 
 pub no-top : (z : ℤ) → under (pos 0) z ≡ number z
-unfolding under isPinned isTop
-no-top z = refl
+no-top = no-top-pins-nothing
 
 module _ (top value : ℕ) where
   pub under-none : top ≡ 0 → number (lowered value) ≡ under (pos top) (lowered value)
-  under-none h = rw h (sym (no-top (lowered value)))
+  under-none h = rw h (sym (no-top-pins-nothing (lowered value)))
 
   pub under-below : value < top + valueBias → number (lowered value) ≡ under (pos top) (lowered value)
   unfolding under isPinned

@@ -41,7 +41,7 @@ pub fn entry_at(array: &[u8], index: usize) -> u64
 }
 
 // The value on a pass at an index of the two arrays.
-pub fn number_on(readings: &[u8], drifts: &[u8], index: usize, pass: usize) -> u64
+fn number_on(readings: &[u8], drifts: &[u8], index: usize, pass: usize) -> u64
     requires { ⌜ (4 * index + 4 ≤ length (now readings)) × (4 * index + 4 ≤ length (now drifts)) × (pass < passes) ⌝ }
     ensures { λ r. ⌜ (lowered r ≡ entry (now (readings .entry)) index +ℤ pos pass *ℤ entry (now (drifts .entry)) index) × (r < valueEnd) ⌝ }
 {

@@ -22,6 +22,5 @@ pub mod Written
 pub mod RoundTrips
 pub mod Promised
 pub mod Cleared
-pub mod Examples
 pub mod SheetNames
 pub mod OnSheet

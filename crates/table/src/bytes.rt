@@ -18,7 +18,7 @@ pub fn place(w: usize, part: usize, row: usize) -> usize
 }
 
 // The byte of a part on a row.
-pub fn mark_byte(table: &[u8], n: usize, w: usize, part: usize, row: usize) -> u8
+fn mark_byte(table: &[u8], n: usize, w: usize, part: usize, row: usize) -> u8
     requires { ⌜ (Sized (now table) n w) × (part < n) × (row < w) ⌝ }
     ensures { λ r. ⌜ r ≡ markByte w (now (table .entry)) part row ⌝ }
 {

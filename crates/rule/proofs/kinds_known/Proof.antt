@@ -8,10 +8,6 @@ use Rattle.rule.specs.inner.Known.{AllKnown}
 use Rattle.rule.proofs.Taking.{kind-tested, known-next}
 use Rattle.rule.proofs.kinds_known.Statement.{statement}
 use Rattle.rule.proofs.kinds_known.Tie as tie
-use Rattle.rule.proofs.kinds_known.Reads as reads
-use Rattle.rule.proofs.kinds_known.Lts as lts
-use Rattle.rule.proofs.kinds.is_unknown.Reads as is-unknown-reads
-use Rattle.rule.proofs.kinds.shape_of.Reads as shape-of-reads
 
 abbrev Inv-loop : tie.InvT-loop
 Inv-loop sheet parts all₀ n₀ all n = (n ≤ parts) × ((all ≡ true) → AllKnown sheet n)

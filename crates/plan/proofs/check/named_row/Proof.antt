@@ -3,8 +3,6 @@ use Rattle.plan.specs.Refusals.{namedRow}
 use native.Mathlib.Omega.{arith}
 use Rattle.plan.proofs.check.named_row.Statement.{statement}
 use Rattle.plan.proofs.check.named_row.Tie as tie
-use Rattle.plan.proofs.check.named_row.Reads as reads
-use Rattle.plan.proofs.check.named_row.Lts as lts
 
 -- src/check.rt:45:9
 returns : tie.Need-returns

@@ -6,8 +6,6 @@ use Rattle.plan.proofs.Arrays.{array-le}
 use native.Mathlib.Omega.{arith}
 use Rattle.plan.proofs.layout.cell_of.Statement.{statement}
 use Rattle.plan.proofs.layout.cell_of.Tie as tie
-use Rattle.plan.proofs.layout.cell_of.Reads as reads
-use Rattle.plan.proofs.layout.cell_of.Lts as lts
 
 -- src/layout.rt:44:5
 mul-result : tie.Need-mul-result

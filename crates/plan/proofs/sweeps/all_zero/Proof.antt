@@ -6,9 +6,6 @@ use Rattle.plan.specs.inner.Drifts.{allZero}
 use Rattle.plan.proofs.Drifts.{zero-first, zero-next, zero-end}
 use Rattle.plan.proofs.sweeps.all_zero.Statement.{statement}
 use Rattle.plan.proofs.sweeps.all_zero.Tie as tie
-use Rattle.plan.proofs.sweeps.all_zero.Reads as reads
-use Rattle.plan.proofs.sweeps.all_zero.Lts as lts
-use Rattle.fields.proofs.u32_at.Reads as u32-at-reads
 
 abbrev Inv-loop : tie.InvT-loop
 Inv-loop array from count all₀ k₀ all k = (k ≤ count) × (all ≡ allZero array from k)

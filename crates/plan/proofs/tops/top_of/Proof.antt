@@ -1,5 +1,5 @@
 -- `plan::tops::top_of` meets its contract. Assumes nothing.
-use Rattle.plan.proofs.Pinned.{top-in-part, top-lifted, top-read}
+use Rattle.plan.proofs.Pinned.{top-lifted, top-read}
 use native.Mathlib.Omega.{arith}
 use borrow.Author.Needs.{needs}
 use Rattle.plan.proofs.tops.top_of.Statement.{statement}

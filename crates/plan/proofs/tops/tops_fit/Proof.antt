@@ -3,7 +3,6 @@ use Prim.Native.Nat.{_-_, _≤_}
 use native.Mathlib.Omega.{arith}
 use mathlib.Core.Path.{_≡_, refl}
 use mathlib.Core.Bool.{false}
-use denote.Ref.{now}
 use borrow.Author.Needs.{needs}
 use Rattle.plan.specs.Layout.{anyBelow, negativeTop}
 use Rattle.plan.proofs.Searches.{none-more}

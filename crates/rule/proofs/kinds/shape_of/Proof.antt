@@ -3,8 +3,6 @@ use borrow.Author.Tests.{ne-eqb}
 use Rattle.rule.specs.Kinds.{shapeOf}
 use Rattle.rule.proofs.kinds.shape_of.Statement.{statement}
 use Rattle.rule.proofs.kinds.shape_of.Tie as tie
-use Rattle.rule.proofs.kinds.shape_of.Reads as reads
-use Rattle.rule.proofs.kinds.shape_of.Lts as lts
 
 -- src/kinds.rt:39:1
 returns : tie.Need-returns

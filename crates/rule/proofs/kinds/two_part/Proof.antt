@@ -2,8 +2,6 @@ use borrow.Author.Tests.{ne-eqb}
 use Rattle.rule.specs.Kinds.{partOf}
 use Rattle.rule.proofs.kinds.two_part.Statement.{statement}
 use Rattle.rule.proofs.kinds.two_part.Tie as tie
-use Rattle.rule.proofs.kinds.two_part.Reads as reads
-use Rattle.rule.proofs.kinds.two_part.Lts as lts
 
 -- src/kinds.rt:89:1
 returns : tie.Need-returns

@@ -7,8 +7,6 @@ use denote.Ref.{now}
 use Rattle.rule.proofs.Overwriting.{zero-next, zeros-length}
 use Rattle.rule.proofs.operands.clear.Statement.{statement}
 use Rattle.rule.proofs.operands.clear.Tie as tie
-use Rattle.rule.proofs.operands.clear.Reads as reads
-use Rattle.rule.proofs.operands.clear.Lts as lts
 
 abbrev Inv-loop : tie.InvT-loop
 Inv-loop t₀ i₀ t i = (i ≤ 12) × (t ≡ replicate i 0 ++ drop i t₀)

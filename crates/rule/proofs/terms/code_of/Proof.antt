@@ -9,8 +9,6 @@ use Rattle.rule.specs.Terms.{codeOf}
 use Rattle.rule.proofs.Shifts.{coded}
 use Rattle.rule.proofs.terms.code_of.Statement.{statement}
 use Rattle.rule.proofs.terms.code_of.Tie as tie
-use Rattle.rule.proofs.terms.code_of.Reads as reads
-use Rattle.rule.proofs.terms.code_of.Lts as lts
 
 plus : (c : tie.Start) → toZ w32 (ofZ w32 (c .args .shift)) +ℤ pos 4 ≡ pos (codeOf (c .args .shift))
 plus c = ap (λ (z : ℤ). z +ℤ pos 4) (toZ-ofZ w32 (c .args .shift) (c .fits .shift)) ∙ coded (c .args .shift) (c .pre) .sum

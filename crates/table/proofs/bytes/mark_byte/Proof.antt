@@ -5,8 +5,6 @@ use Rattle.table.specs.Layout.{markByte}
 use Rattle.table.proofs.Places.{cell, area}
 use Rattle.table.proofs.bytes.mark_byte.Statement.{statement}
 use Rattle.table.proofs.bytes.mark_byte.Tie as tie
-use Rattle.table.proofs.bytes.mark_byte.Reads as reads
-use Rattle.table.proofs.bytes.mark_byte.Lts as lts
 
 -- src/table.rt:18:16
 mul-result : tie.Need-mul-result

@@ -4,9 +4,6 @@ use Rattle.table.specs.Layout.{witnessOf}
 use Rattle.table.proofs.Places.{area}
 use Rattle.table.proofs.bytes.witness_at.Statement.{statement}
 use Rattle.table.proofs.bytes.witness_at.Tie as tie
-use Rattle.table.proofs.bytes.witness_at.Reads as reads
-use Rattle.table.proofs.bytes.witness_at.Lts as lts
-use Rattle.fields.proofs.u16_at.Reads as u16-at-reads
 
 -- src/table.rt:34:23
 mul-u16-at : tie.Need-mul-u16-at

@@ -4,8 +4,6 @@ use Rattle.table.specs.Bytes.{byteOf}
 use Rattle.table.proofs.Flips.{xor-flips}
 use Rattle.table.proofs.fills.byte.Statement.{statement}
 use Rattle.table.proofs.fills.byte.Tie as tie
-use Rattle.table.proofs.fills.byte.Reads as reads
-use Rattle.table.proofs.fills.byte.Lts as lts
 
 -- src/fills.rt:18:1
 returns : tie.Need-returns

@@ -8,8 +8,6 @@ use Rattle.table.proofs.Stores.{stored-zeros}
 use Rattle.table.proofs.Filling.{Filled, filled-first, filled-next}
 use Rattle.table.proofs.fills.clear.Statement.{statement}
 use Rattle.table.proofs.fills.clear.Tie as tie
-use Rattle.table.proofs.fills.clear.Reads as reads
-use Rattle.table.proofs.fills.clear.Lts as lts
 
 abbrev Inv-loop : tie.InvT-loop
 Inv-loop table₀ k₀ table k = Filled table₀ 0 (length table₀) (λ _. 0) table k

@@ -9,8 +9,6 @@ use Rattle.table.specs.inner.Tables.{allBelow}
 use Rattle.table.proofs.AllBelow.{sweep-first, sweep-next, sweep-end}
 use Rattle.table.proofs.sweeps.all_marks.Statement.{statement}
 use Rattle.table.proofs.sweeps.all_marks.Tie as tie
-use Rattle.table.proofs.sweeps.all_marks.Reads as reads
-use Rattle.table.proofs.sweeps.all_marks.Lts as lts
 
 abbrev Inv-loop : tie.InvT-loop
 Inv-loop table at count all₀ k₀ all k = (k ≤ count) × (all ≡ allBelow (λ j. not (ltb 1 (getD table (at + j) 0))) k)

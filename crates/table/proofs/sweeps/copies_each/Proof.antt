@@ -8,8 +8,6 @@ use Rattle.table.proofs.ByteTests.{same-bytes}
 use mathlib.Core.Bool.{false}
 use Rattle.table.proofs.sweeps.copies_each.Statement.{statement}
 use Rattle.table.proofs.sweeps.copies_each.Tie as tie
-use Rattle.table.proofs.sweeps.copies_each.Reads as reads
-use Rattle.table.proofs.sweeps.copies_each.Lts as lts
 
 abbrev Inv-loop : tie.InvT-loop
 Inv-loop table m a count all₀ k₀ all k = (k ≤ count) × (all ≡ allBelow (λ j. copyOf false (markIn table (m + j)) (markIn table (a + j))) k)

@@ -2,8 +2,6 @@
 use borrow.Author.Tests.{lt-ltb, le-ltb}
 use Rattle.table.proofs.sweeps.higher.Statement.{statement}
 use Rattle.table.proofs.sweeps.higher.Tie as tie
-use Rattle.table.proofs.sweeps.higher.Reads as reads
-use Rattle.table.proofs.sweeps.higher.Lts as lts
 
 -- src/sweeps.rt:47:1
 returns : tie.Need-returns

@@ -2,8 +2,6 @@
 use borrow.Author.Tests.{lt-ltb, le-ltb}
 use Rattle.table.proofs.sweeps.lower.Statement.{statement}
 use Rattle.table.proofs.sweeps.lower.Tie as tie
-use Rattle.table.proofs.sweeps.lower.Reads as reads
-use Rattle.table.proofs.sweeps.lower.Lts as lts
 
 -- src/sweeps.rt:54:1
 returns : tie.Need-returns

@@ -7,8 +7,6 @@ use Rattle.table.specs.inner.Tables.{allBelow, markIn}
 use Rattle.table.proofs.AllBelow.{sweep-first, sweep-next, sweep-end}
 use Rattle.table.proofs.sweeps.none_marked.Statement.{statement}
 use Rattle.table.proofs.sweeps.none_marked.Tie as tie
-use Rattle.table.proofs.sweeps.none_marked.Reads as reads
-use Rattle.table.proofs.sweeps.none_marked.Lts as lts
 
 abbrev Inv-loop : tie.InvT-loop
 Inv-loop table m count all₀ k₀ all k = (k ≤ count) × (all ≡ allBelow (λ j. not (markIn table (m + j))) k)

@@ -8,8 +8,6 @@ use Rattle.table.proofs.ByteTests.{other-bytes}
 use mathlib.Core.Bool.{true}
 use Rattle.table.proofs.sweeps.opposites.Statement.{statement}
 use Rattle.table.proofs.sweeps.opposites.Tie as tie
-use Rattle.table.proofs.sweeps.opposites.Reads as reads
-use Rattle.table.proofs.sweeps.opposites.Lts as lts
 
 abbrev Inv-loop : tie.InvT-loop
 Inv-loop table m a count all₀ k₀ all k = (k ≤ count) × (all ≡ allBelow (λ j. copyOf true (markIn table (m + j)) (markIn table (a + j))) k)

@@ -3,8 +3,6 @@ use lib.Dec.{eqb}
 use Rattle.table.proofs.Flips.{xor-flips}
 use Rattle.table.proofs.sweeps.read.Statement.{statement}
 use Rattle.table.proofs.sweeps.read.Tie as tie
-use Rattle.table.proofs.sweeps.read.Reads as reads
-use Rattle.table.proofs.sweeps.read.Lts as lts
 
 -- src/sweeps.rt:25:1
 returns : tie.Need-returns

@@ -7,9 +7,6 @@ use Rattle.table.specs.inner.Tables.{allBelow, stepOf, markIn}
 use Rattle.table.proofs.AllBelow.{sweep-first, sweep-next, sweep-end}
 use Rattle.table.proofs.sweeps.steps_down.Statement.{statement}
 use Rattle.table.proofs.sweeps.steps_down.Tie as tie
-use Rattle.table.proofs.sweeps.steps_down.Reads as reads
-use Rattle.table.proofs.sweeps.steps_down.Lts as lts
-use Rattle.table.proofs.sweeps.down.Reads as down-reads
 
 abbrev Inv-loop : tie.InvT-loop
 Inv-loop table m a b next count all₀ k₀ all k = (k ≤ count) × (all ≡ allBelow (λ j. stepOf true (markIn table (m + j)) (markIn table (a + j)) (markIn table (b + j)) (markIn table (next + j))) k)
