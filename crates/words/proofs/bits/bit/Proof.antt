@@ -4,8 +4,6 @@ use Rattle.words.specs.inner.Words.{bitOf}
 use borrow.Author.Needs.{needs}
 use Rattle.words.proofs.bits.bit.Statement.{statement}
 use Rattle.words.proofs.bits.bit.Tie as tie
-use Rattle.words.proofs.bits.bit.Reads as reads
-use Rattle.words.proofs.bits.bit.Lts as lts
 
 -- src/bits.rt:11:6
 shr-result : tie.Need-shr-result

@@ -3,8 +3,6 @@ use Rattle.words.proofs.SetBits.{one-shifted}
 use borrow.Author.Needs.{needs}
 use Rattle.words.proofs.bits.one_bit.Statement.{statement}
 use Rattle.words.proofs.bits.one_bit.Tie as tie
-use Rattle.words.proofs.bits.one_bit.Reads as reads
-use Rattle.words.proofs.bits.one_bit.Lts as lts
 
 -- src/bits.rt:19:5
 shl-result : tie.Need-shl-result

@@ -4,9 +4,6 @@ use Rattle.words.proofs.SetBits.{one-positive, one-fits, set-as, unset-
 use borrow.Author.Needs.{needs}
 use Rattle.words.proofs.bits.with_bit.Statement.{statement}
 use Rattle.words.proofs.bits.with_bit.Tie as tie
-use Rattle.words.proofs.bits.with_bit.Reads as reads
-use Rattle.words.proofs.bits.with_bit.Lts as lts
-use Rattle.words.proofs.bits.one_bit.Reads as one-bit-reads
 
 -- src/bits.rt:27:9
 one-bit-requires : tie.Need-one-bit-requires

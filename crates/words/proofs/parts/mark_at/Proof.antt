@@ -5,10 +5,6 @@ use Rattle.words.specs.inner.Words.{bitOf, markAt}
 use borrow.Author.Needs.{needs}
 use Rattle.words.proofs.parts.mark_at.Statement.{statement}
 use Rattle.words.proofs.parts.mark_at.Tie as tie
-use Rattle.words.proofs.parts.mark_at.Reads as reads
-use Rattle.words.proofs.parts.mark_at.Lts as lts
-use Rattle.words.proofs.bits.bit.Reads as bit-reads
-use Rattle.words.proofs.rows.word_at.Reads as word-at-reads
 
 -- src/parts.rt:15:9
 word-at-requires : tie.Need-word-at-requires

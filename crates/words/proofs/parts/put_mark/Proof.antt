@@ -3,11 +3,6 @@ use Rattle.words.proofs.Marking.{mark-put}
 use borrow.Author.Needs.{needs}
 use Rattle.words.proofs.parts.put_mark.Statement.{statement}
 use Rattle.words.proofs.parts.put_mark.Tie as tie
-use Rattle.words.proofs.parts.put_mark.Reads as reads
-use Rattle.words.proofs.parts.put_mark.Lts as lts
-use Rattle.words.proofs.bits.with_bit.Reads as with-bit-reads
-use Rattle.words.proofs.rows.put_word.Reads as put-word-reads
-use Rattle.words.proofs.rows.word_at.Reads as word-at-reads
 
 -- src/parts.rt:23:9
 word-at-requires : tie.Need-word-at-requires

@@ -6,10 +6,6 @@ use Rattle.words.proofs.Marking.{MarksRepeating, marks-none, marks-next
 use mathlib.Core.Path.{_∙_}
 use Rattle.words.proofs.parts.repeat_marks.Statement.{statement}
 use Rattle.words.proofs.parts.repeat_marks.Tie as tie
-use Rattle.words.proofs.parts.repeat_marks.Reads as reads
-use Rattle.words.proofs.parts.repeat_marks.Lts as lts
-use Rattle.words.proofs.parts.mark_at.Reads as mark-at-reads
-use Rattle.words.proofs.parts.put_mark.Reads as put-mark-reads
 
 abbrev Inv-loop : tie.InvT-loop
 Inv-loop scratch₀ part cycle from end row₀ scratch row = MarksRepeating scratch₀ part cycle from end scratch row

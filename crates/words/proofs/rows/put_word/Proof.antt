@@ -7,9 +7,6 @@ use Rattle.words.proofs.WordBytes.{word-put}
 use borrow.Author.Needs.{needs}
 use Rattle.words.proofs.rows.put_word.Statement.{statement}
 use Rattle.words.proofs.rows.put_word.Tie as tie
-use Rattle.words.proofs.rows.put_word.Reads as reads
-use Rattle.words.proofs.rows.put_word.Lts as lts
-use Rattle.fields.proofs.put_u32.Reads as put-u32-reads
 
 -- src/rows.rt:25:26
 mul-put-u32 : tie.Need-mul-put-u32

@@ -6,10 +6,6 @@ use Rattle.words.proofs.Marking.{Repeating, rows-none, rows-next, rows-
 use mathlib.Core.Path.{_∙_}
 use Rattle.words.proofs.rows.repeat_rows.Statement.{statement}
 use Rattle.words.proofs.rows.repeat_rows.Tie as tie
-use Rattle.words.proofs.rows.repeat_rows.Reads as reads
-use Rattle.words.proofs.rows.repeat_rows.Lts as lts
-use Rattle.words.proofs.rows.put_word.Reads as put-word-reads
-use Rattle.words.proofs.rows.word_at.Reads as word-at-reads
 
 abbrev Inv-loop : tie.InvT-loop
 Inv-loop scratch₀ cycle from end row₀ scratch row = Repeating scratch₀ cycle from scratch row

@@ -3,9 +3,6 @@ use Rattle.words.specs.inner.Words.{wordOn}
 use borrow.Author.Needs.{needs}
 use Rattle.words.proofs.rows.word_at.Statement.{statement}
 use Rattle.words.proofs.rows.word_at.Tie as tie
-use Rattle.words.proofs.rows.word_at.Reads as reads
-use Rattle.words.proofs.rows.word_at.Lts as lts
-use Rattle.fields.proofs.u64_at.Reads as u64-at-reads
 
 -- src/rows.rt:17:21
 mul-u64-at : tie.Need-mul-u64-at
