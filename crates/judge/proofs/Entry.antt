@@ -68,7 +68,7 @@ module _ (rule plan : List ℕ) (part row : ℕ) where
           same : viewsOf rule part ≡ q
           same = on-sheet.taken-view rule (ready .sheet) part e f ∙ sym g
 
-          -- or it is no comparison.
+          -- or it is no atom.
           pub no-atom : {o : Operator} → q ≡ view.Operator o → J.Refused Absent ≡ judgeOf rule plan part row
           no-atom h = not-judgeable (simp (there, rows-are (ready .fits), lt-ltb _ _ l, same ∙ h))
 

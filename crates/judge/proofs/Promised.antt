@@ -18,7 +18,7 @@ use Rattle.refusal.specs.declared.Refusal.{Refusal}
 use Rattle.refusal.specs.declared.Refusal.the-variants.{Absent}
 use Rattle.refusal.specs.declared.Outcome.{Outcome}
 use Rattle.refusal.specs.declared.Outcome.the-variants.{Clear, Refused}
-use Rattle.refusal.specs.First.{_orElse_, unless}
+use Rattle.refusal.specs.First.{unless}
 use Rattle.refusal.proofs.First.{orElse-clear, unless-clear}
 use Rattle.refusal.proofs.RefusesOnly.{Small, RefusesOnly, refused-only, orElse-only, unless-only, within-small}
 use Rattle.rule.specs.Layout.{partCount, channelCount}
@@ -37,7 +37,7 @@ use Rattle.judge.specs.declared.Judged.the-variants as J
 use Rattle.judge.specs.Judge.{verdictOn, judgeOutcome, judgedAs, judgeOf, JudgePromise}
 
 module _ (rule plan : List ℕ) (part row : ℕ) where
-  -- the last test: the part and the row are there, and the part is a comparison
+  -- the last test: the part and the row are there, and the part is an atom
   abbrev pub judgeable : Bool
   judgeable = ltb part (partCount rule) && (ltb row (rows plan) && isAtom (viewsOf rule part))
 
@@ -46,7 +46,7 @@ module _ (rule plan : List ℕ) (part row : ℕ) where
     pub inputs : inputsOutcome rule plan ≡ Clear
     pub part-there : part < partCount rule
     pub row-there : row < rows plan
-    pub comparison : isAtom (viewsOf rule part) ≡ true
+    pub atom : isAtom (viewsOf rule part) ≡ true
 
   judge-cleared : judgeOutcome rule plan part row ≡ Clear → Judgeable
   unfolding judgeOutcome
@@ -58,7 +58,7 @@ module _ (rule plan : List ℕ) (part row : ℕ) where
         inputs = a .0;
         part-there = ltb-true part (partCount rule) (t .0);
         row-there = ltb-true row (rows plan) (u .0);
-        comparison = u .1;
+        atom = u .1;
       }
 
   verdict-of : (o : Outcome) (v : Verdict) → judgedAs rule plan part row o ≡ J.Verdict v → (o ≡ Clear) × (verdictOn plan (viewsOf rule part) row ≡ v)
@@ -78,7 +78,7 @@ module _ (rule plan : List ℕ) (part row : ℕ) where
   verdict-means : Judgeable → VerdictMeans (startRows plan) (cycleRows plan) row (Holds (runOf plan) (formulaOf (viewsOf rule) part)) (verdictOn plan (viewsOf rule part) row)
   unfolding formulaOf formulaTo
   verdict-means j =
-      atom-means j (viewsOf rule part) (j .comparison) (cleared-fits rule (clear-both rule plan (j .inputs) .0) part (j .part-there))
+      atom-means j (viewsOf rule part) (j .atom) (cleared-fits rule (clear-both rule plan (j .inputs) .0) part (j .part-there))
 
   -- JUDGE KEEPS ITS PROMISE.
   pub judge-promise : {answer : Judged} → answer ≡ judgeOf rule plan part row → JudgePromise rule plan part row answer
