@@ -6,10 +6,6 @@ use Rattle.judge.proofs.Promised.{judge-promise}
 use borrow.Author.Needs.{needs}
 use Rattle.judge.proofs.judge.Statement.{statement}
 use Rattle.judge.proofs.judge.Tie as tie
-use Rattle.judge.proofs.judge.Reads as reads
-use Rattle.judge.proofs.judge.Lts as lts
-use Rattle.inputs.proofs.read_inputs.Reads as read-inputs-reads
-use Rattle.judge.proofs.judge_part.Reads as judge-part-reads
 
 -- src/lib.rt:47:11
 read-inputs-requires : tie.Need-read-inputs-requires

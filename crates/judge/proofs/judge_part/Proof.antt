@@ -4,12 +4,6 @@ use Rattle.judge.proofs.Entry as law
 use borrow.Author.Needs.{needs}
 use Rattle.judge.proofs.judge_part.Statement.{statement}
 use Rattle.judge.proofs.judge_part.Tie as tie
-use Rattle.judge.proofs.judge_part.Reads as reads
-use Rattle.judge.proofs.judge_part.Lts as lts
-use Rattle.cltlb.proofs.view_of.Reads as view-of-reads
-use Rattle.rule.proofs.refusal_of.Reads as refusal-of-reads
-use Rattle.rule.proofs.take.Reads as take-reads
-use Rattle.verdict.proofs.rows.judge_row.Reads as judge-row-reads
 
 -- src/lib.rt:30:9
 take-requires : tie.Need-take-requires
