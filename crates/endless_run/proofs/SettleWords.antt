@@ -1,7 +1,7 @@
 -- The meaning of settling's answer, carried through the packing. Assumes nothing.
 use Prim.Native.Nat.{ℕ, _/_, _<_}
 use native.Mathlib.Omega.{arith}
-use mathlib.Core.Path.{_≡_, refl, sym, ap, _∙_, subst, subst⁻¹}
+use mathlib.Core.Path.{_≡_, refl, sym, ap, _∙_, subst⁻¹}
 use mathlib.Core.List.{List, _++_}
 use lib.ListN.{length, drop}
 use Rattle.refusal.specs.declared.Refusal.{Refusal}
@@ -57,6 +57,9 @@ module _ (rule plan laid scratch laid′ scratch′ : List ℕ) where
     scratchBytes = p .scratchBytes;
     front = λ h. p .planBytes ∙ at-front h;
     clears = λ h. p .clears word (passes h);
+    sameReading = λ h. p .sameReading word (passes h);
+    sameLead = λ h. p .sameLead word (passes h);
+    sameTops = λ h. p .sameTops word (passes h);
     sameRun = λ h. p .sameRun word (passes h);
     fewest = λ h. p .fewest word (passes h);
     makes = λ h table long.

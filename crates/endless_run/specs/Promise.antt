@@ -10,9 +10,9 @@ use Rattle.cltlb.specs.Truth.{Holds}
 use Rattle.cltlb.specs.Parts.{formulaOf}
 use Rattle.rule.specs.Layout.{partCount, channelCount}
 use Rattle.rule.specs.Take.{viewsOf}
-use Rattle.plan.specs.Layout.{channels, startRows, cycleRows, rows}
+use Rattle.plan.specs.Layout.{channels, startRows, cycleRows, leadRows, rows, topOf, storedReading}
 use Rattle.plan.specs.Refusals.{planOutcome}
-use Rattle.plan.specs.Run.{runOf}
+use Rattle.plan.specs.Run.{readingAt, runOf}
 use Rattle.laid_out.specs.LaidOut.{rowsAfter, laidOut, canBeLaid}
 use Rattle.refusal.specs.declared.Refusal.{Refusal}
 use Rattle.refusal.specs.declared.Outcome.the-variants.{Clear}
@@ -73,8 +73,15 @@ pub record SettleWordPromise (rule plan laid scratch laid′ scratch′ : List �
   pub scratchBytes : scratch′ ≡ scratchAfter rule plan laid scratch
   -- a number below 256 is how many passes are laid out: the new plan is at the front of the buffer,
   pub front : word < 256 → laid′ ≡ laidOut plan word ++ drop (length (laidOut plan word)) laid
-  -- clears refusals 4 to 6 for the rule, and has the same reading at every position and channel as the first, before the start too;
+  -- clears refusals 4 to 6 for the rule, and has the same reading at every position and channel as the first, the exact value, also
+  -- where it is pinned, the same lead-in rows with the same readings and the same tops, so that the same is seen at every position,
+  -- before the start too;
   pub clears : word < 256 → planOutcome (channelCount rule) (laidOut plan word) ≡ Clear
+  pub sameReading : word < 256 → (channel : ℕ) → channel < channels plan → (t : ℕ) → readingAt (laidOut plan word) channel t ≡ readingAt plan channel t
+  pub sameLead : word < 256
+      → (leadRows (laidOut plan word) ≡ leadRows plan)
+      × ((k channel : ℕ) → k < leadRows plan → channel < channels plan → storedReading (laidOut plan word) k channel ≡ storedReading plan k channel)
+  pub sameTops : word < 256 → (channel : ℕ) → channel < channels plan → topOf (laidOut plan word) channel ≡ topOf plan channel
   pub sameRun : word < 256 → (channel : ℕ) → channel < channels plan → (t : ℤ) → runOf (laidOut plan word) channel t ≡ runOf plan channel t
   -- its passes are the fewest after which every part closes, so that endless_run_make answers 0 or 1 for it;
   pub fewest : word < 256 → FewestSettle rule plan word

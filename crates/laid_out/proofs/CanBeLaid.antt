@@ -76,15 +76,16 @@ module _ (plan : List ℕ) where
   rows-first = omega arith
 
   module _ (bytes : Bytes plan) where
-    row-fits : (row channel : ℕ) → SignedFits 4 (readingOf plan row channel)
+    -- The readings of a row fit 32 bits.
+    pub row-reading-fits : (row channel : ℕ) → SignedFits 4 (readingOf plan row channel)
     unfolding readingOf
-    row-fits row channel = reading-fits plan bytes (leadRows plan + row) channel
+    row-reading-fits row channel = reading-fits plan bytes (leadRows plan + row) channel
 
     -- A plan can be written as it is.
     pub first-fits : {z : Sizes} → Fitting plan z → canBeLaid plan 0 ≡ true
     first-fits fits =
         can-be 0 (omega (arith, rows-first, rows-are fits, fits .few-rows)) (λ t channel l q.
-        subst⁻¹ (SignedFits 4) (reading-on-pass-0 plan channel t (omega (arith, rows-first))) (row-fits t channel))
+        subst⁻¹ (SignedFits 4) (reading-on-pass-0 plan channel t (omega (arith, rows-first))) (row-reading-fits t channel))
 
     -- Where nothing drifts, passes can be laid out up to 256 rows.
     module _ {z : Sizes} (fits : Fitting plan z) (still : (row channel : ℕ) → row < rows plan → channel < channels plan → driftOf plan row channel ≡ pos 0) where
@@ -98,4 +99,4 @@ module _ (plan : List ℕ) where
           ∙ +ℤ-idr (readingOf plan row channel)
 
       pub still-fits : (n : ℕ) → rowsAfter plan n ≤ 256 → canBeLaid plan n ≡ true
-      still-fits n few = can-be n few (λ t channel l q. subst⁻¹ (SignedFits 4) (still-reading t channel q) (row-fits (rowOf (startRows plan) (cycleRows plan) t) channel))
+      still-fits n few = can-be n few (λ t channel l q. subst⁻¹ (SignedFits 4) (still-reading t channel q) (row-reading-fits (rowOf (startRows plan) (cycleRows plan) t) channel))

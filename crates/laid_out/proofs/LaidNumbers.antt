@@ -19,7 +19,6 @@ use Rattle.plan.specs.inner.Sizes.{allRows, allStored, mostStored, farthest, Fi
 use Rattle.plan.specs.declared.sizes.Sizes.{Sizes}
 use Rattle.plan.proofs.Lines.{no-passes}
 use Rattle.plan.proofs.Arrays.{value-at}
-use Rattle.plan.proofs.Fits.{few-stored}
 use Rattle.laid_out.specs.LaidOut.{startAfter, rowsAfter, laidReading, laidDrift, canBeLaid}
 use Rattle.laid_out.specs.inner.LaidSizes.{laidSizes}
 use Rattle.laid_out.specs.inner.LaidNumbers.{laidNumber}

@@ -1,4 +1,4 @@
--- A plan with passes of its cycle laid out, as bytes: its length, its sizes and its numbers, and that its run is the plan's run.
+-- A plan with passes of its cycle laid out, as bytes: its sizes and its numbers, and that its run is the plan's run.
 -- Assumes nothing.
 use Prim.Native.Nat.{ℕ, suc, _+_, _*_, _-_, _≤_, _<_}
 use native.Mathlib.Decide.{decLt}
@@ -8,30 +8,24 @@ use mathlib.Core.Bool.{true}
 use mathlib.Core.List.{List}
 use mathlib.Core.Logic.{by-cases}
 use lib.IntN.{ℤ, pos, negsuc, _+ℤ_, _*ℤ_}
-use lib.ListN.{length}
 use borrow.Author.Tests.{lt-ltb, le-ltb, le-leb, lt-leb}
 use Rattle.cltlb.specs.Run.{under}
 use Rattle.fields.specs.inner.Ranges.{Bytes, SignedFits}
-use Rattle.plan.specs.Layout.{channels, startRows, cycleRows, leadRows, rows, headLength, arrayLength, topOf, storedReading, storedDrift, readingOf, driftOf}
+use Rattle.plan.specs.Layout.{channels, startRows, cycleRows, leadRows, rows, topOf, storedReading, storedDrift, readingOf, driftOf}
 use Rattle.plan.specs.Positions.{rowOf, passOf}
 use Rattle.plan.specs.Run.{readingOn, readingAt, leadAt, runOf}
 use Rattle.plan.specs.inner.Sizes.{allRows, Fitting}
 use Rattle.plan.specs.declared.sizes.Sizes.{Sizes}
 use Rattle.plan.proofs.Rows.{row-lt, row-ge, row-split}
 use Rattle.plan.proofs.Lines.{reading-on-pass-0, readingAt-later}
-use Rattle.plan.proofs.Arrays.{array-le}
-use Rattle.plan.proofs.PlanBytes.{made-length, made-cycle, made-rows, made-top, made-reading, made-drift, made-fitting, top-fits, reading-fits, drift-fits}
+use Rattle.plan.proofs.PlanBytes.{made-cycle, made-rows, made-top, made-reading, made-drift, made-fitting, top-fits, reading-fits, drift-fits}
 use Rattle.laid_out.specs.LaidOut.{startAfter, rowsAfter, laidReading, laidDrift, laidOut, canBeLaid}
-use Rattle.laid_out.specs.inner.LaidSizes.{laidSizes, mostPlan}
+use Rattle.laid_out.specs.inner.LaidSizes.{laidSizes}
 use Rattle.laid_out.proofs.CanBeLaid.{few-laid, laid-fits}
 
 -- ---- rows that are laid out
 
 module _ (plan : List ℕ) where
-  pub laid-length : (n : ℕ) → length (laidOut plan n) ≡ headLength (channels plan) + 2 * arrayLength (channels plan) (leadRows plan + rowsAfter plan n)
-  unfolding laidOut rowsAfter
-  laid-length n = made-length (channels plan) (startAfter plan n) (cycleRows plan) (leadRows plan) (topOf plan) (laidReading plan) (laidDrift plan n)
-
   -- The readings of a lead-in row are as they are,
   pub lead-reading : (k channel : ℕ) → k < leadRows plan → laidReading plan k channel ≡ storedReading plan k channel
   unfolding laidReading
@@ -98,17 +92,10 @@ module _ (plan : List ℕ) {z : Sizes} (fits : Fitting plan z) (n : ℕ) (can : 
   a-cycle : 1 ≤ cycleRows plan
   a-cycle = omega (arith, fits .c-is, fits .a-cycle)
 
-  -- THE SIZES ARE SMALL ENOUGH,
+  -- THE SIZES ARE SMALL ENOUGH.
   pub laid-few : (z .channels ≤ 8) × (allRows (laidSizes z n) ≤ 256) × (z .lead ≤ 4)
   unfolding rowsAfter startAfter
   laid-few = (fits .few-channels, rw (fits .p-is, fits .c-is) at (few-laid plan n can), fits .few-lead)
-
-  -- so that the largest plan is long enough for it.
-  pub laid-most : length (laidOut plan n) ≤ mostPlan
-  unfolding arrayLength rowsAfter
-  laid-most =
-      let most = array-le (channels plan) (leadRows plan + (startAfter plan n + cycleRows plan)) few-channels (omega (arith, few-rows, few-lead)) in
-      omega (arith, laid-length plan n, few-channels, most)
 
   -- The cycle is as long as the plan's, and so many rows are there.
   pub laid-cycle : cycleRows (laidOut plan n) ≡ cycleRows plan
@@ -136,6 +123,10 @@ module _ (plan : List ℕ) {z : Sizes} (fits : Fitting plan z) (n : ℕ) (can : 
     pub laid-fitting : Fitting (laidOut plan n) (laidSizes z n)
     unfolding startAfter
     laid-fitting = rw (fits .v-is, fits .p-is, fits .c-is, fits .l-is) at own
+
+    -- There are as many lead-in rows as the plan has.
+    pub laid-lead : leadRows (laidOut plan n) ≡ leadRows plan
+    laid-lead = own .l-is
 
     -- The tops are the plan's.
     pub laid-top : (channel : ℕ) → channel < channels plan → topOf (laidOut plan n) channel ≡ topOf plan channel
@@ -200,19 +191,21 @@ module _ (plan : List ℕ) {z : Sizes} (fits : Fitting plan z) (n : ℕ) (can : 
           ∙ sym (readingAt-later plan a-cycle channel row pass (omega (arith, start-later plan n)))
           ∙ ap (readingAt plan channel) (sym (row-split S C a-cycle t h)))
 
-      -- The reading at every position is the plan's,
+      -- THE READING AT EVERY POSITION IS THE PLAN'S, also where it is pinned,
       pub laid-reading-at : (t : ℕ) → readingAt (laidOut plan n) channel t ≡ readingAt plan channel t
       laid-reading-at t = by-cases (decLt t S) (early t) (λ h. later t (omega arith))
 
-      -- and so is what is seen in the lead-in and before it.
+      -- and so is that of every lead-in row,
+      pub laid-lead-reading : (k : ℕ) → k < leadRows plan → storedReading (laidOut plan n) k channel ≡ storedReading plan k channel
+      laid-lead-reading k h = laid-reading k channel (omega arith) within ∙ lead-reading plan k channel h
+
+      -- so that the same is seen in the lead-in and before it.
       pub laid-lead-at : (back : ℕ) → 1 ≤ back → leadAt (laidOut plan n) channel back ≡ leadAt plan channel back
       unfolding leadAt
       laid-lead-at back some =
           rw (own .l-is) (by-cases (decLt (leadRows plan) back)
           (λ h. simp (lt-leb back (leadRows plan) h))
-          (λ h. let there : leadRows plan - back < leadRows plan = omega arith in
-          rw (le-leb back (leadRows plan) (omega arith))
-          (ap₂ under (laid-top channel within) (laid-reading (leadRows plan - back) channel (omega arith) within ∙ lead-reading plan (leadRows plan - back) channel there))))
+          (λ h. rw (le-leb back (leadRows plan) (omega arith)) (ap₂ under (laid-top channel within) (laid-lead-reading (leadRows plan - back) (omega arith)))))
 
       -- ITS RUN IS THE PLAN'S, on the plan's channels.
       pub laid-run : (t : ℤ) → runOf (laidOut plan n) channel t ≡ runOf plan channel t

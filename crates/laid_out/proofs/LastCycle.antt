@@ -13,7 +13,7 @@ use Rattle.fields.specs.TwosComplement.{signedFits}
 use Rattle.fields.specs.inner.Ranges.{Bytes, SignedFits}
 use Rattle.fields.proofs.Differences.{by-sub, sub-pos, sub-neg, sub-line}
 use Rattle.fields.proofs.Patterns.{fits-found, found-fits}
-use Rattle.plan.specs.Layout.{channels, startRows, cycleRows, leadRows, rows, readingOf, driftOf}
+use Rattle.plan.specs.Layout.{channels, startRows, cycleRows, rows, readingOf, driftOf}
 use Rattle.plan.specs.Positions.{rowOf, passOf}
 use Rattle.plan.specs.Run.{readingOn, readingAt}
 use Rattle.plan.specs.Layout.{anyBelow}
@@ -22,10 +22,9 @@ use Rattle.plan.specs.declared.sizes.Sizes.{Sizes}
 use Rattle.plan.proofs.Rows.{row-again, pass-again, row-ge, row-lt, pass-lt}
 use Rattle.plan.proofs.Lines.{reading-on-pass-0}
 use Rattle.plan.proofs.Searches.{one-here, none-below, none-each}
-use Rattle.plan.proofs.PlanBytes.{reading-fits}
 use Rattle.laid_out.specs.LaidOut.{startAfter, rowsAfter, tooLarge, canBeLaid}
 use Rattle.laid_out.specs.inner.LastCycle.{numberTooLarge, rowTooLarge, cycleTooLarge}
-use Rattle.laid_out.proofs.CanBeLaid.{passes-few, can-be, laid-fits}
+use Rattle.laid_out.proofs.CanBeLaid.{passes-few, can-be, laid-fits, row-reading-fits}
 
 -- ---- a straight line between two numbers of 32 bits
 
@@ -132,21 +131,17 @@ module _ {plan : List ℕ} {z : Sizes} (fits : Fitting plan z) where
             (none-each (λ i. not (signedFits 4 (readingOn plan i (startRows plan + j) n))) (channels plan)
             (none-each (λ i. anyBelow (λ k. not (signedFits 4 (readingOn plan k (startRows plan + i) n))) (channels plan)) (cycleRows plan) none j l) channel q))
 
-        first-fits : (row channel : ℕ) → SignedFits 4 (readingOf plan row channel)
-        unfolding readingOf
-        first-fits row channel = reading-fits plan bytes (leadRows plan + row) channel
-
         cycle-fits-between : (j channel p : ℕ) → j < cycleRows plan → channel < channels plan → p ≤ n → SignedFits 4 (readingOn plan channel (startRows plan + j) p)
         unfolding readingOn
         cycle-fits-between j channel p l q h =
-            between-fits (readingOf plan (startRows plan + j) channel) (driftOf plan (startRows plan + j) channel) p n h (first-fits (startRows plan + j) channel)
+            between-fits (readingOf plan (startRows plan + j) channel) (driftOf plan (startRows plan + j) channel) p n h (row-reading-fits plan bytes (startRows plan + j) channel)
             (last-fits j channel l q)
 
         all-between : (t channel : ℕ) → t < rowsAfter plan n → channel < channels plan → SignedFits 4 (readingAt plan channel t)
         unfolding readingAt rowsAfter startAfter rows
         all-between t channel l q =
             by-cases (decLt t (startRows plan + cycleRows plan))
-            (λ s. subst⁻¹ (SignedFits 4) (reading-on-pass-0 plan channel t s) (first-fits t channel))
+            (λ s. subst⁻¹ (SignedFits 4) (reading-on-pass-0 plan channel t s) (row-reading-fits plan bytes t channel))
             (λ s.
             let low = row-ge (startRows plan) (cycleRows plan) t (omega arith) in
             let high = row-lt (startRows plan) (cycleRows plan) a-cycle t in

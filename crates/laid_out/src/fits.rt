@@ -7,17 +7,15 @@ ghost use Rattle.plan.specs.inner.Lifted.{passes, lowered};
 ghost use Rattle.plan.specs.inner.Sizes.{allRows, Fitting};
 ghost use Rattle.laid_out.specs.LaidOut.{canBeLaid};
 ghost use Rattle.laid_out.specs.inner.LastCycle.{rowTooLarge, cycleTooLarge};
+use crate::numbers::LEAST;
 use fields::BIAS;
-use plan::lookup::LAST_PASS;
 use plan::lookup::number_at;
 use plan::sizes::Sizes;
 
 // The most rows of a plan but for its lead-in.
 pub const MOST_ROWS: usize = 256;
 
-// The numbers of 32 bits, lifted as values are: the least of them, and the end of them.
-const LEAST: u64 = LAST_PASS * BIAS;
-
+// The end of the numbers of 32 bits, lifted as values are.
 const END: u64 = LEAST + 2 * BIAS;
 
 // A value fits 32 bits.

@@ -20,8 +20,8 @@ use plan::sizes::Sizes;
 // No drift.
 const NONE: u64 = (LAST_PASS + 1) * BIAS;
 
-// What a field is lifted more by as a value.
-const LIFT: u64 = LAST_PASS * BIAS;
+// The least number of 32 bits, lifted as values are: what a field, which is biased, is lifted more by as a value.
+pub const LEAST: u64 = LAST_PASS * BIAS;
 
 const PATTERNS: u64 = 2 * BIAS;
 
@@ -58,7 +58,7 @@ fn laid_drift(plan: &[u8], sizes: Sizes, n: usize, k: usize, channel: usize) -> 
     if k < sizes.lead + (sizes.start + n * sizes.cycle) {
         return NONE;
     }
-    drift_at(plan, sizes, channel, row_of(sizes, k - sizes.lead)) + LIFT
+    drift_at(plan, sizes, channel, row_of(sizes, k - sizes.lead)) + LEAST
 }
 
 // The one or the other.

@@ -32,7 +32,7 @@ use Rattle.inputs.specs.Outcome.{inputsOutcome}
 use Rattle.inputs.proofs.Ways.{clear-both, both-clear, inputs-within}
 use Rattle.laid_out.specs.LaidOut.{rowsAfter, laidOut, canBeLaid}
 use Rattle.laid_out.proofs.CanBeLaid.{passes-few, fewer-fit, still-fits}
-use Rattle.laid_out.proofs.LaidRuns.{laid-fitting, laid-run}
+use Rattle.laid_out.proofs.LaidRuns.{laid-fitting, laid-lead, laid-top, laid-reading-at, laid-lead-reading, laid-run}
 use Rattle.laid_out.proofs.LaidPlans.{laid-clear, laid-none}
 use Rattle.maker.specs.declared.Made.the-variants as M
 use Rattle.maker.specs.Make.{closingsOutcome, makeOf}
@@ -229,6 +229,14 @@ module _ (rule plan laid scratch : List ℕ) where
     scratchBytes = g;
     clears = λ n q. let p = passes-found e n q in
         laid-clear plan bytes (channelCount rule) (plan-clear rule plan bytes (p .0)) n (can-be-laid rule plan bytes (p .0) n (p .1));
+    sameReading = λ n q c l t. let p = passes-found e n q in
+        laid-reading-at plan (sizes-fit rule plan bytes (p .0)) n (can-be-laid rule plan bytes (p .0) n (p .1)) bytes c l t;
+    sameLead = λ n q. let p = passes-found e n q in (
+      laid-lead plan (sizes-fit rule plan bytes (p .0)) n (can-be-laid rule plan bytes (p .0) n (p .1)) bytes,
+      λ k c h l. laid-lead-reading plan (sizes-fit rule plan bytes (p .0)) n (can-be-laid rule plan bytes (p .0) n (p .1)) bytes c l k h,
+    );
+    sameTops = λ n q. let p = passes-found e n q in
+        laid-top plan (sizes-fit rule plan bytes (p .0)) n (can-be-laid rule plan bytes (p .0) n (p .1)) bytes;
     sameRun = λ n q c l t. let p = passes-found e n q in
         laid-run plan (sizes-fit rule plan bytes (p .0)) n (can-be-laid rule plan bytes (p .0) n (p .1)) bytes c l t;
     fewest = λ n q. let p = passes-found e n q in found-fewest rule plan bytes (p .0) n (p .1);

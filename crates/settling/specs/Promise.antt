@@ -12,9 +12,9 @@ use Rattle.refusal.specs.declared.Refusal.the-variants.{NoLayout}
 use Rattle.rule.specs.Layout.{partCount, channelCount}
 use Rattle.rule.specs.Take.{viewsOf}
 use Rattle.rule.specs.Sheet.{sheetOutcome}
-use Rattle.plan.specs.Layout.{channels, rows, driftOf}
+use Rattle.plan.specs.Layout.{channels, leadRows, rows, topOf, storedReading, driftOf}
 use Rattle.plan.specs.Refusals.{planOutcome}
-use Rattle.plan.specs.Run.{runOf}
+use Rattle.plan.specs.Run.{readingAt, runOf}
 use Rattle.laid_out.specs.LaidOut.{rowsAfter, laidOut, canBeLaid}
 use Rattle.marks.specs.Meaning.{Settled}
 use Rattle.maker.specs.declared.Made.the-variants as M
@@ -57,7 +57,15 @@ pub record SettlePromise (rule plan laid scratch laid′ scratch′ : List ℕ) 
   pub scratchBytes : scratch′ ≡ scratchAfter rule plan laid scratch
   -- the new plan clears refusals 4 to 6 for the rule,
   pub clears : (n : ℕ) → answer ≡ L.Passes n → planOutcome (channelCount rule) (laidOut plan n) ≡ Clear
-  -- and has the same reading at every position and channel as the first, before the start too
+  -- and has the same reading at every position and channel as the first, the exact value, also where it is pinned,
+  pub sameReading : (n : ℕ) → answer ≡ L.Passes n → (channel : ℕ) → channel < channels plan → (t : ℕ) → readingAt (laidOut plan n) channel t ≡ readingAt plan channel t
+  -- the same lead-in rows with the same readings,
+  pub sameLead : (n : ℕ) → answer ≡ L.Passes n
+      → (leadRows (laidOut plan n) ≡ leadRows plan)
+      × ((k channel : ℕ) → k < leadRows plan → channel < channels plan → storedReading (laidOut plan n) k channel ≡ storedReading plan k channel)
+  -- and the same tops,
+  pub sameTops : (n : ℕ) → answer ≡ L.Passes n → (channel : ℕ) → channel < channels plan → topOf (laidOut plan n) channel ≡ topOf plan channel
+  -- so that the same is seen at every position, before the start too
   pub sameRun : (n : ℕ) → answer ≡ L.Passes n → (channel : ℕ) → channel < channels plan → (t : ℤ) → runOf (laidOut plan n) channel t ≡ runOf plan channel t
   -- its passes are the fewest after which every part closes,
   pub fewest : (n : ℕ) → answer ≡ L.Passes n → FewestSettle rule plan n

@@ -2,7 +2,6 @@
 use borrow.Author.Needs.{needs}
 use native.Mathlib.Omega.{arith}
 use mathlib.Core.Path.{_∙_}
-use Prim.Native.Nat.{_-_}
 use Rattle.settling.proofs.Copying as law
 use Rattle.settling.proofs.copies.mark_before.Statement.{statement}
 use Rattle.settling.proofs.copies.mark_before.Tie as tie
