@@ -41,6 +41,10 @@ module _ (plan : List ℕ) (mark : ℕ → ℕ → Bool) (f : ℕ → Formula) (
   abbrev pub TrueOn : ℕ → Type 0
   TrueOn row = T (mark i row) ↔ F row
 
+  -- The mark at the row's first position is that on the row.
+  on-row : (row : ℕ) → row < rows plan → T (markAt plan mark i row) ↔ F row → TrueOn row
+  on-row row l h = Iff·trans (T-path (ap (mark i) (sym (first-position plan row l)))) h
+
   -- Of every kind but U and R: where the equation is met on the rows below m, the marks there are true.
   true-below : ((t : ℕ) → ((k : ℕ) → k < t → T (markAt plan mark i k) ↔ F k) → T (due plan mark p own t) ↔ F t)
       → (m : ℕ) → m ≤ rows plan → ((k : ℕ) → k < m → mark i k ≡ expectedOn plan mark p i k) → (k : ℕ) → k < m → T (markAt plan mark i k) ↔ F k
@@ -73,9 +77,7 @@ module _ (plan : List ℕ) (mark : ℕ → ℕ → Bool) (f : ℕ → Formula) (
   met-open met r e row l = go (is-due plan mark f hC i named v p fits)
     where
       go : Due plan mark f p i → TrueOn row
-      go (byEarlier by) =
-          Iff·trans (T-path (ap (mark i) (sym (first-position plan row l))))
-          (true-below (by own) (rows plan) (omega arith) (equation-clear plan mark p i .0 met) row l)
+      go (byEarlier by) = on-row row l (true-below (by own) (rows plan) (omega arith) (equation-clear plan mark p i .0 met) row l)
       go (byLater kind by later shut decides) = absurd (clear-refused (sym e ∙ shut))
 
   -- A mark that breaks its equation, the lower ones meeting it.
@@ -90,6 +92,10 @@ module _ (plan : List ℕ) (mark : ℕ → ℕ → Bool) (f : ℕ → Formula) (
     false-here (byEarlier by) other = not-due (by own row (true-below (by own) row (omega arith) lower))
     false-here (byLater kind by later closes decides) other = absurd (other kind)
 
+    true-lower : Due plan mark f p i → ¬ Ahead plan mark f p → (q : ℕ) → q < row → TrueOn q
+    true-lower (byEarlier by) other q h = on-row q (omega arith) (true-below (by own) row (omega arith) lower q h)
+    true-lower (byLater kind by later closes decides) other q h = absurd (other kind)
+
     false-beside : Due plan mark f p i → ¬ (TrueOn row × TrueOn (after (startRows plan) (cycleRows plan) row))
     false-beside (byEarlier by) h = not-due (by own row (true-below (by own) row (omega arith) lower)) (h .0)
     false-beside (byLater kind by later closes decides) h = not-due (by row (true-after later row l (h .1))) (h .0)
@@ -98,7 +104,7 @@ module _ (plan : List ℕ) (mark : ℕ → ℕ → Bool) (f : ℕ → Formula) (
   abbrev pub Broken : Refusal → Type 0
   Broken r =
       (row : ℕ) × (Equation i row ≡ r) × (row < rows plan) × (¬ Ahead plan mark f p → ¬ TrueOn row)
-      × (¬ (TrueOn row × TrueOn (after (startRows plan) (cycleRows plan) row)))
+      × (¬ (TrueOn row × TrueOn (after (startRows plan) (cycleRows plan) row))) × (¬ Ahead plan mark f p → (q : ℕ) → q < row → TrueOn q)
 
   pub equation-broken : (r : Refusal) → equationOutcome plan mark p i ≡ Refused r → Broken r
   unfolding equationOutcome atLowest lowest breaks
@@ -111,4 +117,4 @@ module _ (plan : List ℕ) (mark : ℕ → ℕ → Bool) (f : ℕ → Formula) (
       λ k q. beq-false (mark i k) (expectedOn plan mark p i k) .0 (at .3 k (omega arith) q) in
       let broken = beq-true (mark i (s .0)) (expectedOn plan mark p i (s .0)) (at .2) in
       let kind = is-due plan mark f hC i named v p fits in
-      (s .0, s .2, l, false-here (s .0) l lower broken kind, false-beside (s .0) l lower broken kind)
+      (s .0, s .2, l, false-here (s .0) l lower broken kind, false-beside (s .0) l lower broken kind, true-lower (s .0) l lower broken kind)

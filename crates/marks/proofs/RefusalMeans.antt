@@ -8,6 +8,8 @@ use native.Mathlib.Omega.{arith}
 use lib.Dec.{T}
 use Rattle.cltlb.specs.Parts.{formulaOf}
 use Rattle.cltlb.specs.Fits.{viewFits}
+use Rattle.cltlb.specs.Views.{twoView}
+use Rattle.cltlb.specs.declared.Binary.the-variants.{Until, Release}
 use Rattle.cltlb.specs.declared.View.{View}
 use Rattle.cltlb.proofs.Depth.{formula-made}
 use Rattle.refusal.specs.First.{_orElse_, unless, inTurn}
@@ -64,6 +66,7 @@ module _ (plan : List ℕ) (hC : 1 ≤ cycleRows plan) (parts : ℕ → View) (v
     broken : (r : Refusal) → equationOutcome plan mark (parts i) i ≡ Refused r
         → (row : ℕ) × (Equation i row ≡ r) × (row < rows plan) × (¬ Ahead plan mark (formulaOf parts) (parts i) → ¬ MarkTrue parts plan i mark row)
         × (¬ (MarkTrue parts plan i mark row × MarkTrue parts plan i mark (after (startRows plan) (cycleRows plan) row)))
+        × (¬ Ahead plan mark (formulaOf parts) (parts i) → (q : ℕ) → q < row → MarkTrue parts plan i mark q)
     unfolding MarkTrue Truth
     broken r e =
         rw (formula-made parts v n fits i l)
@@ -124,9 +127,13 @@ module _ (plan : List ℕ) (hC : 1 ≤ cycleRows plan) (parts : ℕ → View) (v
           settled = closed closes;
           row-there = s .2;
           not-true = equation-says r e .2;
-          false-here = λ no-until no-release. s .3 (⊎-elim (λ u. no-until (u .0) (u .1) (u .2)) (λ u. no-release (u .0) (u .1) (u .2)));
+          false-here = λ no-until no-release. s .3 (neither no-until no-release);
+          lowest = λ no-until no-release. s .5 (neither no-until no-release);
           false-beside = s .4;
         })
+      where
+        neither : ((a b : ℕ) → ¬ (parts i ≡ twoView Until a b)) → ((a b : ℕ) → ¬ (parts i ≡ twoView Release a b)) → ¬ Ahead plan mark (formulaOf parts) (parts i)
+        neither no-until no-release = ⊎-elim (λ u. no-until (u .0) (u .1) (u .2)) (λ u. no-release (u .0) (u .1) (u .2))
 
     -- 10 names part i and a row, of which it says what the definition states
     pub closing-says : (r : Refusal) → closingOutcome plan mark (parts i) i ≡ Refused r

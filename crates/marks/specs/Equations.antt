@@ -80,7 +80,7 @@ module _ (P C : ℕ) where
     unfoldable pub operatorMark : Operator → ℕ → ℕ → Bool
     operatorMark o i row = stepOn mark o row (markBeside (besideOf o) (mark (watched o i)) row)
 
-    -- Part i on a row: an operator by the marks; less and equal by their truth at pass 0, `atoms`.
+    -- Part i on a row: an operator by the marks; an atom by its truth at pass 0, `atoms`.
     unfoldable pub expected : (Atom → ℕ → Bool) → View → ℕ → ℕ → Bool
     expected atoms (view.Atom x) i row = atoms x row
     expected atoms (view.Operator o) i row = operatorMark o i row

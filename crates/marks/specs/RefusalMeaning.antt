@@ -30,8 +30,10 @@ module _ (parts : ℕ → View) (n : ℕ) (plan : List ℕ) (mark : ℕ → ℕ 
     pub row-there : row < rows plan
     -- the marks of the part are not all true:
     pub not-true : ¬ PartMarksTrue parts plan i mark
-    -- the one on that row is false;
+    -- the one on that row is false,
     pub false-here : ((a b : ℕ) → ¬ (parts i ≡ twoView Until a b)) → ((a b : ℕ) → ¬ (parts i ≡ twoView Release a b)) → ¬ MarkTrue parts plan i mark row
+    -- and it is the lowest such row: those on the rows below are true;
+    pub lowest : ((a b : ℕ) → ¬ (parts i ≡ twoView Until a b)) → ((a b : ℕ) → ¬ (parts i ≡ twoView Release a b)) → (q : ℕ) → q < row → MarkTrue parts plan i mark q
     -- of U and R, that one or the one on the row after, at which the equation looks
     pub false-beside : ¬ (MarkTrue parts plan i mark row × MarkTrue parts plan i mark (after (startRows plan) (cycleRows plan) row))
 
