@@ -18,7 +18,6 @@ use Rattle.refusal.proofs.Search.{searchFrom, search-starts, search-on, search-
 use Rattle.rule.specs.Take.{takeOf, viewsOf}
 use Rattle.rule.specs.declared.Taken.{Taken}
 use Rattle.rule.specs.declared.Taken.the-variants as K
-use Rattle.plan.specs.Layout.{rows}
 use Rattle.plan.specs.declared.sizes.Sizes.{Sizes}
 use Rattle.plan.specs.inner.Sizes.{allRows}
 use Rattle.plan.proofs.Fits.{rows-are}

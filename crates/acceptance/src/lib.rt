@@ -1,5 +1,6 @@
 // The whole check: a rule sheet, a plan and a mark table, accepted with the rule's truth at position 0, or refused.
 ghost use mathlib.Core.Path.{_≡_};
+ghost use mathlib.Core.Bool.{cond};
 ghost use lib.ListN.{length};
 ghost use Rattle.plan.specs.Layout.{readings};
 ghost use Rattle.plan.specs.inner.Sizes.{allRows, allStored, mostArray};
@@ -17,7 +18,6 @@ use marks::refusals::breaks_on;
 use marks::refusals::check_closing;
 use marks::refusals::check_witness;
 use marks::refusals::surely_clear;
-use marks::stretches::choose;
 use plan::sizes::Sizes;
 use plan::sweeps::still;
 use refusal::Outcome;
@@ -30,6 +30,13 @@ use table::bytes::mark_at;
 pub enum Checked {
     Accepted(bool),
     Refused(Refusal),
+}
+
+// One number or the other.
+fn choose(first: bool, x: usize, y: usize) -> usize
+    ensures { λ r. ⌜ r ≡ cond first x y ⌝ }
+{
+    if first { x } else { y }
 }
 
 // Refusals 9 to 11 of a table of `n` parts, the lowest part first, each with all its rows; within a part 10 comes before 9. `values`

@@ -27,6 +27,11 @@ flip-flip false x = refl
 flip-flip true true = refl
 flip-flip true false = refl
 
+-- of itself
+flip-self : (f : Bool) → flipped f f ≡ false
+flip-self true = refl
+flip-self false = refl
+
 -- An operator that steps from its own mark beside, by the marks or by their opposites.
 abbrev pub Steps : Binary → Bool → Type 0
 Steps s f = (x y z : Bool) → markTwo s x y z ≡ flipped f (flipped f y || (flipped f x && flipped f z))
@@ -108,11 +113,7 @@ module _ (P C : ℕ) (hC : 1 ≤ C) (mark : ℕ → ℕ → Bool) where
     runs : (row : ℕ) → running mark (Two s a b) f row ≡ flipped f (carried left right row)
     unfolding running carried
     runs zero =
-        steps (mark a 0) (mark b 0) f ∙ ap (λ (x : Bool). flipped f (right 0 || (left 0 && x))) (none f)
-      where
-        none : (f : Bool) → flipped f f ≡ false
-        none true = refl
-        none false = refl
+        steps (mark a 0) (mark b 0) f ∙ ap (λ (x : Bool). flipped f (right 0 || (left 0 && x))) (flip-self f)
     runs (suc row) =
         ap (markTwo s (mark a (suc row)) (mark b (suc row))) (runs row)
         ∙ steps (mark a (suc row)) (mark b (suc row)) (flipped f (carried left right row))
@@ -150,15 +151,11 @@ module _ (P C : ℕ) (hC : 1 ≤ C) (mark : ℕ → ℕ → Bool) where
       unfolding following
       first-sweep =
           let c : C ≡ suc (C - 1) = omega arith in
-          let none : flipped f (endTwo s) ≡ false = ap (flipped f) end ∙ self f in
+          let none : flipped f (endTwo s) ≡ false = ap (flipped f) end ∙ flip-self f in
           let whole : C ≡ suc (C - 1) + 0 = omega arith in
           ap (flipped f) (ap (λ (k : ℕ). following P C mark (Two s a b) k P) whole ∙ backs (C - 1) 0 P (omega arith))
           ∙ flip-flip f (backed left right (flipped f (endTwo s)) (suc (C - 1)) P)
           ∙ ap₂ (λ (x : Bool) (k : ℕ). backed left right x k P) none (sym c)
-        where
-          self : (f : Bool) → flipped f f ≡ false
-          self true = refl
-          self false = refl
 
       pub ahead-label : besideTwo s ≡ After → (row : ℕ) → row < P + C
           → flipped f (backed left right (backed left right false C P) (P + C - row) row) ≡ operatorLabel P C mark (Two s a b) row

@@ -1,6 +1,6 @@
 -- Demand 3: a mark table is accepted exactly where every part has on each cycle row the same published truth on all passes,
 -- every mark is the truth at its row's first position, and every witness is in order. Assumes nothing.
-use mathlib.Core.Path.{_≡_, sym, ap, subst, subst⁻¹}
+use mathlib.Core.Path.{_≡_, sym, ap, subst⁻¹}
 use mathlib.Core.Bool.{Bool, true}
 use mathlib.Core.List.{List}
 use mathlib.Core.Logic.{_↔_, Iff·rfl, Iff·symm, Iff·trans, by-cases}
@@ -9,7 +9,6 @@ use native.Mathlib.Nat.{not-suc-le-zero}
 use native.Mathlib.Decide.{decLt}
 use native.Mathlib.Omega.{arith}
 use lib.Dec.{T}
-use Rattle.cltlb.specs.Truth.{Formula, Holds}
 use Rattle.cltlb.specs.Parts.{formulaOf}
 use Rattle.cltlb.specs.Fits.{viewFits}
 use Rattle.cltlb.specs.declared.View.{View}
@@ -19,13 +18,11 @@ use Rattle.refusal.specs.declared.Outcome.the-variants.{Clear}
 use Rattle.refusal.proofs.First.{inTurn-clear}
 use Rattle.plan.specs.Layout.{startRows, cycleRows, rows}
 use Rattle.plan.specs.Positions.{passOf}
-use Rattle.plan.specs.Run.{runOf}
 use Rattle.marks.specs.Parts.{witnessInOrder, partOutcome}
 use Rattle.marks.specs.Meaning.{Truth, SameOn, PartSettled, MarkTrue, PartMarksTrue, PartWitnessed, Settled, MarksTrue, WitnessesInOrder}
 use Rattle.marks.proofs.Tests.{T-path, T-ext}
 use Rattle.marks.proofs.Rows.{rowAt, first-position, start-row, from-start, is-row, row-0, again, row-and-pass}
 use Rattle.marks.proofs.Endless.{Agrees, markAt}
-use Rattle.marks.proofs.Witnessed.{witness-exists}
 use Rattle.marks.proofs.Parts.{part-accepted}
 
 module _ (plan : List ℕ) (parts : ℕ → View) (n : ℕ) (mark : ℕ → ℕ → Bool) where
@@ -116,31 +113,6 @@ module _ (plan : List ℕ) (hC : 1 ≤ cycleRows plan) (parts : ℕ → View) (v
     pub accepted-verdict : 1 ≤ n → Accepted plan parts n mark witness → T (mark (n - 1) 0) ↔ Truth parts plan (n - 1) 0
     unfolding MarksTrue PartMarksTrue MarkTrue
     accepted-verdict some h = accepted-means h .1 (n - 1) (omega arith) 0 (row-0 plan hC)
-
-  -- Every table of true marks is accepted with some witnesses.
-  pub true-marks-accepted : (mark : ℕ → ℕ → Bool) → Settled parts n plan → MarksTrue parts n plan mark
-      → (witness : ℕ → ℕ) × Accepted plan parts n mark witness
-  unfolding Truth WitnessesInOrder PartWitnessed
-  true-marks-accepted mark settled marks = (
-    λ i. pick i (decLt i n),
-    true-accepted mark (λ i. pick i (decLt i n)) (settled, marks, λ i l. picked i l (decLt i n)),
-  )
-    where
-      right : TrueEverywhere plan parts n mark
-      right = everywhere-iff plan hC parts n mark .1 (settled, marks)
-
-      some : (i : ℕ) → i < n → (w : ℕ) × T (witnessInOrder (startRows plan) (cycleRows plan) mark (parts i) i w)
-      some i l =
-          witness-exists plan hC mark i (formulaOf parts) (λ a q. right a (omega arith)) v (parts i) (fits i l)
-          (subst (λ (g : Formula). Agrees (markAt plan mark i) (Holds (runOf plan) g)) (formula-made parts v n fits i l) (right i l))
-
-      pick : (i : ℕ) → Dec (i < n) → ℕ
-      pick i (yes l) = some i l .0
-      pick i (no l) = 0
-
-      picked : (i : ℕ) → i < n → (d : Dec (i < n)) → T (witnessInOrder (startRows plan) (cycleRows plan) mark (parts i) i (pick i d))
-      picked i l (yes k) = some i k .1
-      picked i l (no k) = absurd (k l)
 
   -- The accepted table is unique but for witnesses.
   pub accepted-unique : (mark other : ℕ → ℕ → Bool) (witness others : ℕ → ℕ) → Accepted plan parts n mark witness → Accepted plan parts n other others

@@ -6,7 +6,6 @@ pub mod Comparisons
 pub mod ByMarks
 pub mod Unrolled
 pub mod Witnesses
-pub mod Witnessed
 pub mod Parts
 pub mod Faults
 pub mod ByTruth

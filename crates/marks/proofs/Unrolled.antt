@@ -16,7 +16,6 @@ use Rattle.refusal.specs.declared.Outcome.the-variants.{Clear}
 use Rattle.refusal.specs.declared.Refusal.the-variants.{Equation, Closing}
 use Rattle.refusal.proofs.First.{unless-clear-T, atLowest-clear}
 use Rattle.plan.specs.Layout.{startRows, cycleRows, rows}
-use Rattle.plan.specs.Positions.{after}
 use Rattle.verdict.specs.Rows.{atomAt}
 use Rattle.marks.specs.declared.operators.Beside.{Beside}
 use Rattle.marks.specs.declared.operators.Beside.the-variants.{After, Before}

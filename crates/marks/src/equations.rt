@@ -73,7 +73,7 @@ fn mark_beside(table: &[u8], n: usize, sizes: Sizes, side: Beside, part: usize, 
 }
 
 // The mark that an operator has to have on a row.
-pub fn operator_mark(
+fn operator_mark(
     table: &[u8],
     n: usize,
     sizes: Sizes,

@@ -2,7 +2,7 @@
 // only numbers are handed on beside the plan's sizes: `m`, `a` and `b`, the places of the marks on row 0 of the part and of the
 // parts that it names. Marks on other rows lie as many places on.
 ghost use mathlib.Core.Path.{_≡_};
-ghost use mathlib.Core.Bool.{true, false, cond};
+ghost use mathlib.Core.Bool.{true, false};
 ghost use Prim.Native.Nat.{_+_, _≤_, _<_};
 ghost use lib.ListN.{length};
 ghost use Rattle.cltlb.specs.Fits.{namesLower};
@@ -22,13 +22,6 @@ use table::sweeps::copies;
 use table::sweeps::opposites;
 use table::sweeps::stepped;
 use table::sweeps::steps;
-
-// One number or the other.
-pub fn choose(first: bool, x: usize, y: usize) -> usize
-    ensures { λ r. ⌜ r ≡ cond first x y ⌝ }
-{
-    if first { x } else { y }
-}
 
 // Each mark is a's on the row after.
 fn copies_ahead(table: &[u8], sizes: Sizes, m: usize, a: usize) -> bool

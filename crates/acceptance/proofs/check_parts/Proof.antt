@@ -16,12 +16,12 @@ use Rattle.acceptance.proofs.check_parts.Statement.{statement}
 use Rattle.acceptance.proofs.check_parts.Tie as tie
 use Rattle.acceptance.proofs.check_parts.Reads as reads
 use Rattle.acceptance.proofs.check_parts.Lts as lts
+use Rattle.acceptance.proofs.choose.Reads as choose-reads
 use Rattle.cltlb.proofs.view_of.Reads as view-of-reads
 use Rattle.marks.proofs.refusals.breaks_on.Reads as breaks-on-reads
 use Rattle.marks.proofs.refusals.check_closing.Reads as check-closing-reads
 use Rattle.marks.proofs.refusals.check_witness.Reads as check-witness-reads
 use Rattle.marks.proofs.refusals.surely_clear.Reads as surely-clear-reads
-use Rattle.marks.proofs.stretches.choose.Reads as choose-reads
 use Rattle.rule.proofs.refusal_of.Reads as refusal-of-reads
 use Rattle.rule.proofs.take.Reads as take-reads
 
