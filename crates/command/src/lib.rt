@@ -35,7 +35,7 @@ fn with_digit(n: u64, digit: u8) -> u64
 
 // The number that decimal digits stand for; 65536, which names no part and no row, where it is larger, where there are no
 // digits, or where another byte is among them.
-pub fn number_of(text: &[u8]) -> u64
+fn number_of(text: &[u8]) -> u64
     ensures { λ r. ⌜ r ≡ argumentOf (now (text .entry)) ⌝ }
 {
     if text.len() == 0 {
@@ -57,7 +57,8 @@ pub fn number_of(text: &[u8]) -> u64
     n
 }
 
-// The number that an argument of the program stands for, whatever text it is. A missing one stands for none.
+// The number that an argument of the program stands for, whatever text it is. A missing one, or one of more than 32 bytes, stands for
+// none.
 pub fn argument(i: usize) -> u64
     ensures { λ r. ⌜ ((text : List ℕ) × (r ≡ argumentOf text)) ⌝ }
 {

@@ -1,7 +1,12 @@
 // Makes the mark table of the files rule.bin and plan.bin of the current folder, writes it to marks.bin there and prints one
 // line: `made V`, or `refused N P R`, when marks.bin is left alone.
-ghost use Prim.Native.Nat.{_≤_};
+ghost use mathlib.Core.Path.{_≡_};
+ghost use Prim.Native.Nat.{_+_, _*_, _≤_};
 ghost use lib.ListN.{length};
+ghost use Rattle.refusal.specs.declared.Outcome.the-variants.{Clear};
+ghost use Rattle.rule.specs.Layout.{partCount};
+ghost use Rattle.plan.specs.Layout.{rows};
+ghost use Rattle.inputs.specs.Outcome.{inputsOutcome};
 use command::PLAN_ROOM;
 use command::RULE_ROOM;
 use inputs::InputsRead;
@@ -9,7 +14,7 @@ use libc::STDOUT_FILENO;
 
 // How long the mark table is; 0 where the rule or the plan is refused, when a buffer of any length is refused alike.
 fn table_length(rule: &[u8], plan: &[u8]) -> usize
-    ensures { λ r. ⌜ r ≤ 16516 ⌝ }
+    ensures { λ r. ⌜ (r ≤ 16516) × (inputsOutcome (now (rule .entry)) (now (plan .entry)) ≡ Clear → r ≡ 4 + partCount (now (rule .entry)) * rows (now (plan .entry)) + 2 * partCount (now (rule .entry))) ⌝ }
 {
     match inputs::read_inputs(rule, plan) {
         InputsRead::Fit { parts, sizes } => 4 + parts * (sizes.start + sizes.cycle) + 2 * parts,

@@ -18,7 +18,7 @@ slice-relend-prefix-make c = search needs
 
 -- src/main.rt:54:22
 slice-aggregate-make : tie.Need-slice-aggregate-make
-slice-aggregate-make c = let few = c .before .table-length .ensures in let room = c .before .before .before .before .before .pre in simp length-take (omega arith)
+slice-aggregate-make c = let few = c .before .table-length .ensures .0 in let room = c .before .before .before .before .before .pre in simp length-take (omega arith)
 
 -- src/main.rt:54:5
 make-requires : tie.Need-make-requires

@@ -1,9 +1,7 @@
 use denote.Ref.{now}
 use mathlib.Core.Path.{sym, _∙_}
 use native.Mathlib.Omega.{arith}
-use Rattle.inputs.proofs.Ways.{ready}
-use Rattle.inputs.proofs.Parts.{few-there}
-use Rattle.table.proofs.Places.{area}
+use Rattle.runmake.proofs.Lengths.{few-marks, length-read, length-refused}
 use borrow.Author.Needs.{needs}
 use Rattle.runmake.proofs.table_length.Statement.{statement}
 use Rattle.runmake.proofs.table_length.Tie as tie
@@ -25,8 +23,7 @@ add-result c =
     let start = c .before .before .before .before .before .before .before in
     let read-inputs = c .before .before .before .before .read-inputs in
     let parts = c .before .before .parts in
-    let few = few-there (now (start .args .rule)) (now (start .args .plan)) (ready (now (start .args .rule)) (now (start .args .plan)) (sym (read-inputs .ensures) ∙ parts .given .1) .1) in
-    let cells = area _ _ (few .0) (few .1) in
+    let few = few-marks (now (start .args .rule)) (now (start .args .plan)) (sym (read-inputs .ensures) ∙ parts .given .1) in
     omega arith
 
 -- src/main.rt:12:49
@@ -35,8 +32,7 @@ mul-result c =
     let start = c .before .before .before .before .before .before .before in
     let read-inputs = c .before .before .before .before .read-inputs in
     let parts = c .before .before .parts in
-    let few = few-there (now (start .args .rule)) (now (start .args .plan)) (ready (now (start .args .rule)) (now (start .args .plan)) (sym (read-inputs .ensures) ∙ parts .given .1) .1) in
-    let cells = area _ _ (few .0) (few .1) in
+    let few = few-marks (now (start .args .rule)) (now (start .args .plan)) (sym (read-inputs .ensures) ∙ parts .given .1) in
     omega arith
 
 -- src/main.rt:12:45
@@ -45,8 +41,7 @@ add-result-2 c =
     let start = c .before .before .before .before .before .before .before in
     let read-inputs = c .before .before .before .before .read-inputs in
     let parts = c .before .before .parts in
-    let few = few-there (now (start .args .rule)) (now (start .args .plan)) (ready (now (start .args .rule)) (now (start .args .plan)) (sym (read-inputs .ensures) ∙ parts .given .1) .1) in
-    let cells = area _ _ (few .0) (few .1) in
+    let few = few-marks (now (start .args .rule)) (now (start .args .plan)) (sym (read-inputs .ensures) ∙ parts .given .1) in
     omega arith
 
 -- src/main.rt:12:87
@@ -55,8 +50,7 @@ mul-result-2 c =
     let start = c .before .before .before .before .before .before .before in
     let read-inputs = c .before .before .before .before .read-inputs in
     let parts = c .before .before .parts in
-    let few = few-there (now (start .args .rule)) (now (start .args .plan)) (ready (now (start .args .rule)) (now (start .args .plan)) (sym (read-inputs .ensures) ∙ parts .given .1) .1) in
-    let cells = area _ _ (few .0) (few .1) in
+    let few = few-marks (now (start .args .rule)) (now (start .args .plan)) (sym (read-inputs .ensures) ∙ parts .given .1) in
     omega arith
 
 -- src/main.rt:12:45
@@ -65,8 +59,7 @@ add-result-3 c =
     let start = c .before .before .before .before .before .before .before in
     let read-inputs = c .before .before .before .before .read-inputs in
     let parts = c .before .before .parts in
-    let few = few-there (now (start .args .rule)) (now (start .args .plan)) (ready (now (start .args .rule)) (now (start .args .plan)) (sym (read-inputs .ensures) ∙ parts .given .1) .1) in
-    let cells = area _ _ (few .0) (few .1) in
+    let few = few-marks (now (start .args .rule)) (now (start .args .plan)) (sym (read-inputs .ensures) ∙ parts .given .1) in
     omega arith
 
 -- src/main.rt:13:35
@@ -79,13 +72,15 @@ returns c =
     let start = c .before .before .before .before .before .before .before in
     let read-inputs = c .before .before .before .before .read-inputs in
     let parts = c .before .before .parts in
-    let few = few-there (now (start .args .rule)) (now (start .args .plan)) (ready (now (start .args .rule)) (now (start .args .plan)) (sym (read-inputs .ensures) ∙ parts .given .1) .1) in
-    let cells = area _ _ (few .0) (few .1) in
-    omega arith
+    length-read (now (start .args .rule)) (now (start .args .plan)) (sym (read-inputs .ensures) ∙ parts .given .1)
 
 -- src/main.rt:8:1
 returns-2 : tie.Need-returns-2
-returns-2 c = search needs
+returns-2 c =
+    let start = c .before .before .before .before .before in
+    let read-inputs = c .before .before .read-inputs in
+    let enum-told = c .enum-told in
+    length-refused (now (start .args .rule)) (now (start .args .plan)) (sym (read-inputs .ensures) ∙ enum-told .given .1)
 
 pub table-length-spec : {M : Type 1} → statement M
 table-length-spec =
