@@ -53,17 +53,17 @@ unfolding All Right examples orAfter lowestFrom lowest _orElse_ unless refusedAt
 answers lo hi = (
   (record { sheet = refl; plan-clear = refl; table-clear = refl }, refl),
   (
-    (record { sheet = refl; plan-clear = refl; table-clear = refl }, refl),
+    refl,
     (
-      (record { sheet = refl; plan-clear = refl; table-clear = refl }, refl),
+      refl,
       (
         (record { sheet = refl; plan-clear = refl; table-clear = refl }, refl),
         (
           (record { sheet = refl; plan-clear = refl; table-clear = refl }, refl),
           (
-            refl,
+            (record { sheet = refl; plan-clear = refl; table-clear = refl }, refl),
             (
-              refl,
+              (record { sheet = refl; plan-clear = refl; table-clear = refl }, refl),
               (
                 refl,
                 (
@@ -79,10 +79,19 @@ answers lo hi = (
                           (
                             refl,
                             (
-                              (record { sheet = refl; plan-clear = refl; table-clear = refl }, sym (unwitnessed-refused lo hi)),
+                              refl,
                               (
-                                (record { sheet = refl; plan-clear = refl; table-clear = refl }, refl),
-                                tt,
+                                refl,
+                                (
+                                  refl,
+                                  (
+                                    (record { sheet = refl; plan-clear = refl; table-clear = refl }, sym (unwitnessed-refused lo hi)),
+                                    (
+                                      (record { sheet = refl; plan-clear = refl; table-clear = refl }, refl),
+                                      tt,
+                                    ),
+                                  ),
+                                ),
                               ),
                             ),
                           ),

@@ -37,10 +37,10 @@ module _ {Row : Type 0} (handed : Row → List (List ℕ)) where
       all-pass (λ row. allPass areBytes (handed row)) (λ row. All Bytes (handed row))
       (λ row. all-pass areBytes Bytes bytes (handed row)) rows e
 
--- E10's two open bytes are all that is left of the test
+-- E10's two open bytes, in two rows, are all that is left of the test
 examples-pass : (lo hi : ℕ) → lo < 256 → hi < 256 → handBytes questionBytes (examples lo hi) ≡ true
 unfolding handBytes allPass areBytes questionBytes examples
-examples-pass lo hi l h = ap₂ (λ (x y : Bool). ((x && (y && true)) && true) && true) (lt-ltb lo 256 l) (lt-ltb hi 256 h)
+examples-pass lo hi l h = ap₂ (λ (x y : Bool). ((x && (y && true)) && true) && (((x && (y && true)) && true) && true)) (lt-ltb lo 256 l) (lt-ltb hi 256 h)
 
 more-pass : handBytes callBytes more ≡ true
 unfolding handBytes allPass areBytes callBytes more copies

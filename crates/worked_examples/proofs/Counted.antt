@@ -5,10 +5,10 @@ use lib.ListN.{length}
 use Rattle.worked_examples.specs.Table.{examples}
 use Rattle.worked_examples.specs.More.{more}
 
-pub counted : (lo hi : ℕ) → 16 ≡ length (examples lo hi)
+pub counted : (lo hi : ℕ) → 19 ≡ length (examples lo hi)
 unfolding examples
 counted lo hi = refl
 
-pub counted-more : 163 ≡ length more
+pub counted-more : 165 ≡ length more
 unfolding more
 counted-more = refl

@@ -1,5 +1,5 @@
--- THE WORKED EXAMPLES E1 TO E10: every row of the table says a fact of the published truth, E10 for every witness. Assumes
--- nothing.
+-- THE WORKED EXAMPLES E1 TO E10: every row of the table says a fact of the published truth or of the equations, E10 for every witness.
+-- Assumes nothing.
 use Prim.Native.Nat.{ℕ}
 use Rattle.worked_examples.specs.Questions.{Says}
 use Rattle.worked_examples.specs.Rows.{All}

@@ -8,6 +8,7 @@ use Rattle.worked_examples.specs.Calls.{Call, checks, makes, settles, ju
 unfoldable pub questionBytes : Question → List (List ℕ)
 questionBytes (Q.checks rule plan marks answer) = rule ∷ plan ∷ marks ∷ []
 questionBytes (Q.judges rule plan part row answer) = rule ∷ plan ∷ []
+questionBytes (Q.meets rule plan marks part) = rule ∷ plan ∷ marks ∷ []
 
 unfoldable pub callBytes : Call → List (List ℕ)
 callBytes (checks rule plan marks word) = rule ∷ plan ∷ marks ∷ []

@@ -10,10 +10,10 @@ use Rattle.worked_examples.specs.SheetsPut.{sheetsPut, PutsAs}
 use Rattle.worked_examples.specs.PlansRead.{plans, sights, SizedAs, SeesAs}
 use Rattle.worked_examples.specs.Handed.{questionBytes, callBytes}
 use Rattle.worked_examples.specs.Table.{ruleE1, ruleE2, ruleE4, ruleE8, ruleE9-0, planA, planB, planE9, planE10, examples, marksE4-2}
-use Rattle.worked_examples.specs.MoreSheets.{ruleKinds, ruleRelease, rulePast, ruleWeak, ruleSince, ruleTrigger, ruleLimit, ruleMet, ruleReach, ruleEightChannels, ruleWindows, ruleHours, ruleFirstDay, ruleDayBefore, ruleBack, ruleNoParts, ruleLong, ruleNineChannels, ruleKind0, ruleKind15, ruleShiftedConstant, ruleShiftCode9, ruleForm2, ruleChannel1, ruleNamesItself, ruleSpareByte, ruleWindowConstant, ruleWindowFrom, ruleWindowTo, ruleWindowNone, ruleWindowSpare, rulePinned, rulePinnedBack, ruleUnder, ruleTopWindows, ruleCourse, rulePinnedConstant, rulePinnedChannel1, rulePinnedShiftCode9, rulePinnedTerms, rulePinnedSpare, ruleMostParts, ruleTooManyParts}
+use Rattle.worked_examples.specs.MoreSheets.{ruleKinds, ruleRelease, rulePast, ruleWeak, ruleSince, ruleTrigger, ruleLimit, ruleMet, ruleReach, ruleEightChannels, ruleWindows, ruleHours, ruleFirstDay, ruleDayBefore, ruleBack, ruleNoParts, ruleLong, ruleNineChannels, ruleKind0, ruleKind15, ruleShiftedConstant, ruleShiftCode9, ruleForm2, ruleChannel1, ruleNamesItself, ruleSpareByte, ruleWindowConstant, ruleWindowFrom, ruleWindowTo, ruleWindowNone, ruleWindowSpare, rulePinned, rulePinnedPast, rulePinnedBack, ruleUnder, ruleTopWindows, ruleCourse, rulePinnedConstant, rulePinnedChannel1, rulePinnedShiftCode9, rulePinnedTerms, rulePinnedSpare, ruleMostParts, ruleTooManyParts}
 use Rattle.worked_examples.specs.MorePlans.{planThree, planWeek, planLeap, planStartDrift, planNoCycle, planLong, planLead, planLeadDrift, planBehindLeadDrift, planSevenBytes, planMostLead, planTooMuchLead, planMostRows, planTooManyRows, planMostChannels, planTooManyChannels, planHigh, planThreeTop, planTop, planTopClock, planTopB, planTopE10, planTopHigh, planCourse, planTopNegative, planTopLowest, planTopShort, planTopLeftOut}
 use Rattle.worked_examples.specs.MoreMarks.{marksKinds, marksLead, marksLeadSeen, marksRelease-1, marksRelease-0, marksRelease-spare, marksLong, marksByte2, marksBytes2, marksBroken, marksSpare, marksSpareBroken, marksLowerBroken, marksLowerSpare, marksPast, marksPastHeld, marksMetWrong, marksWeakHeld, marksSinceHeld, marksTriggerHeld, marksLimit, marksLimitBroken, marksLimitSpare, marksWindows, marksWindowsBroken, marksWindowsSpare, marksFirstDay, marksFirstDayWrong, lentFull, lentSevens, zeros, zerosFirstDay, marksPinned, marksPinnedTrue, marksPinnedSpare, marksCourse, lentCourse, zerosPinned}
-use Rattle.worked_examples.specs.Layouts.{lentPlan, lentScratch, clearedScratch, longScratch, laidA-0, laidA-1, laidB-1, laidLeap-1, laidLead-1, laidTopB-1}
+use Rattle.worked_examples.specs.Layouts.{lentPlan, lentScratch, clearedScratch, longScratch, laidA-0, laidA-1, laidB-1, laidLeap-1, laidLead-1, laidTopB-1, laidTopB-2}
 
 -- A refusal is number × 2^32 + part × 2^16 + row; beside it stand its number, part and row.
 unfoldable pub more : List Call
@@ -105,8 +105,9 @@ more =
     -- Of a window the lowest changing row too; row 3 changes as well. The mark of row 0 is wrong in the second table.
     ∷ checks ruleFirstDay planWeek marksFirstDay 42949672961  -- 10, 0, 1
     ∷ checks ruleFirstDay planWeek marksFirstDayWrong 42949672961  -- 10, 0, 1
-    -- Of kind 14 too, where a reading comes to its top.
+    -- Of kind 14 too, where a reading comes to its top. The mark is wrong in the second table.
     ∷ checks rulePinned planTopB marksPinned 42949672960  -- 10, 0, 0
+    ∷ checks rulePinned planTopB marksPinnedTrue 42949672960  -- 10, 0, 0
     -- 11: a witness that is not needed, twice, and one that is no witness. It comes before 9 and before 10 of a higher part.
     ∷ checks ruleE4 planA marksSpare 47244705792  -- 11, 1, 0
     ∷ checks ruleRelease planE10 marksRelease-spare 47244771328  -- 11, 2, 0
@@ -151,6 +152,8 @@ more =
     ∷ settles ruleBack planLead lentPlan lentScratch laidLead-1 clearedScratch 1
     -- After one, on which the reading has come to its top; the new plan keeps the top.
     ∷ settles rulePinned planTopB lentPlan lentScratch laidTopB-1 clearedScratch 1
+    -- After two, on the second of which the reading is above its top; it is kept as it is.
+    ∷ settles rulePinnedPast planTopB lentPlan lentScratch laidTopB-2 clearedScratch 2
     -- 13: either buffer. It comes after 1 to 6 and before 15, and both buffers are as they were.
     ∷ settles ruleE1 planA planA lentScratch planA lentScratch 55834574848  -- 13, 0, 0
     ∷ settles ruleE8 planHigh lentPlan [] lentPlan [] 55834574848  -- 13, 0, 0
@@ -244,9 +247,9 @@ more =
 pub record MoreSaid : Type 0 where
   -- every call returns its number and leaves its bytes
   pub words : All Gives more
-  -- every sheet that is not refused, E1 to E10's among them, and every plan reads as stated
+  -- the sheets and plans listed read as stated, E1 to E10's among them
   pub sheets-read : All ReadsAs sheets
-  -- parts of kind 14 are put as stated
+  -- parts are put as stated
   pub parts-put : All PutsAs sheetsPut
   pub plans-read : All SizedAs plans
   pub runs : All SeesAs sights

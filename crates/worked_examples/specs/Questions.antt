@@ -1,10 +1,13 @@
--- A question put to the check or to judge, with its answer, and what the answer says of the published truth. Assumes nothing.
+-- A question put to the check or to judge, with its answer, and what the answer says of the published truth; and whether marks meet
+-- the equations. Assumes nothing.
 use Prim.Native.Nat.{ℕ, _-_}
+use mathlib.Core.Path.{_≡_}
 use mathlib.Core.List.{List}
 use mathlib.Core.Logic.{_↔_}
 use lib.Dec.{T}
 use Rattle.cltlb.specs.Truth.{Holds}
 use Rattle.cltlb.specs.Parts.{formulaOf}
+use Rattle.refusal.specs.declared.Outcome.the-variants.{Clear}
 use Rattle.rule.specs.Layout.{partCount}
 use Rattle.rule.specs.Take.{viewsOf}
 use Rattle.plan.specs.Layout.{startRows, cycleRows}
@@ -13,8 +16,10 @@ use Rattle.judge.specs.declared.Judged.{Judged}
 use Rattle.judge.specs.declared.Judged.the-variants as J
 use Rattle.verdict.specs.Meaning.{VerdictMeans}
 use Rattle.judge.specs.Judge.{JudgePromise}
+use Rattle.marks.specs.Parts.{equationOutcome}
 use Rattle.acceptance.specs.declared.Checked.{Checked}
 use Rattle.acceptance.specs.declared.Checked.the-variants as C
+use Rattle.acceptance.specs.Check.{markOf}
 use Rattle.acceptance.specs.Promise.{RuleTruth, Cleared, TableRight, CheckPromise}
 
 pub data Question : Type 0 where
@@ -22,6 +27,8 @@ pub data Question : Type 0 where
   checks : (rule plan marks : List ℕ) (answer : Checked) → Question
   -- judge, for a part and a row of a rule sheet and a plan
   judges : (rule plan : List ℕ) (part row : ℕ) (answer : Judged) → Question
+  -- the marks of a part, which meet its equation on every row
+  meets : (rule plan marks : List ℕ) (part : ℕ) → Question
 
 -- What the check's answer says. Accepted: the table is right, and the answer is the published truth of the whole rule at
 -- position 0. Refused: the table is not right.
@@ -49,3 +56,4 @@ pub record JudgeSaid (rule plan : List ℕ) (part row : ℕ) (answer : Judged) :
 unfoldable pub Says : Question → Type 0
 Says (checks rule plan marks answer) = CheckSaid rule plan marks answer
 Says (judges rule plan part row answer) = JudgeSaid rule plan part row answer
+Says (meets rule plan marks part) = equationOutcome plan (markOf rule plan marks) (viewsOf rule part) part ≡ Clear

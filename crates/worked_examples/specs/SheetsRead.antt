@@ -10,7 +10,7 @@ use Rattle.cltlb.specs.declared.Part.the-variants.{Less, Equal, Not, And, Or, N
 use Rattle.rule.specs.Layout.{partCount, channelCount}
 use Rattle.rule.specs.Take.{partsOf}
 use Rattle.worked_examples.specs.Table.{ruleE1, ruleE2, ruleE3, ruleE4, ruleE5, ruleE6-4096, ruleE6-4093, ruleE7, ruleE8, ruleE9-10, ruleE9-9, ruleE9-0, ruleE10}
-use Rattle.worked_examples.specs.MoreSheets.{ruleKinds, ruleRelease, rulePast, ruleWeak, ruleSince, ruleTrigger, ruleLimit, ruleMet, ruleReach, ruleEightChannels, ruleWindows, ruleHours, ruleFirstDay, ruleDayBefore, ruleBack, rulePinned, rulePinnedBack, ruleUnder, ruleTopWindows, ruleCourse}
+use Rattle.worked_examples.specs.MoreSheets.{ruleKinds, ruleRelease, rulePast, ruleWeak, ruleSince, ruleTrigger, ruleLimit, ruleMet, ruleReach, ruleEightChannels, ruleWindows, ruleHours, ruleFirstDay, ruleDayBefore, ruleBack, rulePinned, rulePinnedPast, rulePinnedBack, ruleUnder, ruleTopWindows, ruleCourse}
 
 -- the n parts of a sheet from part k on
 unfoldable pub partsFrom : List ℕ → ℕ → ℕ → List Part
@@ -111,6 +111,7 @@ sheets =
     ∷ reads ruleDayBefore 1 (Window 0 (negℤ (pos 1)) 540 9181 ∷ [])
     ∷ reads ruleBack 1 (Window 0 (negℤ (pos 3)) 0 10079 ∷ Window 0 (negℤ (pos 4)) 0 10079 ∷ [])
     ∷ reads rulePinned 1 (Pinned 0 (pos 0) ∷ [])
+    ∷ reads rulePinnedPast 1 (Pinned 0 (pos 0) ∷ Yesterday 0 ∷ [])
     ∷ reads rulePinnedBack 1 (Pinned 0 (negℤ (pos 1)) ∷ Pinned 0 (negℤ (pos 2)) ∷ [])
     ∷ reads ruleUnder 1 underTop
     ∷ reads ruleTopWindows 1 (Window 0 (pos 0) 540 1020 ∷ Window 0 (pos 0) 9000 9500 ∷ [])

@@ -6,7 +6,7 @@ use Rattle.refusal.specs.declared.Refusal.the-variants.{Closing, Witness}
 use Rattle.verdict.specs.declared.Verdict.the-variants.{AlwaysTrue, AlwaysFalse, Changes}
 use Rattle.judge.specs.declared.Judged.the-variants as J
 use Rattle.acceptance.specs.declared.Checked.the-variants as C
-use Rattle.worked_examples.specs.Questions.{Question, checks, judges}
+use Rattle.worked_examples.specs.Questions.{Question, checks, judges, meets}
 
 -- Rule sheets, each with the one channel x.
 
@@ -192,6 +192,8 @@ marksE10-0 = 0x03 ∷ 0x00 ∷ 0x01 ∷ 0x00 ∷ 0x01 ∷ 0x00 ∷ 0x00 ∷ 0xFF
 unfoldable pub examples : ℕ → ℕ → List Question
 examples lo hi =
     checks ruleE1 planA marksE1 (C.Accepted true)
+    ∷ meets ruleE2 planA marksE2 0
+    ∷ meets ruleE2 planA marksE2 1
     ∷ checks ruleE2 planA marksE2 (C.Refused (Closing 1 1))
     ∷ checks ruleE3 planA marksE3 (C.Accepted true)
     ∷ checks ruleE4 planA marksE4-2 (C.Accepted true)
@@ -205,6 +207,7 @@ examples lo hi =
     ∷ judges ruleE9-10 planE9 0 0 (J.Verdict AlwaysFalse)
     ∷ judges ruleE9-9 planE9 0 0 (J.Verdict Changes)
     ∷ judges ruleE9-0 planE9 0 0 (J.Verdict Changes)
+    ∷ meets ruleE10 planE10 (marksE10-1 lo hi) 2
     ∷ checks ruleE10 planE10 (marksE10-1 lo hi) (C.Refused (Witness 2))
     ∷ checks ruleE10 planE10 marksE10-0 (C.Accepted false)
     ∷ []
