@@ -38,11 +38,11 @@ use Rattle.verdict.specs.declared.Comparison.{Comparison}
 use Rattle.verdict.specs.declared.Relation.{Relation}
 use Rattle.lanes.specs.declared.columns.Column.{Column}
 use Rattle.lanes.specs.declared.columns.Side.{Side}
-use Rattle.lanes.specs.inner.Columns.{numberIn, topIn, seenIn, IsSide, Reaches, FewChannels, Stands, laneNumber}
+use Rattle.lanes.specs.inner.Columns.{numberIn, seenIn, IsSide, Reaches, FewChannels, Stands, laneNumber}
 use Rattle.lanes.specs.inner.Direct.{numbersSay, LongLanes}
 use Rattle.lanes.specs.inner.Lanes.{Laid}
 use Rattle.lanes.specs.inner.Positions.{positionSays}
-use Rattle.lanes.specs.inner.Still.{landedNumber, landedSeen, stillSays, StillPositions}
+use Rattle.lanes.specs.inner.Still.{landedNumber, stillSays, StillPositions}
 use Rattle.lanes.proofs.Comparing.{level-agrees}
 use Rattle.lanes.proofs.Laying.{reading-in-lane}
 use Rattle.lanes.proofs.Positions.{says-alone, says-settled}

@@ -1,46 +1,36 @@
 -- Columns with tops: what the sweeps over them test is how what is seen in them compares. Assumes nothing.
-use Prim.Native.Nat.{ℕ, _+_, _*_, _-_, _≤_, _<_}
-use native.Mathlib.Decide.{decLt}
+use Prim.Native.Nat.{ℕ, _+_, _*_}
 use native.Mathlib.Omega.{arith}
-use mathlib.Core.Path.{_≡_, refl, sym, ap, ap₂, _∙_}
+use mathlib.Core.Path.{_≡_, refl, sym, ap, _∙_}
 use mathlib.Core.Bool.{Bool, true, false, cond, not, _&&_, _||_, Bool·beq}
 use mathlib.Core.List.{List}
-use mathlib.Core.Logic.{by-cases}
 use lib.Dec.{leb, eqb}
-use lib.IntN.{ℤ, pos, subℕ}
+use lib.IntN.{ℤ, pos}
 use lib.Signed.{leZ}
-use borrow.Author.Tests.{le-leb, lt-leb}
 use Rattle.cltlb.specs.Run.{Seen, number, pinned, isTop, isPinned, under}
-use Rattle.fields.specs.inner.Biased.{patterns, bias, unbiased}
-use Rattle.fields.proofs.Differences.{sub-pos, sub-neg, sub-same}
-use Rattle.plan.specs.inner.Lifted.{valueBias, valueEnd}
+use Rattle.fields.specs.inner.Biased.{bias, unbiased}
+use Rattle.fields.proofs.Differences.{pos-sub, sub-same}
+use Rattle.plan.specs.inner.Lifted.{valueBias}
 use Rattle.table.specs.inner.Tables.{allBelow}
 use Rattle.table.proofs.AllBelow.{all-ext}
-use Rattle.verdict.specs.Lines.{Line}
-use Rattle.verdict.specs.Comparisons.{testOf, ofNumber, seenPinned, ofNumbers, tested, judgeLines}
-use Rattle.verdict.specs.Tops.{judgeUnder}
+use Rattle.verdict.specs.Comparisons.{testOf, ofNumber, seenPinned, ofNumbers, tested}
 use Rattle.verdict.specs.declared.Relation.{Relation}
 use Rattle.verdict.specs.declared.Relation.the-variants.{Below, Same, Within, Pinned}
-use Rattle.verdict.proofs.Decisions.{lifted}
+use Rattle.verdict.proofs.Decisions.{lifted, bias-leZ}
 use Rattle.verdict.proofs.UnderTops.{judged-free}
 use Rattle.lanes.proofs.Comparing.{free-test}
 use Rattle.lanes.specs.declared.columns.Column.{Column}
 use Rattle.lanes.specs.inner.Agreement.{lineFrom, verdictAgrees, valuesAgree, linesAgree, seenAgree, underAgree}
-use Rattle.lanes.specs.inner.Columns.{numberIn, lineIn, topIn, seenIn}
+use Rattle.lanes.specs.inner.Columns.{numberIn, lineIn}
 
 -- ---- a number under a top
 
-le-lifted : (top a B : ℕ) → leb (top + B) a ≡ leZ (pos top) (subℕ a B)
-le-lifted top a B =
-    by-cases (decLt a B)
-    (λ l. rw (sub-neg a B l) (lt-leb (top + B) a (omega arith)))
-    (λ l. rw (sub-pos a B (omega arith)) (by-cases (decLt (a - B) top)
-    (λ h. lt-leb (top + B) a (omega arith) ∙ sym (lt-leb top (a - B) h))
-    (λ h. le-leb (top + B) a (omega arith) ∙ sym (le-leb top (a - B) (omega arith)))))
+le-lifted : (top a : ℕ) → leb (top + bias) a ≡ leZ (pos top) (unbiased a)
+le-lifted top a = sym (bias-leZ (top + bias) a bias) ∙ ap (λ (z : ℤ). leZ z (unbiased a)) (sub-same (top + bias) bias top 0 (omega arith) ∙ sym (pos-sub top))
 
 pub is-pinned : (top a : ℕ) → (not (eqb top 0) && leb (top + bias) a) ≡ isPinned (pos top) (unbiased a)
 unfolding isPinned isTop
-is-pinned top a = ap (λ (b : Bool). not (eqb top 0) && b) (le-lifted top a bias)
+is-pinned top a = ap (λ (b : Bool). not (eqb top 0) && b) (le-lifted top a)
 
 -- How two values compare, by whether they are pinned.
 pub seen-compared : (relation : Relation) (s a t b : ℤ) {l r p c : Bool} → l ≡ isPinned s a → r ≡ isPinned t b → ((y : Seen) → p ≡ tested relation pinned y) → c ≡ testOf relation a b

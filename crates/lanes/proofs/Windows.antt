@@ -14,7 +14,6 @@ use Rattle.cltlb.specs.Week.{week, minuteOf}
 use Rattle.fields.specs.inner.Biased.{bias, unbiased}
 use Rattle.table.specs.inner.Tables.{allBelow, markIn}
 use Rattle.table.proofs.AllBelow.{all-ext}
-use Rattle.verdict.specs.Lines.{Line}
 use Rattle.verdict.specs.Weeks.{judgeSpaced, judgeWithin}
 use Rattle.verdict.specs.declared.Relation.the-variants.{Within}
 use Rattle.verdict.specs.declared.Verdict.{Verdict}

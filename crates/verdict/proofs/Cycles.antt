@@ -20,13 +20,12 @@ use Rattle.fields.proofs.Differences.{sub-pos}
 use Rattle.plan.proofs.Lines.{run-later}
 use Rattle.plan.proofs.Pinned.{no-top}
 use Rattle.verdict.specs.Lines.{onPass}
-use Rattle.verdict.specs.Comparisons.{judgeLines}
 use Rattle.verdict.specs.Rows.{channelLine, termLine, termTop, testAt, judgeFrom, judgeCycle}
 use Rattle.verdict.specs.inner.Reach.{back, reach}
 use Rattle.verdict.specs.declared.Comparison.{Comparison}
 use Rattle.verdict.proofs.Passes.{PassMeans, means-iff, means-one, first-means}
 use Rattle.verdict.proofs.Relations.{SeenRelates, tested-decides}
-use Rattle.verdict.proofs.UnderTops.{judged-under, judged-free}
+use Rattle.verdict.proofs.UnderTops.{judged-under}
 
 -- No shift reaches back more than four positions.
 pub reach-le : (v : ℕ) (x : Term) → termFits v x ≡ true → reach x ≤ 4
@@ -103,15 +102,3 @@ module _ (plan : List ℕ) (x : Comparison) where
   pub inside-4 : (v row : ℕ) → termFits v (x .left) ≡ true → termFits v (x .right) ≡ true → 1 ≤ cycleRows plan → startRows plan ≤ row
       → Inside (row + 4 * cycleRows plan)
   inside-4 v row fx fy hC h = record { left = omega (arith, reach-le v (x .left) fx); right = omega (arith, reach-le v (x .right) fy) }
-
--- ---- without tops
-
--- A term without a top is a number wherever it is not read before the cycle,
-pub later-number : (plan : List ℕ) → 1 ≤ cycleRows plan → (x : Term) (t k : ℕ) → startRows plan + reach x ≤ t → termTop plan x ≡ pos 0
-    → valueAt (runOf plan) x (t + k * cycleRows plan) ≡ number (onPass (termLine plan x t) k)
-later-number plan hC x t k h e = value-later plan hC x t k h ∙ ap (λ (top : ℤ). under top (onPass (termLine plan x t) k)) e ∙ no-top (onPass (termLine plan x t) k)
-
--- and where neither term has one, the verdict is that on the two lines.
-pub from-without-tops : (plan : List ℕ) (x : Comparison) (t : ℕ) → termTop plan (x .left) ≡ pos 0 → termTop plan (x .right) ≡ pos 0
-    → judgeFrom plan x t ≡ judgeLines (x .relation) (termLine plan (x .left) t) (termLine plan (x .right) t)
-from-without-tops plan x t e f = rw (e, f) (judged-free (x .relation) (termLine plan (x .left) t) (termLine plan (x .right) t))

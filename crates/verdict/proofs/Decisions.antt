@@ -5,12 +5,12 @@ use native.Mathlib.Nat.{mul-add, mul-suc, zero-mul, one-mul, mul-le-mul-left, di
 use native.Mathlib.Decide.{decLt, ℕ-discrete}
 use native.Mathlib.Omega.{arith}
 use mathlib.Core.Path.{_≡_, refl, sym, ap, _∙_, subst}
-use mathlib.Core.Bool.{Bool, true, false, cond, _&&_, false≢true}
+use mathlib.Core.Bool.{Bool, true, false, cond, not, _&&_, false≢true}
 use mathlib.Core.Logic.{_↔_, Iff·symm, Iff·trans, by-cases}
-use lib.Dec.{T, ltb, eqb}
+use lib.Dec.{T, ltb, leb, eqb}
 use lib.IntN.{ℤ, pos, negsuc, subℕ, natAbs, _+ℤ_, _-ℤ_, pos-ne-negsuc}
-use lib.Signed.{_<ℤ_, ltZ}
-use borrow.Author.Tests.{lt-ltb, le-ltb, eq-eqb, ne-eqb, eqb-true, ltb-true}
+use lib.Signed.{_<ℤ_, ltZ, leZ}
+use borrow.Author.Tests.{lt-ltb, le-ltb, le-leb, lt-leb, eq-eqb, ne-eqb, eqb-true, ltb-true}
 use Rattle.fields.proofs.Differences.{by-sub, sub-same, sub-pos, sub-add, sub-line, sub-negate, sub-lt, sub-eq}
 use Rattle.verdict.specs.Lines.{Line, onPass, eqZ, judgeLess, meets, judgeEqual}
 use Rattle.verdict.specs.declared.Verdict.{Verdict}
@@ -37,6 +37,19 @@ eq-decides (pos a) (pos b) = (λ e. ap pos (eqb-true a b e), λ e. eq-eqb a b (c
 eq-decides (pos a) (negsuc b) = (λ e. absurd (false≢true e), λ e. absurd (pos-ne-negsuc a b e))
 eq-decides (negsuc a) (pos b) = (λ e. absurd (false≢true e), λ e. absurd (pos-ne-negsuc b a (sym e)))
 eq-decides (negsuc a) (negsuc b) = (λ e. ap negsuc (eqb-true a b e), λ e. eq-eqb a b (cc))
+
+-- At most is not above.
+not-above : (a b : ℕ) → leb a b ≡ not (ltb b a)
+not-above a b =
+    by-cases (decLt b a)
+    (λ l. simp (lt-leb a b l, lt-ltb b a l))
+    (λ l. simp (le-leb a b (omega arith), le-ltb b a (omega arith)))
+
+pub le-test : (a b : ℤ) → leZ a b ≡ not (ltZ b a)
+le-test (pos a) (pos b) = not-above a b
+le-test (pos a) (negsuc b) = refl
+le-test (negsuc a) (pos b) = refl
+le-test (negsuc a) (negsuc b) = not-above b a
 
 -- ---- two integers with one bias
 
@@ -72,6 +85,9 @@ module _ (a b B : ℕ) where
 
   pub bias-gap : b ≤ a → natAbs (subℕ a B -ℤ subℕ b B) ≡ a - b
   bias-gap h = ap natAbs (ap (λ z. subℕ a B +ℤ z) (sub-negate b B) ∙ sub-add a B B b ∙ sub-pos (a + B) (B + b) (omega arith)) ∙ omega arith
+
+pub bias-leZ : (a b B : ℕ) → leZ (subℕ a B) (subℕ b B) ≡ leb a b
+bias-leZ a b B = le-test (subℕ a B) (subℕ b B) ∙ ap not (bias-ltZ b a B) ∙ sym (not-above a b)
 
 -- ---- two lines with one bias for the numbers and one for the steps
 

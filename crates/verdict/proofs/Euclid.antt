@@ -1,12 +1,12 @@
 -- The greatest common divisor of the week and a step divides both, and is, but for whole weeks, a multiple of the step. Assumes
 -- nothing.
-use Prim.Native.Nat.{ℕ, zero, suc, _+_, _*_, _-_, _/_, _%_, _∣_, _≤_, _<_}
+use Prim.Native.Nat.{ℕ, zero, suc, _+_, _*_, _/_, _%_, _∣_, _≤_, _<_}
 use native.Mathlib.Nat.{div-add-mod', mod-lt, dvd-refl, dvd-zero, dvd-mod-iff}
 use native.Mathlib.Decide.{decLt}
 use native.Mathlib.Omega.{arith}
 use mathlib.Core.Path.{_≡_, refl, sym, ap, _∙_, subst}
 use mathlib.Core.Logic.{by-cases}
-use borrow.Author.Tests.{eq-eqb, ne-eqb}
+use borrow.Author.Tests.{ne-eqb}
 use Rattle.cltlb.specs.Week.{week}
 use Rattle.verdict.specs.Divisors.{euclid, gcd}
 

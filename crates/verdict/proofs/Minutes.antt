@@ -3,10 +3,9 @@ use Prim.Native.Nat.{ℕ, _+_, _*_, _-_, _/_, _%_, _≤_, _<_}
 use native.Mathlib.Nat.{div-add-mod'}
 use native.Mathlib.Decide.{decLt}
 use native.Mathlib.Omega.{arith}
-use mathlib.Core.Path.{_≡_, refl, sym, ap, ap₂, _∙_}
-use mathlib.Core.Bool.{true, cond}
+use mathlib.Core.Path.{_≡_, sym, ap, ap₂, _∙_}
+use mathlib.Core.Bool.{true}
 use mathlib.Core.Logic.{_↔_, inl, inr, ⊎-elim, Iff·rfl, by-cases}
-use lib.Dec.{ltb}
 use lib.IntN.{ℤ, pos, subℕ, _+ℤ_, _-ℤ_}
 use borrow.Author.Tests.{lt-ltb, le-ltb, ltb-true}
 use Rattle.cltlb.specs.Week.{week, minuteOf, inWindow}
@@ -19,7 +18,7 @@ use Rattle.verdict.specs.Weeks.{minutesAfter, within, judgeSpaced, judge
 use Rattle.verdict.specs.declared.Verdict.the-variants.{AlwaysTrue, AlwaysFalse, Changes}
 use Rattle.verdict.proofs.Passes.{means-iff}
 use Rattle.verdict.proofs.Decisions.{lifted, by-lifted, lifted-pass, Decides, Judges}
-use Rattle.verdict.proofs.Euclid.{gcd-end, common-step}
+use Rattle.verdict.proofs.Euclid.{common-step}
 use Rattle.verdict.proofs.Residues.{below-means}
 
 -- ---- the minute of a difference
@@ -131,16 +130,3 @@ module _ (n g least : ℕ) where
   pub spaced-some : least < n → n ≤ least + (week - g) → Changes ≡ judgeSpaced n g least
   unfolding judgeSpaced
   spaced-some h l = simp (lt-ltb least n h, le-ltb (least + (week - g)) n l)
-
--- Two lines that keep their distance.
-pub level-within : (n : ℕ) (x y : ℤ) → judgeWithin n (record { at = x; step = pos 0 }) (record { at = y; step = pos 0 }) ≡ cond (within n x y) AlwaysTrue AlwaysFalse
-unfolding judgeWithin minutesAfter minuteOf
-level-within n x y = level (minuteOf (x -ℤ y)) (minute-below (x -ℤ y))
-  where
-    level : (m : ℕ) → m < 10080 → judgeSpaced n (gcd week 0) (m % gcd week 0) ≡ cond (ltb m n) AlwaysTrue AlwaysFalse
-    level m h =
-        let small : m % 10080 ≡ m = omega arith in
-        rw (gcd-end week 0 refl, small)
-        (by-cases (decLt m n)
-        (λ l. rw (lt-ltb m n l) (sym (spaced-all n week m l (omega arith))))
-        (λ l. rw (le-ltb m n (omega arith)) (sym (spaced-none n week m (omega arith)))))

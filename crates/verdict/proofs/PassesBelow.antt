@@ -12,10 +12,15 @@ use lib.Signed.{_<ℤ_, ltZ}
 use borrow.Author.Tests.{lt-ltb, le-ltb, ltb-true, ltb-false}
 use Rattle.fields.proofs.Differences.{pos-sub, sub-add, sub-same}
 use Rattle.verdict.specs.Lines.{Line, onPass, raised}
-use Rattle.verdict.specs.Stretches.{Lies, isAll, hasPass, common, passesBelow, passesAtMost, passesSame}
+use Rattle.verdict.specs.Stretches.{isAll, hasPass, common, passesBelow, passesAtMost, passesSame}
 use Rattle.verdict.specs.declared.stretches.Stretch.{Stretch}
 use Rattle.verdict.specs.declared.stretches.Stretch.the-variants.{From, Between}
 use Rattle.verdict.proofs.Decisions.{bias-eq, bias-ltZ, bias-gap, lifted, by-lifted, lifted-pass, pass-lt, gap}
+
+-- pass k lies in a stretch
+unfoldable pub Lies : Stretch → ℕ → Type 0
+Lies (From a) k = a ≤ k
+Lies (Between a b) k = (a ≤ k) × (k < b)
 
 -- Some pass lies in a stretch where the test says so.
 pub has-pass : (p : Stretch) → (hasPass p ≡ true) ↔ ((k : ℕ) × Lies p k)

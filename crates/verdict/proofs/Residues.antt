@@ -1,18 +1,15 @@
 -- The remainders by the week that a number takes which grows by a fixed step: every multiple of the spacing away from the first one,
 -- and no other. Assumes nothing.
-use Prim.Native.Nat.{ℕ, zero, suc, _+_, _*_, _-_, _/_, _%_, _∣_, _≤_, _<_}
+use Prim.Native.Nat.{ℕ, zero, suc, _+_, _*_, _-_, _/_, _%_, _≤_, _<_}
 use native.Mathlib.Nat.{div-add-mod', mod-lt, mod-le, le-of-dvd, pos-of-dvd-of-pos, div-mul-cancel, mod-mod-of-dvd, add-mul-mod-self-right, lt-of-mul-lt-mul-right, mul-le-mul-right}
 use native.Mathlib.Decide.{decLt}
 use native.Mathlib.Omega.{arith}
-use mathlib.Core.Path.{_≡_, refl, sym, ap, _∙_}
-use mathlib.Core.Bool.{cond}
+use mathlib.Core.Path.{_≡_, ap, _∙_}
 use mathlib.Core.Logic.{by-cases}
-use lib.Dec.{ltb}
 use borrow.Author.Tests.{lt-ltb, le-ltb}
 use Rattle.cltlb.specs.Week.{week}
 use Rattle.verdict.specs.Divisors.{gcd}
 use Rattle.verdict.specs.Weeks.{judgeSpaced}
-use Rattle.verdict.specs.declared.Verdict.{Verdict}
 use Rattle.verdict.specs.declared.Verdict.the-variants.{AlwaysTrue, AlwaysFalse, Changes}
 use Rattle.verdict.proofs.Passes.{PassMeans}
 use Rattle.verdict.proofs.Euclid.{CommonStep, common-step}

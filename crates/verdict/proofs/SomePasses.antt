@@ -13,13 +13,13 @@ use Rattle.cltlb.specs.Week.{week, minuteOf}
 use Rattle.cltlb.proofs.Week.{minute-below}
 use Rattle.verdict.specs.Lines.{Line, onPass}
 use Rattle.verdict.specs.Weeks.{minutesAfter}
-use Rattle.verdict.specs.Stretches.{Lies}
 use Rattle.verdict.specs.Tops.{someFrom, withinOn, someWithin}
 use Rattle.verdict.specs.inner.Walks.{Enters}
 use Rattle.verdict.specs.declared.stretches.Stretch.{Stretch}
 use Rattle.verdict.specs.declared.stretches.Stretch.the-variants.{From, Between}
 use Rattle.verdict.proofs.Decisions.{same-test, lifted}
 use Rattle.verdict.proofs.Minutes.{after-bias, after-on-pass}
+use Rattle.verdict.proofs.PassesBelow.{Lies}
 use Rattle.verdict.proofs.Walks.{walk}
 
 -- ---- one by one

@@ -1,17 +1,16 @@
 -- The verdict on two lines with tops is right on every pass, of what is seen of them. Assumes nothing.
 use Prim.Native.Nat.{ℕ, zero, suc, _+_}
-use native.Mathlib.Decide.{decLt}
 use native.Mathlib.Omega.{arith}
 use mathlib.Core.Path.{_≡_, refl, sym, ap, _∙_}
 use mathlib.Core.Bool.{Bool, true, false, cond, not, _&&_, false≢true}
 use mathlib.Core.List.{[], _∷_}
-use mathlib.Core.Logic.{_↔_, Iff·symm, Iff·trans, by-cases}
-use lib.Dec.{ltb, leb, eqb·suc-zero}
-use lib.IntN.{ℤ, pos, negsuc, _+ℤ_, _*ℤ_, +ℤ-idr, *ℤ-zero}
+use mathlib.Core.Logic.{_↔_, Iff·symm, Iff·trans}
+use lib.Dec.{eqb·suc-zero}
+use lib.IntN.{ℤ, pos, _+ℤ_, +ℤ-idr, *ℤ-zero}
 use lib.Signed.{ltZ, leZ}
 use types.Run.{OneOf, miss}
 use denote.Enum.Declared.{tagOf}
-use borrow.Author.Tests.{lt-ltb, le-ltb, le-leb, lt-leb, ne-eqb}
+use borrow.Author.Tests.{ne-eqb}
 use Rattle.cltlb.specs.Run.{isTop, isPinned, under}
 use Rattle.cltlb.specs.Truth.{Compared}
 use Rattle.fields.specs.inner.Biased.{bias}
@@ -19,7 +18,7 @@ use Rattle.fields.proofs.Differences.{sub-pos}
 use Rattle.plan.specs.inner.Lifted.{valueBias}
 use Rattle.verdict.specs.Lines.{Line, onPass, level}
 use Rattle.verdict.specs.Comparisons.{judgeLines}
-use Rattle.verdict.specs.Stretches.{Lies, allPasses, noPass, isAll, hasPass, common, passesBelow, passesAtMost, passesSame}
+use Rattle.verdict.specs.Stretches.{allPasses, noPass, isAll, hasPass, common, passesBelow, passesAtMost, passesSame}
 use Rattle.verdict.specs.Tops.{passesFree, passesPinned, someOn, judgeOn, judgePinned, judgeFree, judgeUnder}
 use Rattle.verdict.specs.declared.stretches.Stretch.{Stretch}
 use Rattle.verdict.specs.declared.stretches.Stretch.the-variants.{From, Between}
@@ -29,8 +28,8 @@ use Rattle.verdict.specs.declared.Verdict.{Verdict}
 use Rattle.verdict.specs.declared.Verdict.the-variants.{AlwaysTrue, AlwaysFalse, Changes}
 use Rattle.verdict.proofs.Relation.{the-type}
 use Rattle.verdict.proofs.Passes.{PassMeans, means-iff}
-use Rattle.verdict.proofs.Decisions.{Decides, lt-decides, Judges, lifted}
-use Rattle.verdict.proofs.PassesBelow.{has-pass, common-lies, common-has, below-lies, at-most-lies, same-lies}
+use Rattle.verdict.proofs.Decisions.{Decides, lt-decides, le-test, Judges, lifted}
+use Rattle.verdict.proofs.PassesBelow.{Lies, has-pass, common-lies, common-has, below-lies, at-most-lies, same-lies}
 use Rattle.verdict.proofs.SomePasses.{some-within}
 use Rattle.verdict.proofs.Relations.{Relates, SeenRelates, numbers-under, pinned-under, judges}
 
@@ -39,19 +38,6 @@ use Rattle.verdict.proofs.Relations.{Relates, SeenRelates, numbers-unde
 pub level-stays : (z : ℤ) (k : ℕ) → onPass (level z) k ≡ z
 unfolding onPass
 level-stays z k = ap (λ y. z +ℤ y) (*ℤ-zero (pos k)) ∙ +ℤ-idr z
-
--- At most is not above.
-not-above : (a b : ℕ) → leb a b ≡ not (ltb b a)
-not-above a b =
-    by-cases (decLt b a)
-    (λ l. simp (lt-leb a b l, lt-ltb b a l))
-    (λ l. simp (le-leb a b (omega arith), le-ltb b a (omega arith)))
-
-le-test : (a b : ℤ) → leZ a b ≡ not (ltZ b a)
-le-test (pos a) (pos b) = not-above a b
-le-test (pos a) (negsuc b) = refl
-le-test (negsuc a) (pos b) = refl
-le-test (negsuc a) (negsuc b) = not-above b a
 
 -- A test and the other one.
 not-true : (b : Bool) → (b ≡ true) ↔ (not b ≡ false)
@@ -202,10 +188,6 @@ module _ (relation : Relation) (s : ℤ) (x : Line) (t : ℤ) (y : Line) {p : St
   pub free-some : b ≡ false → {some : Bool} → some ≡ someOn relation x y p → r ≡ cond some Changes AlwaysFalse → r ≡ judgeFree relation s x t y
   unfolding judgeFree judgeOn
   free-some f g e = rw (← ep, ← eb, f, ← g) e
-
-module _ (relation : Relation) (x y : Line) (s t : ℕ) where
-  pub under-none : s + t ≡ 0 → judgeLines relation x y ≡ judgeUnder relation (pos s) x (pos t) y
-  under-none e = let left : s ≡ 0 = omega arith in let right : t ≡ 0 = omega arith in rw (left, right) (sym (judged-free relation x y))
 
 -- the relations of numbers, by their variants
 pub under-numbers : (relation : Relation) (s : ℤ) (x : Line) (t : ℤ) (y : Line) → OneOf (0 ∷ 1 ∷ 2 ∷ []) (tagOf the-type relation)

@@ -11,7 +11,7 @@ use lib.IntN.{ℤ, pos}
 use borrow.Author.Tests.{lt-ltb, le-ltb}
 use Rattle.cltlb.specs.Truth.{valueAt, Compared, Within, AtomHolds}
 use Rattle.cltlb.specs.Fits.{termFits, atomFits}
-use Rattle.cltlb.specs.declared.Term.the-variants.{Constant, Reading}
+use Rattle.cltlb.specs.declared.Term.the-variants.{Constant}
 use Rattle.cltlb.specs.declared.Atom.{Atom}
 use Rattle.cltlb.specs.declared.Atom.the-variants.{Less, Equal, Window, Pinned}
 use Rattle.cltlb.proofs.Fits.{less-fits, equal-fits, window-fits, pinned-fits, Ends, ends-fit}

@@ -1,5 +1,5 @@
 -- Stretches of passes: those on which one line is below another, and those that two stretches have in common. Assumes nothing.
-use Prim.Native.Nat.{ℕ, _+_, _-_, _/_, max, min, _≤_, _<_}
+use Prim.Native.Nat.{_+_, _-_, _/_, max, min}
 use mathlib.Core.Bool.{Bool, true, false, cond}
 use lib.Dec.{ltb, eqb}
 use lib.IntN.{natAbs, _-ℤ_}
@@ -7,11 +7,6 @@ use lib.Signed.{ltZ}
 use Rattle.verdict.specs.Lines.{Line, raised}
 use Rattle.verdict.specs.declared.stretches.Stretch.{Stretch}
 use Rattle.verdict.specs.declared.stretches.Stretch.the-variants.{From, Between}
-
--- pass k lies in a stretch
-unfoldable pub Lies : Stretch → ℕ → Type 0
-Lies (From a) k = a ≤ k
-Lies (Between a b) k = (a ≤ k) × (k < b)
 
 abbrev pub allPasses : Stretch
 allPasses = From 0

@@ -1,9 +1,8 @@
 -- `lanes::tops::seen_agree` meets its contract. Assumes nothing.
 use Prim.Native.Nat.{ℕ, _+_}
 use denote.Ref.{now}
-use native.Mathlib.Omega.{arith}
 use Rattle.table.specs.inner.Tables.{markIn}
-use Rattle.lanes.proofs.Topped.{as-numbers, as-lines}
+use Rattle.lanes.proofs.Topped.{as-numbers}
 use borrow.Author.Needs.{needs}
 use Rattle.lanes.proofs.tops.seen_agree.Statement.{statement}
 use Rattle.lanes.proofs.tops.seen_agree.Tie as tie

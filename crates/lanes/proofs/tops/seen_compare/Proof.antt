@@ -1,5 +1,4 @@
 -- `lanes::tops::seen_compare` meets its contract. Assumes nothing.
-use mathlib.Core.Path.{refl}
 use Rattle.lanes.proofs.Topped.{seen-compared}
 use borrow.Author.Needs.{needs}
 use Rattle.lanes.proofs.tops.seen_compare.Statement.{statement}

@@ -1,47 +1,34 @@
 -- `verdict::lines::decide_equal` meets its contract. Assumes nothing.
 use mathlib.Core.Path.{sym, _∙_}
-use native.Mathlib.Omega.{arith}
 use Rattle.verdict.proofs.Decisions.{equal-always, equal-once, equal-apart}
 use borrow.Author.Needs.{needs}
 use Rattle.verdict.proofs.lines.decide_equal.Statement.{statement}
 use Rattle.verdict.proofs.lines.decide_equal.Tie as tie
-use Rattle.verdict.proofs.lines.decide_equal.Reads as reads
-use Rattle.verdict.proofs.lines.decide_equal.Lts as lts
-use Rattle.verdict.proofs.bounds.apart.Reads as apart-reads
-use Rattle.verdict.proofs.bounds.either.Reads as either-reads
-use Rattle.verdict.proofs.lines.decide_meeting.Reads as decide-meeting-reads
 
--- src/lines.rt:57:13
 returns : tie.Need-returns
 returns c =
     let start = c .before .before .before .before .before .before in
     let if1 = c .before .before .before .if1 in
     sym (equal-always _ _ (start .args .x .at) _ (start .args .y .at) _ (if1 .taken) (c .if2 .taken))
 
--- src/lines.rt:59:9
 returns-2 : tie.Need-returns-2
 returns-2 c =
     let start = c .before .before .before .before .before .before in
     let if1 = c .before .before .before .if1 in
     sym (equal-once _ _ (start .args .x .at) _ (start .args .y .at) _ (if1 .taken) (c .if2 .left))
 
--- src/lines.rt:63:9
 apart-requires : tie.Need-apart-requires
 apart-requires c κs = search needs
 
--- src/lines.rt:64:9
 either-requires : tie.Need-either-requires
 either-requires c κs = search needs
 
--- src/lines.rt:65:9
 either-requires-2 : tie.Need-either-requires-2
 either-requires-2 c κs = search needs
 
--- src/lines.rt:62:5
 decide-meeting-requires : tie.Need-decide-meeting-requires
 decide-meeting-requires c κs = search needs
 
--- src/lines.rt:52:1
 returns-3 : tie.Need-returns-3
 returns-3 c =
     let start = c .before .before .before .before .before .before .before .before .before in

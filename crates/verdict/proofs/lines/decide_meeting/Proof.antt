@@ -1,34 +1,26 @@
 -- `verdict::lines::decide_meeting` meets its contract. Assumes nothing.
 use mathlib.Core.Path.{sym}
 use borrow.Author.Tests.{lt-ltb, le-ltb, eq-eqb, ne-eqb}
-use native.Mathlib.Omega.{arith}
 use borrow.Author.Needs.{needs}
 use Rattle.verdict.proofs.lines.decide_meeting.Statement.{statement}
 use Rattle.verdict.proofs.lines.decide_meeting.Tie as tie
-use Rattle.verdict.proofs.lines.decide_meeting.Reads as reads
-use Rattle.verdict.proofs.lines.decide_meeting.Lts as lts
 
--- src/lines.rt:43:19
 sub-if2 : tie.Need-sub-if2
 sub-if2 c = search needs
 
--- src/lines.rt:43:12
 rem-if2 : tie.Need-rem-if2
 rem-if2 c = search needs
 
--- src/lines.rt:44:13
 returns : tie.Need-returns
 returns c =
     let if1 = c .before .if1 in
     sym (simp (lt-ltb _ _ (if1 .taken), eq-eqb _ _ (c .if2 .taken)))
 
--- src/lines.rt:39:1
 returns-2 : tie.Need-returns-2
 returns-2 c =
     let if1 = c .before .if1 in
     sym (simp (lt-ltb _ _ (if1 .taken), ne-eqb _ _ (c .if2 .left)))
 
--- src/lines.rt:39:1
 returns-3 : tie.Need-returns-3
 returns-3 c = sym (simp (le-ltb _ _ (c .if1 .left)))
 

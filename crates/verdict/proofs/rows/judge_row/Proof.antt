@@ -3,22 +3,15 @@ use Rattle.verdict.specs.Rows.{verdictOf}
 use Rattle.verdict.proofs.Values.{atom-fit, judgement}
 use Rattle.verdict.proofs.rows.judge_row.Statement.{statement}
 use Rattle.verdict.proofs.rows.judge_row.Tie as tie
-use Rattle.verdict.proofs.rows.judge_row.Reads as reads
-use Rattle.verdict.proofs.rows.judge_row.Lts as lts
-use Rattle.verdict.proofs.rows.comparison_of.Reads as comparison-of-reads
-use Rattle.verdict.proofs.rows.judge_comparison.Reads as judge-comparison-reads
 
--- src/rows.rt:137:35
 comparison-of-requires : tie.Need-comparison-of-requires
 comparison-of-requires c κs = (c .before .args .sizes .channels, c .before .pre .1)
 
--- src/rows.rt:137:5
 judge-comparison-requires : tie.Need-judge-comparison-requires
 judge-comparison-requires c κs =
     let start = c .before .before in
     (start .pre .0, atom-fit (start .args .sizes) (start .args .atom) (start .pre .1) (c .comparison-of .ensures), start .pre .2)
 
--- src/rows.rt:133:1
 returns : tie.Need-returns
 unfolding verdictOf
 returns c =

@@ -4,23 +4,16 @@ use Rattle.verdict.proofs.Values.{no-tops}
 use borrow.Author.Needs.{needs}
 use Rattle.verdict.proofs.rows.without_tops.Statement.{statement}
 use Rattle.verdict.proofs.rows.without_tops.Tie as tie
-use Rattle.verdict.proofs.rows.without_tops.Reads as reads
-use Rattle.verdict.proofs.rows.without_tops.Lts as lts
-use Rattle.verdict.proofs.terms.top_in.Reads as top-in-reads
 
--- src/rows.rt:172:5
 top-in-requires : tie.Need-top-in-requires
 top-in-requires c κs = search needs
 
--- src/rows.rt:172:30
 top-in-requires-2 : tie.Need-top-in-requires-2
 top-in-requires-2 c κs = search needs
 
--- src/rows.rt:172:5
 add-result : tie.Need-add-result
 add-result c = search needs
 
--- src/rows.rt:166:1
 returns : tie.Need-returns
 returns c =
     let start = c .before .before .before in

@@ -7,30 +7,22 @@ use Rattle.verdict.specs.inner.Landed.{shiftIn}
 use borrow.Author.Needs.{needs}
 use Rattle.verdict.proofs.terms.code_in.Statement.{statement}
 use Rattle.verdict.proofs.terms.code_in.Tie as tie
-use Rattle.verdict.proofs.terms.code_in.Reads as reads
-use Rattle.verdict.proofs.terms.code_in.Lts as lts
-use Rattle.verdict.proofs.terms.code_of.Reads as code-of-reads
 
--- src/terms.rt:91:30
 enum-told : tie.Need-enum-told
 enum-told c = search needs
 
--- src/terms.rt:92:37
 enum-known-term : tie.Need-enum-known-term
 enum-known-term c = search needs
 
--- src/terms.rt:92:48
 code-of-requires : tie.Need-code-of-requires
 code-of-requires c κs =
     let start = c .before .before .before in
     let term = c .before .term in
     ap shiftFits (toZ-ofZ w32 _ (record { sfits = c .known-told .given .1 .0 .1 }) ∙ sym (ap shiftIn (term .given .1))) ∙ start .pre
 
--- src/terms.rt:86:1
 returns : tie.Need-returns
 returns c = search needs
 
--- src/terms.rt:86:1
 returns-2 : tie.Need-returns-2
 returns-2 c =
     let term = c .before .before .term in

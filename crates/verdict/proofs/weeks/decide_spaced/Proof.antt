@@ -3,26 +3,19 @@ use Rattle.verdict.proofs.Minutes.{spaced-none, spaced-all, spaced-some
 use borrow.Author.Needs.{needs}
 use Rattle.verdict.proofs.weeks.decide_spaced.Statement.{statement}
 use Rattle.verdict.proofs.weeks.decide_spaced.Tie as tie
-use Rattle.verdict.proofs.weeks.decide_spaced.Reads as reads
-use Rattle.verdict.proofs.weeks.decide_spaced.Lts as lts
 
--- src/weeks.rt:45:9
 returns : tie.Need-returns
 returns c = spaced-none _ (c .before .args .apart) _ (c .if1 .taken)
 
--- src/weeks.rt:47:17
 sub-if2 : tie.Need-sub-if2
 sub-if2 c = search needs
 
--- src/weeks.rt:47:8
 add-if2 : tie.Need-add-if2
 add-if2 c = search needs
 
--- src/weeks.rt:48:9
 returns-2 : tie.Need-returns-2
 returns-2 c = spaced-all _ (c .before .before .args .apart) _ (c .before .if1 .left) (c .if2 .taken)
 
--- src/weeks.rt:40:1
 returns-3 : tie.Need-returns-3
 returns-3 c = spaced-some _ (c .before .before .args .apart) _ (c .before .if1 .left) (c .if2 .left)
 

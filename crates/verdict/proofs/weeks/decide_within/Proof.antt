@@ -7,33 +7,22 @@ use Rattle.verdict.proofs.Minutes.{within-spaced}
 use borrow.Author.Needs.{needs}
 use Rattle.verdict.proofs.weeks.decide_within.Statement.{statement}
 use Rattle.verdict.proofs.weeks.decide_within.Tie as tie
-use Rattle.verdict.proofs.weeks.decide_within.Reads as reads
-use Rattle.verdict.proofs.weeks.decide_within.Lts as lts
-use Rattle.verdict.proofs.weeks.decide_spaced.Reads as decide-spaced-reads
-use Rattle.verdict.proofs.weeks.minutes_after.Reads as minutes-after-reads
-use Rattle.verdict.proofs.weeks.spacing.Reads as spacing-reads
 
--- src/weeks.rt:56:25
 minutes-after-requires : tie.Need-minutes-after-requires
 minutes-after-requires c κs = search needs
 
--- src/weeks.rt:56:9
 spacing-requires : tie.Need-spacing-requires
 spacing-requires c κs = search needs
 
--- src/weeks.rt:57:29
 minutes-after-requires-2 : tie.Need-minutes-after-requires-2
 minutes-after-requires-2 c κs = search needs
 
--- src/weeks.rt:57:29
 rem-decide-spaced : tie.Need-rem-decide-spaced
 rem-decide-spaced c = search needs
 
--- src/weeks.rt:57:5
 decide-spaced-requires : tie.Need-decide-spaced-requires
 decide-spaced-requires c κs = (c .before .spacing .ensures .2, mod-lt (c .minutes-after2 .result) (c .before .spacing .ensures .1))
 
--- src/weeks.rt:53:1
 returns : tie.Need-returns
 returns c =
     let start = c .before .before .before .before in
