@@ -81,7 +81,7 @@ fn one_by_one(
     all
 }
 
-// Direct positions from one up to another, by the numbers of pass 0 alone.
+// Direct positions from one up to another, by the numbers of the lead-in and of pass 0 alone.
 fn direct_numbers(
     values: &[u8],
     table: &[u8],

@@ -26,7 +26,7 @@ const HALF: u64 = 2147483648;
 // The steps of two lines, how far apart the minutes are by which the one is after the other on its passes, and that number's
 // inverse: 2 ^ 31 divided by it, and one more. All but one product is counted in 32 bits, so that the compiler can take many rows at
 // once.
-pub struct Spacing {
+struct Spacing {
     pub left: u64,
     pub right: u64,
     pub apart: u32,

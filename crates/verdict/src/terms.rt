@@ -33,7 +33,7 @@ use plan::view::seen_through;
 const LEAST_SHIFT: u64 = BIAS - 4;
 
 // A number of 32 bits, kept without a sign.
-pub fn lift(z: i32) -> u64
+fn lift(z: i32) -> u64
     ensures { λ r. ⌜ (unbiased r ≡ z) × (r < patterns) ⌝ }
 {
     biased(pattern(z))
@@ -47,7 +47,7 @@ fn constant(z: i32) -> u64
 }
 
 // The code of a shift, which is the shift + 4.
-pub fn code_of(shift: i32) -> usize
+fn code_of(shift: i32) -> usize
     requires { ⌜ shiftFits shift ≡ true ⌝ }
     ensures { λ r. ⌜ (subℕ r 4 ≡ shift) × (r ≤ 8) ⌝ }
 {
