@@ -172,8 +172,8 @@ fn without_tops(plan: &[u8], sizes: Sizes, comparison: Comparison) -> bool
     top_in(plan, sizes, x) + top_in(plan, sizes, y) == 0
 }
 
-// The verdict on the passes from position t on, neither term being read before the cycle there: that on the two lines that begin
-// there, where there are no tops, and else under them.
+// The verdict on the passes from position t on, neither term being read before the cycle there, where there are no tops: that on the
+// two lines that begin there.
 fn from_free(plan: &[u8], sizes: Sizes, comparison: Comparison, t: usize) -> Verdict
     requires { ⌜ (Fitting (now plan) sizes) × (TermsFit sizes comparison) × (sizes .start + reach (comparison .left) ≤ t) × (sizes .start + reach (comparison .right) ≤ t) × (t ≤ latest sizes) × (NoTops (now plan) comparison) ⌝ }
     ensures { λ r. ⌜ r ≡ judgeFrom (now (plan .entry)) comparison t ⌝ }
@@ -190,6 +190,7 @@ fn from_free(plan: &[u8], sizes: Sizes, comparison: Comparison, t: usize) -> Ver
     )
 }
 
+// The same under the tops.
 fn from_under(plan: &[u8], sizes: Sizes, comparison: Comparison, t: usize) -> Verdict
     requires { ⌜ (Fitting (now plan) sizes) × (TermsFit sizes comparison) × (sizes .start + reach (comparison .left) ≤ t) × (sizes .start + reach (comparison .right) ≤ t) × (t ≤ latest sizes) ⌝ }
     ensures { λ r. ⌜ r ≡ judgeFrom (now (plan .entry)) comparison t ⌝ }
@@ -201,6 +202,8 @@ fn from_under(plan: &[u8], sizes: Sizes, comparison: Comparison, t: usize) -> Ve
     judge_landed(plan, sizes, comparison, left, right, 0)
 }
 
+// The verdict on the passes from position t on, neither term being read before the cycle there: that on the two lines that begin
+// there, where there are no tops, and else under them.
 pub fn judge_from(plan: &[u8], sizes: Sizes, comparison: Comparison, t: usize) -> Verdict
     requires { ⌜ (Fitting (now plan) sizes) × (TermsFit sizes comparison) × (sizes .start + reach (comparison .left) ≤ t) × (sizes .start + reach (comparison .right) ≤ t) × (t ≤ latest sizes) ⌝ }
     ensures { λ r. ⌜ r ≡ judgeFrom (now (plan .entry)) comparison t ⌝ }
@@ -211,8 +214,8 @@ pub fn judge_from(plan: &[u8], sizes: Sizes, comparison: Comparison, t: usize) -
     from_under(plan, sizes, comparison, t)
 }
 
-// The verdict on the passes from a position of the cycle on. Where there are no tops, it is found once, ahead of the passes, where the
-// two shifts land.
+// The verdict on the passes from a position of the cycle on, where there are no tops. Where the two shifts land is found once, ahead
+// of the passes.
 fn cycle_free(plan: &[u8], sizes: Sizes, comparison: Comparison, row: usize) -> Verdict
     requires { ⌜ (Fitting (now plan) sizes) × (TermsFit sizes comparison) × (sizes .start ≤ row) × (row ≤ latestFrom sizes) × (NoTops (now plan) comparison) ⌝ }
     ensures { λ r. ⌜ r ≡ judgeCycle (now (plan .entry)) comparison 4 row ⌝ }
@@ -255,6 +258,7 @@ fn join_tests(
     verdict
 }
 
+// The same under the tops.
 fn cycle_under(plan: &[u8], sizes: Sizes, comparison: Comparison, row: usize) -> Verdict
     requires { ⌜ (Fitting (now plan) sizes) × (TermsFit sizes comparison) × (sizes .start ≤ row) × (row ≤ latestFrom sizes) ⌝ }
     ensures { λ r. ⌜ r ≡ judgeCycle (now (plan .entry)) comparison 4 row ⌝ }
@@ -266,6 +270,7 @@ fn cycle_under(plan: &[u8], sizes: Sizes, comparison: Comparison, row: usize) ->
     join_tests(plan, sizes, comparison, row, n, later)
 }
 
+// The verdict on the passes from a position of the cycle on.
 pub fn judge_cycle(plan: &[u8], sizes: Sizes, comparison: Comparison, row: usize) -> Verdict
     requires { ⌜ (Fitting (now plan) sizes) × (TermsFit sizes comparison) × (sizes .start ≤ row) × (row ≤ latestFrom sizes) ⌝ }
     ensures { λ r. ⌜ r ≡ judgeCycle (now (plan .entry)) comparison 4 row ⌝ }

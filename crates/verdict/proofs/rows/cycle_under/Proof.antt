@@ -8,23 +8,13 @@ use Rattle.verdict.proofs.Values.{farther-le, farther-in, cycle-is}
 use borrow.Author.Needs.{needs}
 use Rattle.verdict.proofs.rows.cycle_under.Statement.{statement}
 use Rattle.verdict.proofs.rows.cycle_under.Tie as tie
-use Rattle.verdict.proofs.rows.cycle_under.Reads as reads
-use Rattle.verdict.proofs.rows.cycle_under.Lts as lts
-use Rattle.verdict.proofs.bounds.larger.Reads as larger-reads
-use Rattle.verdict.proofs.early.early_passes.Reads as early-passes-reads
-use Rattle.verdict.proofs.rows.from_under.Reads as from-under-reads
-use Rattle.verdict.proofs.rows.join_tests.Reads as join-tests-reads
-use Rattle.verdict.proofs.terms.reach_of.Reads as reach-of-reads
 
--- src/rows.rt:264:45
 reach-of-requires : tie.Need-reach-of-requires
 reach-of-requires c κs = search needs
 
--- src/rows.rt:264:58
 reach-of-requires-2 : tie.Need-reach-of-requires-2
 reach-of-requires-2 c κs = search needs
 
--- src/rows.rt:264:38
 larger-requires : tie.Need-larger-requires
 larger-requires c κs = search needs
 
@@ -34,7 +24,6 @@ farther : (c : tie.After-larger) →
     c .larger .result ≡ max (reach (x .left)) (reach (x .right))
 farther c = c .larger .ensures ∙ ap₂ max (c .before .before .reach-of .ensures) (c .before .reach-of2 .ensures)
 
--- src/rows.rt:264:9
 early-passes-requires : tie.Need-early-passes-requires
 early-passes-requires c κs =
     let start = c .before .before .before .before in
@@ -55,29 +44,24 @@ inside c =
     let start = c .before .before .before .before .before in
     farther-in (start .args .sizes) (start .args .comparison) _ (farther (c .before)) _ (c .early-passes .ensures .0)
 
--- src/rows.rt:265:59
 mul-from-under : tie.Need-mul-from-under
 mul-from-under c =
     let start = c .before .before .before .before .before .before in
     omega (arith, few (c .before), start .pre .0 .few-rows)
 
--- src/rows.rt:265:53
 add-from-under : tie.Need-add-from-under
 add-from-under c =
     let start = c .before .before .before .before .before .before in
     omega (arith, few (c .before), start .pre .0 .few-rows, start .pre .3)
 
--- src/rows.rt:265:9
 from-under-requires : tie.Need-from-under-requires
 from-under-requires c κs =
     let start = c .before .before .before .before .before .before in
     (start .pre .0, start .pre .1, inside (c .before) .0, inside (c .before) .1, omega (arith, few (c .before), start .pre .3))
 
--- src/rows.rt:266:5
 join-tests-requires : tie.Need-join-tests-requires
 join-tests-requires c κs = search needs
 
--- src/rows.rt:258:1
 returns : tie.Need-returns
 returns c =
     let start = c .before .before .before .before .before .before .before .before in

@@ -7,10 +7,6 @@ use Rattle.verdict.specs.Rows.{joinFirst}
 use Rattle.verdict.proofs.Values.{passTest, pass-joined, all-joined}
 use Rattle.verdict.proofs.rows.join_tests.Statement.{statement}
 use Rattle.verdict.proofs.rows.join_tests.Tie as tie
-use Rattle.verdict.proofs.rows.join_tests.Reads as reads
-use Rattle.verdict.proofs.rows.join_tests.Lts as lts
-use Rattle.verdict.proofs.early.join.Reads as join-reads
-use Rattle.verdict.proofs.rows.test_at.Reads as test-at-reads
 
 abbrev Inv-loop : tie.InvT-loop
 Inv-loop plan sizes comparison row n verdict₀ k₀ verdict k = (k ≤ 4) × (joinFirst (passTest plan comparison row) k₀ verdict₀ ≡ joinFirst (passTest plan comparison row) k verdict)
@@ -18,46 +14,38 @@ Inv-loop plan sizes comparison row n verdict₀ k₀ verdict k = (k ≤ 4) × (j
 abbrev μ-loop : tie.MeasureT-loop
 μ-loop plan sizes comparison row n verdict₀ k₀ verdict k = k
 
--- src/rows.rt:248:5
 loop-holds : tie.Need-loop-holds Inv-loop μ-loop
 loop-holds c =
     let start = c .before in
     (start .pre .3, refl)
 
--- src/rows.rt:249:9
 sub-k : tie.Need-sub-k Inv-loop μ-loop
 sub-k c = omega arith
 
--- src/rows.rt:251:52
 mul-test-at : tie.Need-mul-test-at Inv-loop μ-loop
 mul-test-at c =
     let loop = c .before .before .loop in
     let start = c .before .before .before .before in
     let few : (loop .k - 1) * start .args .sizes .cycle ≤ 4 * start .args .sizes .cycle = mul-le-mul-right (start .args .sizes .cycle) (omega (arith, loop .inv .0)) in omega (arith, few, start .pre .0 .few-rows)
 
--- src/rows.rt:251:46
 add-test-at : tie.Need-add-test-at Inv-loop μ-loop
 add-test-at c =
     let loop = c .before .before .loop in
     let start = c .before .before .before .before in
     let few : (loop .k - 1) * start .args .sizes .cycle ≤ 4 * start .args .sizes .cycle = mul-le-mul-right (start .args .sizes .cycle) (omega (arith, loop .inv .0)) in omega (arith, few, start .pre .0 .few-rows, start .pre .2)
 
--- src/rows.rt:251:13
 test-at-requires : tie.Need-test-at-requires Inv-loop μ-loop
 test-at-requires c κs =
     let loop = c .before .before .loop in
     let start = c .before .before .before .before in
     let few : (loop .k - 1) * start .args .sizes .cycle ≤ 4 * start .args .sizes .cycle = mul-le-mul-right (start .args .sizes .cycle) (omega (arith, loop .inv .0)) in (start .pre .0, start .pre .1, omega (arith, few, start .pre .2))
 
--- src/rows.rt:250:9
 join-requires : tie.Need-join-requires Inv-loop μ-loop
 join-requires c κs = tt
 
--- src/rows.rt:248:5
 loop-less : tie.Need-loop-less Inv-loop μ-loop
 loop-less c = omega arith
 
--- src/rows.rt:248:5
 loop-again : tie.Need-loop-again Inv-loop μ-loop
 loop-again c =
     let start = c .before .before .before .before .before .before in
@@ -65,7 +53,6 @@ loop-again c =
     let test-at = c .before .test-at in
     (omega arith, pass-joined (start .pre .0) (start .args .comparison) (start .args .row) (loop .k) (omega arith) _ (loop .verdict) (c .join .result) (test-at .result) (loop .inv .1) (test-at .ensures) (c .join .ensures))
 
--- src/rows.rt:235:1
 returns : tie.Need-returns Inv-loop μ-loop
 returns c =
     let loop = c .before .loop in

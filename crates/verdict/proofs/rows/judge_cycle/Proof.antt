@@ -2,31 +2,21 @@
 use borrow.Author.Needs.{needs}
 use Rattle.verdict.proofs.rows.judge_cycle.Statement.{statement}
 use Rattle.verdict.proofs.rows.judge_cycle.Tie as tie
-use Rattle.verdict.proofs.rows.judge_cycle.Reads as reads
-use Rattle.verdict.proofs.rows.judge_cycle.Lts as lts
-use Rattle.verdict.proofs.rows.cycle_free.Reads as cycle-free-reads
-use Rattle.verdict.proofs.rows.cycle_under.Reads as cycle-under-reads
-use Rattle.verdict.proofs.rows.without_tops.Reads as without-tops-reads
 
--- src/rows.rt:273:8
 without-tops-requires : tie.Need-without-tops-requires
 without-tops-requires c κs = search needs
 
--- src/rows.rt:274:9
 cycle-free-requires : tie.Need-cycle-free-requires
 cycle-free-requires c κs =
     let start = c .before .before .before in
     (start .pre .0, start .pre .1, start .pre .2, start .pre .3, c .before .without-tops .ensures (c .if1 .taken))
 
--- src/rows.rt:274:9
 returns : tie.Need-returns
 returns c = search needs
 
--- src/rows.rt:276:5
 cycle-under-requires : tie.Need-cycle-under-requires
 cycle-under-requires c κs = search needs
 
--- src/rows.rt:269:1
 returns-2 : tie.Need-returns-2
 returns-2 c = search needs
 
