@@ -6,5 +6,6 @@ pub mod Counted
 pub mod EveryRow
 pub mod Words
 pub mod Readings
+pub mod Nestings
 pub mod Bytes
 pub mod More

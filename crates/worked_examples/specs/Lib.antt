@@ -8,6 +8,7 @@ pub mod MoreMarks
 pub mod Layouts
 pub mod SheetsRead
 pub mod SheetsPut
+pub mod Nestings
 pub mod PlansRead
 pub mod Handed
 pub mod More

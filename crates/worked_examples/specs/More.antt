@@ -3,10 +3,13 @@
 use Prim.Native.Nat.{ℕ, _<_}
 use mathlib.Core.List.{List, [], _∷_}
 use Rattle.fields.specs.inner.Ranges.{Bytes}
+use Rattle.settling.specs.Promise.{NoDrift}
+use Rattle.settling.specs.Promise as settling
 use Rattle.worked_examples.specs.Rows.{All}
 use Rattle.worked_examples.specs.Calls.{Call, checks, makes, settles, judges, Gives}
 use Rattle.worked_examples.specs.SheetsRead.{sheets, ReadsAs}
 use Rattle.worked_examples.specs.SheetsPut.{sheetsPut, PutsAs}
+use Rattle.worked_examples.specs.Nestings.{nested, NestsAs}
 use Rattle.worked_examples.specs.PlansRead.{plans, sights, SizedAs, SeesAs}
 use Rattle.worked_examples.specs.Handed.{questionBytes, callBytes}
 use Rattle.worked_examples.specs.Table.{ruleE1, ruleE2, ruleE4, ruleE8, ruleE9-0, planA, planB, planE9, planE10, examples, marksE4-2}
@@ -253,6 +256,11 @@ pub record MoreSaid : Type 0 where
   pub parts-put : All PutsAs sheetsPut
   pub plans-read : All SizedAs plans
   pub runs : All SeesAs sights
+  -- Y, Z, S and T are nested as deep as stated, and 4 passes more are the most where nothing drifts
+  pub nestings : All NestsAs nested
+  -- what settling's promise asks of its inputs is met: some clear 1 to 6 and 13, and in some plan nothing drifts
+  pub lent : settling.Lent ruleE8 planHigh lentPlan lentScratch
+  pub still : NoDrift planA
   -- every byte string of both tables is bytes, E10's witness being any two bytes
   pub example-bytes : (lo hi : ℕ) → lo < 256 → hi < 256 → All (λ question. All Bytes (questionBytes question)) (examples lo hi)
   pub more-bytes : All (λ call. All Bytes (callBytes call)) more
