@@ -96,8 +96,8 @@
  *
  * Time. Every call returns. The time is bounded by the sizes N, V, L and W, for
  * endless_run_settle() with 256 for W. It does not grow with the pass on which
- * an atom changes; settle tries at most as many passes as it lays out, or as
- * there is room for.
+ * an atom changes; settle looks at numbers of passes up to some twice those that
+ * it lays out, and at none for which there is no room.
  *
  * Platform. The library is compiled for x86-64 Linux, with the usual calling
  * convention of C there.

@@ -29,7 +29,7 @@ pub record Lent (rule plan before : List ℕ) : Type 0 where
   pub plan-clear : planOutcome (channelCount rule) plan ≡ Clear
   pub buffer : length before ≡ 4 + partCount rule * rows plan + 2 * partCount rule
 
--- No byte string at all is accepted as a mark table for the rule and the plan.
+-- No list of numbers at all, and so no byte string, is accepted as a mark table for the rule and the plan.
 unfoldable pub NoneAccepted : List ℕ → List ℕ → Type 0
 NoneAccepted rule plan = (table : List ℕ) (v : Bool) → ¬ (checkOf rule plan table ≡ C.Accepted v)
 

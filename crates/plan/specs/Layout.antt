@@ -61,7 +61,7 @@ unfoldable pub anyBelow : (ℕ → Bool) → ℕ → Bool
 anyBelow f zero = false
 anyBelow f (suc n) = anyBelow f n || f n
 
--- One of the tops is negative, and none of v tops is.
+-- the top of a channel is negative; and none of v is
 unfoldable pub negativeTop : List ℕ → ℕ → Bool
 negativeTop array channel = not (nonNeg (entry array channel))
 

@@ -9,9 +9,9 @@ report n p r = record { number = n; part = p; row = r }
 
 -- 1 The rule sheet's sizes or length. 2 A kind byte. 3 An operand. 4 The plan's sizes or length. 5 The plan's V differs
 -- from the rule's. 6 A lead-in or start row has a drift. 7 The mark table's sizes or length. 8 A mark byte. 9 A mark breaks its
--- equation. 10 A part does not close. 11 A witness. 12 The part or row named by the caller.
+-- equation. 10 A part does not close. 11 A witness. 12 The part or row named by the caller, or the part to be judged is no atom.
 -- 13 A lent buffer's length. 14 No mark table is accepted: a part does not close. 15 No number of passes laid out makes every
--- part close.
+-- part close with 256 rows or fewer and all readings in 32 bits.
 abbrev pub reportOf : Refusal → Report
 reportOf RuleSizes = report 1 0 0
 reportOf (Kind p) = report 2 p 0

@@ -1,6 +1,6 @@
 // Marks and numbers written over places of a mark table. `m` is the place of the first mark written, `a` and `b` those of the
-// first marks read, which all lie before `m`. Where marks are made from others, `opposite` has the opposites read and written:
-// R is U, and T is S, of the opposites, and one loop serves both.
+// first marks read, of other parts, which all lie before `m`. Where marks are made from others, `opposite` has the opposites read and
+// written: R is U, and T is S, of the opposites, and one loop serves both. Where they are copied it has the opposites read.
 ghost use mathlib.Core.Path.{_≡_};
 ghost use mathlib.Core.Bool.{false, _||_};
 ghost use Prim.Native.Nat.{_+_, _-_, _≤_, _<_};
