@@ -38,7 +38,8 @@ module _ (rule plan table : List ℕ) where
     pub witnesses : WitnessesInOrder (viewsOf rule) (partCount rule) plan (markOf rule plan table) (witnessAt rule plan table)
 
   -- What refusals 9, 10 and 11 say of the published truth: every lower part is right; on 10 the truth of part i is not the same on
-  -- all passes of the row; on 9 and on 11 it is settled, and on 9 its marks are not all true, on 11 its witness is not in order.
+  -- all passes of the row, which is of an atom the lowest such row and of an operator row P; on 9 and on 11 it is settled, and on 9 its
+  -- marks are not all true, on 11 its witness is not in order, and some number would be exactly where its marks are true.
   unfoldable pub EquationMeans : ℕ → ℕ → Type 0
   EquationMeans i row = refusal.EquationMeans (viewsOf rule) (partCount rule) plan (markOf rule plan table) (witnessAt rule plan table) i row
 

@@ -57,6 +57,7 @@ module _ (rule plan laid scratch laid′ scratch′ : List ℕ) where
     scratchBytes = p .scratchBytes;
     front = λ h. p .planBytes ∙ at-front h;
     clears = λ h. p .clears word (passes h);
+    laidPasses = λ h. p .laidPasses word (passes h);
     sameReading = λ h. p .sameReading word (passes h);
     sameLead = λ h. p .sameLead word (passes h);
     sameTops = λ h. p .sameTops word (passes h);

@@ -73,10 +73,14 @@ pub record SettleWordPromise (rule plan laid scratch laid′ scratch′ : List �
   pub scratchBytes : scratch′ ≡ scratchAfter rule plan laid scratch
   -- a number below 256 is how many passes are laid out: the new plan is at the front of the buffer,
   pub front : word < 256 → laid′ ≡ laidOut plan word ++ drop (length (laidOut plan word)) laid
-  -- clears refusals 4 to 6 for the rule, and has the same reading at every position and channel as the first, the exact value, also
-  -- where it is pinned, the same lead-in rows with the same readings and the same tops, so that the same is seen at every position,
-  -- before the start too;
+  -- clears refusals 4 to 6 for the rule, has as many channels and cycle rows as the first, and so many passes of the cycle as start
+  -- rows more, and has the same reading at every position and channel as the first, the exact value, also where it is pinned, the same
+  -- lead-in rows with the same readings and the same tops, so that the same is seen at every position, before the start too;
   pub clears : word < 256 → planOutcome (channelCount rule) (laidOut plan word) ≡ Clear
+  pub laidPasses : word < 256
+      → (channels (laidOut plan word) ≡ channels plan)
+      × (cycleRows (laidOut plan word) ≡ cycleRows plan)
+      × (startRows (laidOut plan word) ≡ startRows plan + word * cycleRows plan)
   pub sameReading : word < 256 → (channel : ℕ) → channel < channels plan → (t : ℕ) → readingAt (laidOut plan word) channel t ≡ readingAt plan channel t
   pub sameLead : word < 256
       → (leadRows (laidOut plan word) ≡ leadRows plan)

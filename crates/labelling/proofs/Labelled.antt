@@ -8,7 +8,7 @@ use mathlib.Core.Logic.{by-cases, _⊎_, inl, inr, ⊎-elim, Iff·rfl}
 use Prim.Native.Nat.{ℕ, zero, suc, _+_, _-_, _≤_, _<_}
 use native.Mathlib.Decide.{decLt}
 use native.Mathlib.Omega.{arith}
-use lib.Dec.{T, leb, ltb, eqb, le→leb, lt→ltb, leb→le, ltb→lt, eqb-refl, eqb→eq}
+use lib.Dec.{T, leb, ltb, eqb, leb→le, ltb→lt, eqb-refl, eqb→eq}
 use Rattle.cltlb.specs.declared.Binary.{Binary}
 use Rattle.cltlb.specs.declared.Binary.the-variants.{And, Or, Until, Release, Since, Trigger}
 use Rattle.cltlb.specs.declared.Operator.{Operator}
@@ -27,6 +27,7 @@ use Rattle.marks.specs.Equations.{besideOf, watched, stepOn, markBeside, operat
 use Rattle.marks.specs.Parts.{noWitness, isCycleRow, names, witnessTwo, witnessOfOperator, witnessInOrder, running}
 use Rattle.marks.proofs.Rows.{lastRow, last-is-row, start-to-last, after-is-row}
 use Rattle.marks.proofs.Tests.{T-dec, and-iff, or-iff}
+use Rattle.marks.proofs.Witnesses.{Named, is-named}
 use Rattle.marks.proofs.ByMarks.{truth-watched}
 use Rattle.marks.proofs.Unrolled.{OnRows}
 use Rattle.labelling.specs.Labels.{following, labelBy, operatorLabel, labelOf, orNone, lowestWitness}
@@ -64,10 +65,6 @@ module _ (plan : List ℕ) (hC : 1 ≤ cycleRows plan) (mark : ℕ → ℕ → B
   abbrev C : ℕ
   C = cycleRows plan
 
-  -- a cycle row on which a test is true
-  abbrev Served : (ℕ → Bool) → Type 0
-  Served f = (w : ℕ) × (P ≤ w) × (w < rows plan) × T (f w)
-
   -- the row after a cycle row is one
   stays : (row : ℕ) → P ≤ row → row < rows plan → P ≤ after P C row
   unfolding rows last
@@ -76,7 +73,7 @@ module _ (plan : List ℕ) (hC : 1 ≤ cycleRows plan) (mark : ℕ → ℕ → B
       (λ q. let e : row ≡ P + C - 1 = omega arith in let next : after P C row ≡ P = ap (after P C) e ∙ after-last P C in omega arith)
 
   -- U that comes out true over some rows has found b on one of them,
-  until-found : (a b k row : ℕ) → P ≤ row → row < rows plan → T (following P C mark (Two Until a b) k row) → Served (mark b)
+  until-found : (a b k row : ℕ) → P ≤ row → row < rows plan → T (following P C mark (Two Until a b) k row) → Named plan (mark b)
   unfolding following
   until-found a b zero row h l t = absurd t
   until-found a b (suc k) row h l t =
@@ -86,7 +83,7 @@ module _ (plan : List ℕ) (hC : 1 ≤ cycleRows plan) (mark : ℕ → ℕ → B
       (or-iff (mark b row) (mark a row && rest) Iff·rfl Iff·rfl .0 t)
 
   -- and R that comes out false has missed it.
-  release-missed : (a b k row : ℕ) → P ≤ row → row < rows plan → T (not (following P C mark (Two Release a b) k row)) → Served (λ w. not (mark b w))
+  release-missed : (a b k row : ℕ) → P ≤ row → row < rows plan → T (not (following P C mark (Two Release a b) k row)) → Named plan (λ w. not (mark b w))
   unfolding following
   release-missed a b zero row h l t = absurd t
   release-missed a b (suc k) row h l t =
@@ -103,16 +100,10 @@ module _ (plan : List ℕ) (hC : 1 ≤ cycleRows plan) (mark : ℕ → ℕ → B
   abbrev inOrder : View → ℕ → ℕ → Bool
   inOrder p i w = witnessInOrder P C mark p i w
 
-  named-row : (f : ℕ → Bool) (w : ℕ) → P ≤ w → w < rows plan → T (f w) → T (names P C f w)
-  unfolding names isCycleRow rows
-  named-row f w h l t =
-      and-iff (isCycleRow P C w) (f w) Iff·rfl Iff·rfl .1
-      (and-iff (leb P w) (ltb w (P + C)) Iff·rfl Iff·rfl .1 (le→leb P w h, lt→ltb w (P + C) l), t)
-
   -- No cycle row serves, though one has to: that can't be.
-  none-named : (f : ℕ → Bool) → FalseFrom (names P C f) P (P + C) → Served f → ⊥
+  none-named : (f : ℕ → Bool) → FalseFrom (names P C f) P (P + C) → Named plan f → ⊥
   unfolding rows
-  none-named f lacks s = subst T (lacks (s .0) (s .1) (s .2)) (named-row f (s .0) (s .1) (s .2) (s .3))
+  none-named f lacks s = subst T (lacks (s .0) (s .1) (s .2)) (is-named plan (s .0) f (s .1) (s .2) (s .3))
 
   -- Where no cycle row serves, no witness is asked for.
   two-none : (o : Binary) (a b i : ℕ) → Labelled plan mark (view.Operator (Two o a b)) i

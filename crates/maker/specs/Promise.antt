@@ -39,7 +39,7 @@ LowestWitness rule plan table i =
     (w : ℕ) → T (witnessInOrder (startRows plan) (cycleRows plan) (markOf rule plan table) (viewsOf rule i) i w) → witnessAt rule plan table i ≤ w
 
 -- What 14 of part i and a row says, as 10 does: every lower part is settled; the row is a cycle row on which the published truth of
--- part i is not the same on all passes, of an atom the lowest such row.
+-- part i is not the same on all passes, of an atom the lowest such row, of an operator row P.
 unfoldable pub OpenMeans : List ℕ → List ℕ → ℕ → ℕ → Type 0
 OpenMeans rule plan i row =
     refusal.ClosingMeans (viewsOf rule) (partCount rule) plan (madeMark (viewsOf rule) plan) (madeWitness (viewsOf rule) plan) i row

@@ -18,12 +18,12 @@ use Rattle.refusal.specs.declared.Outcome.the-variants.{Clear}
 use Rattle.refusal.proofs.First.{inTurn-clear}
 use Rattle.plan.specs.Layout.{startRows, cycleRows, rows}
 use Rattle.plan.specs.Positions.{passOf}
-use Rattle.marks.specs.Parts.{witnessInOrder, partOutcome}
+use Rattle.marks.specs.Parts.{witnessInOrder, closingOutcome, equationOutcome, partOutcome}
 use Rattle.marks.specs.Meaning.{Truth, SameOn, PartSettled, MarkTrue, PartMarksTrue, PartWitnessed, Settled, MarksTrue, WitnessesInOrder}
 use Rattle.marks.proofs.Tests.{T-path, T-ext}
 use Rattle.marks.proofs.Rows.{rowAt, first-position, start-row, from-start, is-row, row-0, again, row-and-pass}
 use Rattle.marks.proofs.Endless.{Agrees, markAt}
-use Rattle.marks.proofs.Parts.{part-accepted}
+use Rattle.marks.proofs.Parts.{right-served, passed-right, part-accepted}
 
 module _ (plan : List ℕ) (parts : ℕ → View) (n : ℕ) (mark : ℕ → ℕ → Bool) where
   -- The marks of part i are its published truth at every position.
@@ -48,10 +48,11 @@ module _ (plan : List ℕ) (hC : 1 ≤ cycleRows plan) (parts : ℕ → View) (n
   unfolding PartMarksTrue MarkTrue
   true-marks i h row high = Iff·trans (T-path (ap (mark i) (sym (first-position plan row high)))) (h row)
 
-  settled-everywhere : Settled parts n plan → MarksTrue parts n plan mark → TrueEverywhere plan parts n mark
-  unfolding Settled PartSettled SameOn MarksTrue PartMarksTrue MarkTrue
-  settled-everywhere settled marks i l t =
-      Iff·trans (marks i l row (is-row plan hC t)) (by-cases (decLt t (startRows plan)) start (λ q. cycle (omega arith)))
+  -- Where the part is settled and its marks are true on the rows, they are its truth at every position.
+  pub settled-true : (i : ℕ) → PartSettled parts plan i → PartMarksTrue parts plan i mark → TrueAt plan parts n mark i
+  unfolding PartSettled SameOn PartMarksTrue MarkTrue
+  settled-true i settled marks t =
+      Iff·trans (marks row (is-row plan hC t)) (by-cases (decLt t (startRows plan)) start (λ q. cycle (omega arith)))
     where
       row : ℕ
       row = rowAt plan t
@@ -62,16 +63,29 @@ module _ (plan : List ℕ) (hC : 1 ≤ cycleRows plan) (parts : ℕ → View) (n
       cycle : startRows plan ≤ t → Truth parts plan i row ↔ Truth parts plan i t
       cycle q =
           subst⁻¹ (λ (x : ℕ). Truth parts plan i row ↔ Truth parts plan i x) (row-and-pass plan hC t q)
-          (settled i l row (from-start plan t q) (is-row plan hC t) (passOf (startRows plan) (cycleRows plan) t))
+          (settled row (from-start plan t q) (is-row plan hC t) (passOf (startRows plan) (cycleRows plan) t))
 
   -- The marks are the truth at every position exactly where the parts are settled and the marks are true on the rows.
   pub everywhere-iff : TrueEverywhere plan parts n mark ↔ (Settled parts n plan × MarksTrue parts n plan mark)
   unfolding Settled MarksTrue
-  everywhere-iff = (λ h. (λ i l. true-settled i (h i l), λ i l. true-marks i (h i l)), λ p. settled-everywhere (p .0) (p .1))
+  everywhere-iff = (λ h. (λ i l. true-settled i (h i l), λ i l. true-marks i (h i l)), λ p i l. settled-true i (p .0 i l) (p .1 i l))
 
 -- What refusals 1 to 3 clear of the parts: they fit, with v channels.
 module _ (plan : List ℕ) (hC : 1 ≤ cycleRows plan) (parts : ℕ → View) (v n : ℕ)
     (fits : (i : ℕ) → i < n → viewFits v i (parts i) ≡ true) where
+  -- One part, where the marks of the lower ones are the truth: where it passes 10 and 9, its own are the truth if some number is in order
+  -- as its witness, and where they are the truth, some number is.
+  module _ (mark : ℕ → ℕ → Bool) (i : ℕ) (l : i < n) (named : (a : ℕ) → a < i → TrueAt plan parts n mark a) where
+    pub passed-true : closingOutcome plan mark (parts i) i ≡ Clear → equationOutcome plan mark (parts i) i ≡ Clear → (w : ℕ)
+        → T (witnessInOrder (startRows plan) (cycleRows plan) mark (parts i) i w) → TrueAt plan parts n mark i
+    unfolding Truth
+    passed-true closes met w ok =
+        rw (formula-made parts v n fits i l) (passed-right plan mark (formulaOf parts) hC i named v (parts i) w (fits i l) closes met ok)
+
+    pub true-served : TrueAt plan parts n mark i → (w : ℕ) × T (witnessInOrder (startRows plan) (cycleRows plan) mark (parts i) i w)
+    unfolding Truth
+    true-served = rw (formula-made parts v n fits i l) (right-served plan mark (formulaOf parts) hC i named v (parts i) (fits i l))
+
   module _ (mark : ℕ → ℕ → Bool) (witness : ℕ → ℕ) where
     -- One part, where the marks of the lower ones are the truth.
     one : (i : ℕ) → i < n → ((a : ℕ) → a < i → TrueAt plan parts n mark a)

@@ -59,6 +59,7 @@ module _ (plan : List ℕ) (F : ℕ → Type 0) where
   Open p i r =
       (row : ℕ) × (Closing i row ≡ r) × (startRows plan ≤ row) × (row < rows plan) × DiffersOn plan F row
       × (isAtom p ≡ true → (q : ℕ) → startRows plan ≤ q → q < row → SameOn plan F q)
+      × (isAtom p ≡ false → row ≡ startRows plan)
 
 -- ---- comparisons
 
@@ -85,6 +86,7 @@ module _ (plan : List ℕ) (hC : 1 ≤ cycleRows plan) (x : Atom) (i : ℕ) (F :
             let high : q < startRows plan + cycleRows plan = omega arith in
             same-truth (startRows plan) (cycleRows plan) q F (verdictOf plan x q) (judged .verdict q low high) (at .3 q low below)
             q (q + k * cycleRows plan) (first-position plan q high) (again plan hC q k low ∙ first-position plan q high),
+        λ operator. absurd (true≢false operator),
       )
 
   -- One that closes is at every position what it is on the row.
@@ -225,7 +227,7 @@ module _ (plan : List ℕ) (mark : ℕ → ℕ → Bool) (f : ℕ → Formula) (
       → Open plan (This plan mark f (view.Operator o)) (view.Operator o) i r
   unfolding closingOutcome closes closesBy rows
   operator-open o fits r e =
-      (P, u .1, omega arith, omega arith, go (besideOf o) refl (is-due plan mark f hC i named v (view.Operator o) fits), λ atom q low below. absurd (true≢false (sym atom)))
+      (P, u .1, omega arith, omega arith, go (besideOf o) refl (is-due plan mark f hC i named v (view.Operator o) fits), λ atom q low below. absurd (true≢false (sym atom)), λ _. refl)
     where
       u : (closes P C mark o ≡ false) × (Closing i P ≡ r)
       u = unless-refused (closes P C mark o) (Closing i P) r e

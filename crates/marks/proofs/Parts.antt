@@ -6,7 +6,7 @@ use mathlib.Core.List.{List}
 use mathlib.Core.Logic.{_↔_, Iff·rfl, Iff·symm, Iff·trans, Iff·and, _⊎_, inl, inr}
 use Prim.Native.Nat.{ℕ, suc, _+_, _≤_, _<_}
 use native.Mathlib.Omega.{arith}
-use lib.Dec.{T}
+use lib.Dec.{T, eqb-refl}
 use Rattle.cltlb.specs.Truth.{Formula, BinaryHolds, Holds}
 use Rattle.cltlb.specs.Views.{twoView}
 use Rattle.cltlb.specs.Parts.{formulaFrom}
@@ -28,14 +28,14 @@ use Rattle.plan.specs.Run.{runOf}
 use Rattle.verdict.specs.Rows.{atomAt}
 use Rattle.verdict.proofs.Decisions.{T-true}
 use Rattle.verdict.proofs.Verdicts.{atom-tells}
-use Rattle.marks.specs.Parts.{closes, closesBy, equationOutcome, closingOutcome, witnessInOrder, witnessOutcome, partOutcome}
+use Rattle.marks.specs.Parts.{noWitness, witnessTwo, witnessOfOperator, witnessInOrder, closes, closesBy, equationOutcome, closingOutcome, witnessOutcome, partOutcome}
 use Rattle.marks.proofs.Tests.{T-path, T-ext, and-iff, or-iff}
 use Rattle.marks.proofs.Rows.{once-more}
 use Rattle.marks.proofs.Endless.{Agrees, markAt, due}
 use Rattle.marks.proofs.Temporal.{unary-agrees, until-agrees, until-by, release-agrees, release-by, since-by, trigger-by, meets-agrees}
 use Rattle.marks.proofs.Comparisons.{judged-atom}
 use Rattle.marks.proofs.Unrolled.{Meets, meets-iff}
-use Rattle.marks.proofs.Witnesses.{until-decides, release-decides}
+use Rattle.marks.proofs.Witnesses.{until-decides, release-decides, until-served, release-served}
 
 module _ (plan : List ℕ) (mark : ℕ → ℕ → Bool) (f : ℕ → Formula) where
   -- The marks of part i are the truth of a formula.
@@ -106,6 +106,23 @@ module _ (plan : List ℕ) (mark : ℕ → ℕ → Bool) (f : ℕ → Formula) w
         let l = one-lower i o a (operator-fits v i (One o a) fits) in byEarlier (λ _ t _. unary-agrees (Of a) (at a) (named a l) o t)
     is-due v (view.Operator (Two o a b)) fits = let l = two-lower i o a b (operator-fits v i (Two o a b) fits) in two-due o a b (l .0) (l .1)
 
+    -- Marks that are the truth have a witness in order.
+    pub right-served : (v : ℕ) (p : View) → viewFits v i p ≡ true → Right i (formulaFrom p f)
+        → (w : ℕ) × T (witnessInOrder (startRows plan) (cycleRows plan) mark p i w)
+    unfolding formulaFrom Holds BinaryHolds witnessInOrder witnessOfOperator witnessTwo
+    right-served v (view.Atom x) fits right = (noWitness, eqb-refl noWitness)
+    right-served v (view.Operator (One o a)) fits right = (noWitness, eqb-refl noWitness)
+    right-served v (view.Operator (Two binary.And a b)) fits right = (noWitness, eqb-refl noWitness)
+    right-served v (view.Operator (Two binary.Or a b)) fits right = (noWitness, eqb-refl noWitness)
+    right-served v (view.Operator (Two binary.Until a b)) fits right =
+        let l = two-lower i binary.Until a b (operator-fits v i (Two binary.Until a b) fits) in
+        until-served plan mark hC (Of a) (Of b) a b i (named b (l .1)) right
+    right-served v (view.Operator (Two binary.Release a b)) fits right =
+        let l = two-lower i binary.Release a b (operator-fits v i (Two binary.Release a b) fits) in
+        release-served plan mark hC (Of a) (Of b) a b i (named b (l .1)) right
+    right-served v (view.Operator (Two binary.Since a b)) fits right = (noWitness, eqb-refl noWitness)
+    right-served v (view.Operator (Two binary.Trigger a b)) fits right = (noWitness, eqb-refl noWitness)
+
     -- Marks that meet the equation at every position are the truth, with a witness in order, and the truth meets it.
     meets-right : (p : View) (w : ℕ) → Due p i → T (witnessInOrder (startRows plan) (cycleRows plan) mark p i w)
         → Meets plan mark p i ↔ Right i (formulaFrom p f)
@@ -114,6 +131,15 @@ module _ (plan : List ℕ) (mark : ℕ → ℕ → Bool) (f : ℕ → Formula) w
       decides w ok,
       λ right t. T-ext (markAt plan mark i t) (due plan mark p (markAt plan mark i) t) (Iff·trans (right t) (Iff·symm (by t (right (suc t))))),
     )
+
+    passes-iff : (v : ℕ) (p : View) → viewFits v i p ≡ true
+        → ((closingOutcome plan mark p i ≡ Clear) × (equationOutcome plan mark p i ≡ Clear)) ↔ Meets plan mark p i
+    passes-iff v p fits = meets-iff plan mark hC p i (λ x e. (_, judged-atom plan hC v x (atom-fits v i x (subst (λ q. viewFits v i q ≡ true) e fits))))
+
+    -- Marks that pass 10 and 9 are the truth, with a witness in order.
+    pub passed-right : (v : ℕ) (p : View) (w : ℕ) → viewFits v i p ≡ true → closingOutcome plan mark p i ≡ Clear → equationOutcome plan mark p i ≡ Clear
+        → T (witnessInOrder (startRows plan) (cycleRows plan) mark p i w) → Right i (formulaFrom p f)
+    passed-right v p w fits closes met ok = meets-right p w (is-due v p fits) ok .0 (passes-iff v p fits .0 (closes, met))
 
     pub part-accepted : (v : ℕ) (p : View) (w : ℕ) → viewFits v i p ≡ true
         → (partOutcome plan mark p i w ≡ Clear) ↔ (Right i (formulaFrom p f) × T (witnessInOrder (startRows plan) (cycleRows plan) mark p i w))
@@ -127,7 +153,7 @@ module _ (plan : List ℕ) (mark : ℕ → ℕ → Bool) (f : ℕ → Formula) w
         ))
       where
         whole : ((closingOutcome plan mark p i ≡ Clear) × (equationOutcome plan mark p i ≡ Clear)) ↔ Meets plan mark p i
-        whole = meets-iff plan mark hC p i (λ x e. (_, judged-atom plan hC v x (atom-fits v i x (subst (λ q. viewFits v i q ≡ true) e fits))))
+        whole = passes-iff v p fits
 
         right : T (witnessInOrder (startRows plan) (cycleRows plan) mark p i w) → Meets plan mark p i ↔ Right i (formulaFrom p f)
         right = meets-right p w (is-due v p fits)

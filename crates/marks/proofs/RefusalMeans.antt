@@ -28,7 +28,7 @@ use Rattle.marks.proofs.Parts.{Ahead}
 use Rattle.marks.proofs.Faults.{met-open, equation-broken}
 use Rattle.marks.proofs.ByTruth.{Open, closing-open, closing-repeats}
 use Rattle.marks.proofs.Repeating.{same-differs, settled-repeats}
-use Rattle.marks.proofs.Accepted.{TrueAt, true-settled, true-marks, below}
+use Rattle.marks.proofs.Accepted.{TrueAt, true-settled, true-marks, settled-true, passed-true, true-served, below}
 
 module _ (plan : List ℕ) (parts : ℕ → View) (n : ℕ) (mark : ℕ → ℕ → Bool) (witness : ℕ → ℕ) where
   -- what a refusal of the table says, by its number
@@ -140,24 +140,38 @@ module _ (plan : List ℕ) (hC : 1 ≤ cycleRows plan) (parts : ℕ → View) (v
         → (row : ℕ) × (Closing i row ≡ r) × ClosingMeans parts n plan mark witness i row
     closing-says r e =
         let s = opened r e in
-        (s .0, s .1, record { fault = first-fault; in-cycle = (s .2, s .3); differs = s .4; lowest = s .5 })
+        (s .0, s .1, record { fault = first-fault; in-cycle = (s .2, s .3); differs = s .4; lowest = s .5; at-start = s .6 })
 
     closing-means : (r : Refusal) → closingOutcome plan mark (parts i) i ≡ Refused r → Means plan parts n mark witness r
     unfolding Means
     closing-means r e = let s = closing-says r e in subst (Means plan parts n mark witness) (s .1) (s .2)
 
-    witness-means : closingOutcome plan mark (parts i) i ≡ Clear → (r : Refusal) → witnessOutcome plan mark (parts i) i (witness i) ≡ Refused r → Means plan parts n mark witness r
+    -- Of a part that passes 10 and 9 some number is in order as its witness exactly where its marks are true.
+    served : closingOutcome plan mark (parts i) i ≡ Clear → equationOutcome plan mark (parts i) i ≡ Clear
+        → ((w : ℕ) × T (witnessInOrder (startRows plan) (cycleRows plan) mark (parts i) i w)) ↔ PartMarksTrue parts plan i mark
+    served closes met = (
+      λ s. true-marks plan hC parts n mark i (passed-true plan hC parts v n fits mark i l (λ a q. lower a q .0) closes met (s .0) (s .1)),
+      λ all. true-served plan hC parts v n fits mark i l (λ a q. lower a q .0) (settled-true plan hC parts n mark i (closed closes) all),
+    )
+
+    witness-means : closingOutcome plan mark (parts i) i ≡ Clear → equationOutcome plan mark (parts i) i ≡ Clear
+        → (r : Refusal) → witnessOutcome plan mark (parts i) i (witness i) ≡ Refused r → Means plan parts n mark witness r
     unfolding Means witnessOutcome PartWitnessed
-    witness-means closes r e =
+    witness-means closes met r e =
         let test = witnessInOrder (startRows plan) (cycleRows plan) mark (parts i) i (witness i) in
         subst (Means plan parts n mark witness) (unless-refused test (Witness i) r e .1)
-        (record { fault = first-fault; settled = closed closes; not-in-order = λ ok. clear-refused (sym e ∙ unless-clear-T test (Witness i) .1 ok) })
+        (record {
+          fault = first-fault;
+          settled = closed closes;
+          not-in-order = λ ok. clear-refused (sym e ∙ unless-clear-T test (Witness i) .1 ok);
+          serves = served closes met;
+        })
 
     part-means : (r : Refusal) → partOutcome plan mark (parts i) i (witness i) ≡ Refused r → Means plan parts n mark witness r
     unfolding partOutcome
     part-means r e =
         ⊎-elim (closing-means r)
-        (λ h. ⊎-elim (equation-means (h .0) r) (λ k. witness-means (h .0) r (k .1))
+        (λ h. ⊎-elim (equation-means (h .0) r) (λ k. witness-means (h .0) (k .0) r (k .1))
         (orElse-refused (equationOutcome plan mark (parts i) i) (witnessOutcome plan mark (parts i) i (witness i)) r (h .1)))
         (orElse-refused (closingOutcome plan mark (parts i) i) (equationOutcome plan mark (parts i) i orElse witnessOutcome plan mark (parts i) i (witness i)) r e)
 

@@ -2,12 +2,15 @@
 use Prim.Native.Nat.{ℕ, _≤_, _<_}
 use mathlib.Core.Path.{_≡_}
 use mathlib.Core.List.{List}
-use mathlib.Core.Bool.{Bool, true}
+use mathlib.Core.Bool.{Bool, true, false}
+use mathlib.Core.Logic.{_↔_}
+use lib.Dec.{T}
 use Rattle.cltlb.specs.Views.{twoView, isAtom}
 use Rattle.cltlb.specs.declared.View.{View}
 use Rattle.cltlb.specs.declared.Binary.the-variants.{Until, Release}
 use Rattle.plan.specs.Layout.{startRows, cycleRows, rows}
 use Rattle.plan.specs.Positions.{after}
+use Rattle.marks.specs.Parts.{witnessInOrder}
 use Rattle.marks.specs.Meaning.{Truth, SameOn, DiffersOn, PartSettled, MarkTrue, PartMarksTrue, PartWitnessed}
 
 module _ (parts : ℕ → View) (n : ℕ) (plan : List ℕ) (mark : ℕ → ℕ → Bool) (witness : ℕ → ℕ) where
@@ -44,11 +47,17 @@ module _ (parts : ℕ → View) (n : ℕ) (plan : List ℕ) (mark : ℕ → ℕ 
     pub in-cycle : (startRows plan ≤ row) × (row < rows plan)
     -- on which the part's truth is not the same on all passes, whatever its marks say;
     pub differs : DiffersOn plan (Truth parts plan i) row
-    -- of an atom it is the lowest such row
+    -- of an atom it is the lowest such row,
     pub lowest : isAtom (parts i) ≡ true → (q : ℕ) → startRows plan ≤ q → q < row → SameOn plan (Truth parts plan i) q
+    -- of an operator it is row P
+    pub at-start : isAtom (parts i) ≡ false → row ≡ startRows plan
 
-  -- 11 of part i: it is settled, and its witness is not in order
+  -- 11 of part i
   pub record WitnessMeans (i : ℕ) : Type 0 where
     pub fault : FirstFault i
+    -- the plan is not at fault there: the part is settled
     pub settled : PartSettled parts plan i
+    -- its witness is not in order,
     pub not-in-order : ¬ PartWitnessed parts plan i mark witness
+    -- and some number is in order in its place exactly where the marks of the part are true
+    pub serves : ((w : ℕ) × T (witnessInOrder (startRows plan) (cycleRows plan) mark (parts i) i w)) ↔ PartMarksTrue parts plan i mark

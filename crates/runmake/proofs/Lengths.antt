@@ -19,9 +19,12 @@ use Rattle.inputs.proofs.Ways.{ready, refused}
 use Rattle.inputs.proofs.Parts.{few-there}
 
 module _ (rule plan : List ℕ) where
-  -- of a rule and a plan that clear 1 to 6
+  -- of a rule and a plan that clear 1 to 6, and of others
   abbrev pub IsLength : ℕ → Type 0
-  IsLength r = inputsOutcome rule plan ≡ Clear → r ≡ 4 + partCount rule * rows plan + 2 * partCount rule
+  IsLength r =
+      (r ≤ 16516)
+      × (inputsOutcome rule plan ≡ Clear → r ≡ 4 + partCount rule * rows plan + 2 * partCount rule)
+      × (¬ (inputsOutcome rule plan ≡ Clear) → r ≡ 0)
 
   module _ {n : ℕ} {z : Sizes} (e : inputsRead rule plan ≡ Fit n z) where
     -- There are few parts, rows and marks,
@@ -29,11 +32,11 @@ module _ (rule plan : List ℕ) where
     few-marks = let few = few-there rule plan (ready rule plan e .1) in (few .0, few .1, area _ _ (few .0) (few .1))
 
     -- so that the table is short.
-    pub length-read : (4 + n * allRows z + 2 * n ≤ 16516) × IsLength (4 + n * allRows z + 2 * n)
+    pub length-read : IsLength (4 + n * allRows z + 2 * n)
     length-read =
         let there = ready rule plan e .1 in
-        (omega (arith, few-marks .0, few-marks .2), λ _. rw (rows-are (there .fits), ← there .parts) refl)
+        (omega (arith, few-marks .0, few-marks .2), (λ _. rw (rows-are (there .fits), ← there .parts) refl), λ not-clear. absurd (not-clear (ready rule plan e .0)))
 
   -- Where they do not, none is asked for.
-  pub length-refused : {r : Refusal} → inputsRead rule plan ≡ Refused r → (0 ≤ 16516) × IsLength 0
-  length-refused e = (omega arith, λ clear. absurd (clear-refused (sym (refused rule plan e) ∙ clear)))
+  pub length-refused : {r : Refusal} → inputsRead rule plan ≡ Refused r → IsLength 0
+  length-refused e = (omega arith, (λ clear. absurd (clear-refused (sym (refused rule plan e) ∙ clear))), λ _. refl)

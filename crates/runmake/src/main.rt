@@ -14,7 +14,7 @@ use libc::STDOUT_FILENO;
 
 // How long the mark table is; 0 where the rule or the plan is refused, when a buffer of any length is refused alike.
 fn table_length(rule: &[u8], plan: &[u8]) -> usize
-    ensures { λ r. ⌜ (r ≤ 16516) × (inputsOutcome (now (rule .entry)) (now (plan .entry)) ≡ Clear → r ≡ 4 + partCount (now (rule .entry)) * rows (now (plan .entry)) + 2 * partCount (now (rule .entry))) ⌝ }
+    ensures { λ r. ⌜ (r ≤ 16516) × (inputsOutcome (now (rule .entry)) (now (plan .entry)) ≡ Clear → r ≡ 4 + partCount (now (rule .entry)) * rows (now (plan .entry)) + 2 * partCount (now (rule .entry))) × (¬ (inputsOutcome (now (rule .entry)) (now (plan .entry)) ≡ Clear) → r ≡ 0) ⌝ }
 {
     match inputs::read_inputs(rule, plan) {
         InputsRead::Fit { parts, sizes } => 4 + parts * (sizes.start + sizes.cycle) + 2 * parts,

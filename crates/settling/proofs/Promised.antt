@@ -229,6 +229,9 @@ module _ (rule plan laid scratch : List ℕ) where
     scratchBytes = g;
     clears = λ n q. let p = passes-found e n q in
         laid-clear plan bytes (channelCount rule) (plan-clear rule plan bytes (p .0)) n (can-be-laid rule plan bytes (p .0) n (p .1));
+    laidPasses = λ n q. let p = passes-found e n q in
+        let own = laid-fitting plan (sizes-fit rule plan bytes (p .0)) n (can-be-laid rule plan bytes (p .0) n (p .1)) bytes in
+        (own .v-is, own .c-is, own .p-is);
     sameReading = λ n q c l t. let p = passes-found e n q in
         laid-reading-at plan (sizes-fit rule plan bytes (p .0)) n (can-be-laid rule plan bytes (p .0) n (p .1)) bytes c l t;
     sameLead = λ n q. let p = passes-found e n q in (

@@ -21,7 +21,7 @@ use Rattle.verdict.proofs.Passes.{PassMeans}
 use Rattle.verdict.proofs.Cycles.{ComparedAt, test-decides}
 use Rattle.words.specs.inner.Words.{markAt}
 use Rattle.words.specs.inner.Written.{Marked}
-use Rattle.words.proofs.Marking.{marked-up}
+use Rattle.words.proofs.Marking.{marked-others, marked-up}
 use Rattle.marks.specs.Parts.{isChanges}
 use Rattle.settling.specs.inner.Scratch.{changingFrom, isNone}
 use Rattle.settling.proofs.Searched.{not-so}
@@ -68,7 +68,7 @@ module _ (plan : List ℕ) {z : Sizes} (fit : Fitting plan z) (x : Comparison) (
     below (suc n) row l q =
         let some-cycle = fit .a-cycle in
         by-cases (decLt row (z .start + z .cycle))
-        (λ s. repeated .others row (inl s) ∙ tested .own row (omega arith) s)
+        (λ s. marked-others repeated i row (inl s) ∙ tested .own row (omega arith) s)
         (λ s. repeated .own row (omega arith) q ∙ below n (row - z .cycle) (omega arith) (omega arith) ∙ truth-again row (omega arith))
 
     pub marks-repeat : z .start + z .cycle ≤ count → Marked old new i 0 count (testAt plan x)

@@ -12,7 +12,7 @@ use Rattle.refusal.specs.declared.Refusal.the-variants.{NoLayout}
 use Rattle.rule.specs.Layout.{partCount, channelCount}
 use Rattle.rule.specs.Take.{viewsOf}
 use Rattle.rule.specs.Sheet.{sheetOutcome}
-use Rattle.plan.specs.Layout.{channels, leadRows, rows, topOf, storedReading, driftOf}
+use Rattle.plan.specs.Layout.{channels, startRows, cycleRows, leadRows, rows, topOf, storedReading, driftOf}
 use Rattle.plan.specs.Refusals.{planOutcome}
 use Rattle.plan.specs.Run.{readingAt, runOf}
 use Rattle.laid_out.specs.LaidOut.{rowsAfter, laidOut, canBeLaid}
@@ -57,6 +57,11 @@ pub record SettlePromise (rule plan laid scratch laid′ scratch′ : List ℕ) 
   pub scratchBytes : scratch′ ≡ scratchAfter rule plan laid scratch
   -- the new plan clears refusals 4 to 6 for the rule,
   pub clears : (n : ℕ) → answer ≡ L.Passes n → planOutcome (channelCount rule) (laidOut plan n) ≡ Clear
+  -- has as many channels and cycle rows as the first, and n passes of the cycle as start rows more,
+  pub laidPasses : (n : ℕ) → answer ≡ L.Passes n
+      → (channels (laidOut plan n) ≡ channels plan)
+      × (cycleRows (laidOut plan n) ≡ cycleRows plan)
+      × (startRows (laidOut plan n) ≡ startRows plan + n * cycleRows plan)
   -- and has the same reading at every position and channel as the first, the exact value, also where it is pinned,
   pub sameReading : (n : ℕ) → answer ≡ L.Passes n → (channel : ℕ) → channel < channels plan → (t : ℕ) → readingAt (laidOut plan n) channel t ≡ readingAt plan channel t
   -- the same lead-in rows with the same readings,

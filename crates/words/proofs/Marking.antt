@@ -31,7 +31,7 @@ module _ {old new : List ℕ} (part row : ℕ) (mark : Bool) {word put : ℕ} (w
     long = done .long;
     own = λ r h l. let same : r ≡ row = omega arith in
         subst⁻¹ (λ (q : ℕ). bitOf (wordOn new q) part ≡ mark) same (ap (λ (x : ℕ). bitOf x part) now-there ∙ bit-set (wordOn old row) part mark .0);
-    others = λ r h. elsewhere r (⊎-elim inl (λ (a : row + 1 ≤ r). inr (omega arith)) h) part;
+    others = λ r h. done .others r (⊎-elim inl (λ (a : row + 1 ≤ r). inr (omega arith)) h);
     lower = λ a l r. by-cases (decLt r row) (λ s. elsewhere r (inl s) a) (λ s.
         by-cases (decLt row r) (λ t. elsewhere r (inr t) a) (λ t. on-row r (omega arith) a l));
   }
@@ -39,6 +39,12 @@ module _ {old new : List ℕ} (part row : ℕ) (mark : Bool) {word put : ℕ} (w
 -- No mark is written.
 pub marked-none : (old : List ℕ) (part low : ℕ) (mark : ℕ → Bool) → Marked old old part low low mark
 marked-none old part low mark = record { long = refl; own = λ r h l. absurd (omega arith); others = λ r h. refl; lower = λ a l r. refl }
+
+-- On the other rows the marks of every part are the old ones.
+pub marked-others : {old new : List ℕ} {part low high : ℕ} {mark : ℕ → Bool} → Marked old new part low high mark
+    → (a row : ℕ) → (row < low) ⊎ (high ≤ row) → markAt new a row ≡ markAt old a row
+unfolding markAt
+marked-others m a row h = ap (λ (x : ℕ). bitOf x a) (m .others row h)
 
 -- The same marks said in another way.
 pub marked-same : {old new : List ℕ} {part low high : ℕ} {f g : ℕ → Bool} → Marked old new part low high f
@@ -51,7 +57,7 @@ module _ {old mid new : List ℕ} {part low high : ℕ} {mark : ℕ → Bool} wh
       → ((row : ℕ) → at ≤ row → row < high → f row ≡ mark row) → Marked old new part low high mark
   marked-up {at} p q v w same = record {
     long = w .long ∙ v .long;
-    own = λ r h l. by-cases (decLt r at) (λ s. w .others r (inl s) ∙ v .own r h s) (λ s. w .own r (omega arith) l ∙ same r (omega arith) l);
+    own = λ r h l. by-cases (decLt r at) (λ s. marked-others w part r (inl s) ∙ v .own r h s) (λ s. w .own r (omega arith) l ∙ same r (omega arith) l);
     others = λ r h. w .others r (⊎-elim (λ (a : r < low). inl (omega arith)) inr h) ∙ v .others r (⊎-elim inl (λ (a : high ≤ r). inr (omega arith)) h);
     lower = λ a l r. w .lower a l r ∙ v .lower a l r;
   }
@@ -61,7 +67,7 @@ module _ {old mid new : List ℕ} {part low high : ℕ} {mark : ℕ → Bool} wh
       → ((row : ℕ) → low ≤ row → row < at → f row ≡ mark row) → Marked old new part low high mark
   marked-down {at} p q v w same = record {
     long = w .long ∙ v .long;
-    own = λ r h l. by-cases (decLt r at) (λ s. w .own r h s ∙ same r h s) (λ s. w .others r (inr (omega arith)) ∙ v .own r (omega arith) l);
+    own = λ r h l. by-cases (decLt r at) (λ s. w .own r h s ∙ same r h s) (λ s. marked-others w part r (inr (omega arith)) ∙ v .own r (omega arith) l);
     others = λ r h. w .others r (⊎-elim inl (λ (a : high ≤ r). inr (omega arith)) h) ∙ v .others r (⊎-elim (λ (a : r < low). inl (omega arith)) inr h);
     lower = λ a l r. w .lower a l r ∙ v .lower a l r;
   }
@@ -97,15 +103,22 @@ module _ (old : List ℕ) (part : ℕ) (mark : ℕ → Bool) where
 
 -- ---- each that of the row a cycle before it
 
--- the rows below `at` are repeated
-abbrev pub Repeating : List ℕ → ℕ → ℕ → List ℕ → ℕ → Type 0
-Repeating old cycle from new at = (from ≤ at) × RowsRepeated old new cycle from at
+-- the rows below `at` are repeated; there may be none, where `end` is below `from`
+abbrev pub Repeating : List ℕ → ℕ → ℕ → ℕ → List ℕ → ℕ → Type 0
+Repeating old cycle from end new at = (from ≤ at) × (at ≤ from + (end - from)) × RowsRepeated old new cycle from at
 
-pub rows-none : (old : List ℕ) (cycle from : ℕ) → Repeating old cycle from old from
-rows-none old cycle from = (omega arith, record { long = refl; kept = λ row l. refl; again = λ row h l. absurd (omega arith) })
+pub rows-none : (old : List ℕ) (cycle from end : ℕ) → Repeating old cycle from end old from
+rows-none old cycle from end = (omega arith, omega arith, record { long = refl; kept = λ row l. refl; behind = λ row l. refl; again = λ row h l. absurd (omega arith) })
 
-pub rows-all : {old new : List ℕ} {cycle from at : ℕ} → Repeating old cycle from new at → (end : ℕ) → end ≤ at → RowsRepeated old new cycle from end
-rows-all s end h = record { long = s .1 .long; kept = s .1 .kept; again = λ row p q. s .1 .again row p (omega arith) }
+pub rows-all : {old new : List ℕ} {cycle from end at : ℕ} → Repeating old cycle from end new at → end ≤ at → RowsRepeated old new cycle from end
+rows-all {from = from} s h =
+    let few = s .1 in
+    record {
+      long = s .2 .long;
+      kept = s .2 .kept;
+      behind = λ row p. by-cases (decLt row from) (s .2 .kept row) (λ q. s .2 .behind row (omega arith));
+      again = λ row p q. s .2 .again row p (omega arith);
+    }
 
 -- the marks of a part on them are
 abbrev pub MarksRepeating : List ℕ → ℕ → ℕ → ℕ → ℕ → List ℕ → ℕ → Type 0
@@ -121,30 +134,33 @@ marks-all {old} {new} {part} cycle {from} {end} {at} s h =
     let same : at ≡ end = omega arith in
     subst (λ (m : ℕ). Marked old new part from m (λ row. markAt new part (row - cycle))) same (s .2)
 
-module _ {old mid new : List ℕ} {cycle from at : ℕ} (some-cycle : 1 ≤ cycle) (room : cycle ≤ from) where
-  pub rows-next : Repeating old cycle from mid at → {word : ℕ} → word ≡ wordOn mid (at - cycle) → WordPut mid new at word → Repeating old cycle from new (at + 1)
-  rows-next s is w =
+module _ {old mid new : List ℕ} {cycle from end at : ℕ} (some-cycle : 1 ≤ cycle) (room : cycle ≤ from) where
+  pub rows-next : Repeating old cycle from end mid at → at < end → {word : ℕ} → word ≡ wordOn mid (at - cycle) → WordPut mid new at word
+      → Repeating old cycle from end new (at + 1)
+  rows-next s l is w =
       let h = s .0 in (
         omega arith,
+        omega arith,
         record {
-          long = w .long ∙ s .1 .long;
-          kept = λ row l. w .others row (inl (omega arith)) ∙ s .1 .kept row l;
+          long = w .long ∙ s .2 .long;
+          kept = λ row p. w .others row (inl (omega arith)) ∙ s .2 .kept row p;
+          behind = λ row p. w .others row (inr (omega arith)) ∙ s .2 .behind row (omega arith);
           again = λ row p q. by-cases (decLt row at)
-              (λ t. w .others row (inl t) ∙ s .1 .again row p t ∙ sym (w .others (row - cycle) (inl (omega arith))))
+              (λ t. w .others row (inl t) ∙ s .2 .again row p t ∙ sym (w .others (row - cycle) (inl (omega arith))))
               (λ t. let same : at ≡ row = omega arith in subst (λ (r : ℕ). wordOn new r ≡ wordOn new (r - cycle)) same
               (w .there ∙ is ∙ sym (w .others (at - cycle) (inl (omega arith)))));
         },
       )
 
-  pub marks-next : {part end : ℕ} → MarksRepeating old part cycle from end mid at → at < end → {mark : Bool} → mark ≡ markAt mid part (at - cycle)
+  pub marks-next : {part : ℕ} → MarksRepeating old part cycle from end mid at → at < end → {mark : Bool} → mark ≡ markAt mid part (at - cycle)
       → Marked mid new part at (at + 1) (λ _. mark) → MarksRepeating old part cycle from end new (at + 1)
   marks-next {part} s l {mark} is w =
       let h = s .0 in (
         omega arith,
         omega arith,
-        marked-up h (omega arith) (marked-same (s .2) (λ row p q. sym (w .others (row - cycle) (inl (omega arith))))) w
+        marked-up h (omega arith) (marked-same (s .2) (λ row p q. sym (marked-others w part (row - cycle) (inl (omega arith))))) w
             (λ row p q. let same : at ≡ row = omega arith in subst (λ (r : ℕ). mark ≡ markAt new part (r - cycle)) same
-            (is ∙ sym (w .others (at - cycle) (inl (omega arith))))),
+            (is ∙ sym (marked-others w part (at - cycle) (inl (omega arith))))),
       )
 
 -- So are the marks of every part.

@@ -8,14 +8,14 @@ use Rattle.words.proofs.rows.repeat_rows.Statement.{statement}
 use Rattle.words.proofs.rows.repeat_rows.Tie as tie
 
 abbrev Inv-loop : tie.InvT-loop
-Inv-loop scratch₀ cycle from end row₀ scratch row = Repeating scratch₀ cycle from scratch row
+Inv-loop scratch₀ cycle from end row₀ scratch row = Repeating scratch₀ cycle from end scratch row
 
 abbrev μ-loop : tie.MeasureT-loop
 μ-loop scratch₀ cycle from end row₀ scratch row = end - row
 
 -- src/rows.rt:35:5
 loop-holds : tie.Need-loop-holds Inv-loop μ-loop
-loop-holds c = rows-none _ _ _
+loop-holds c = rows-none _ _ _ _
 
 -- src/rows.rt:36:37
 sub-word-at : tie.Need-sub-word-at Inv-loop μ-loop
@@ -30,7 +30,7 @@ word-at-requires c κs =
     let start = c .before .before .before .before in
     let loop = c .before .before .loop in
     let loop-test = c .before .loop-test in
-    (loop .inv .1 .long ∙ start .pre .0, omega (arith, loop-test .taken, start .pre .3))
+    (loop .inv .2 .long ∙ start .pre .0, omega (arith, loop-test .taken, start .pre .3))
 
 -- src/rows.rt:37:9
 put-word-requires : tie.Need-put-word-requires Inv-loop μ-loop
@@ -38,7 +38,7 @@ put-word-requires c κs =
     let start = c .before .before .before .before .before .before in
     let loop = c .before .before .before .before .loop in
     let loop-test = c .before .before .before .loop-test in
-    (loop .inv .1 .long ∙ start .pre .0, omega (arith, loop-test .taken, start .pre .3))
+    (loop .inv .2 .long ∙ start .pre .0, omega (arith, loop-test .taken, start .pre .3))
 
 -- src/rows.rt:38:9
 add-row : tie.Need-add-row Inv-loop μ-loop
@@ -56,9 +56,10 @@ loop-again : tie.Need-loop-again Inv-loop μ-loop
 loop-again c =
     let start = c .before .before .before .before .before .before .before .before .before in
     let loop = c .before .before .before .before .before .before .before .loop in
+    let loop-test = c .before .before .before .before .before .before .loop-test in
     let word-at = c .before .before .before .before .word-at in
     let put-word = c .before .before .put-word in
-    rows-next (start .pre .1) (start .pre .2) (loop .inv) (word-at .ensures) (put-word .ensures)
+    rows-next (start .pre .1) (start .pre .2) (loop .inv) (loop-test .taken) (word-at .ensures) (put-word .ensures)
 
 -- src/rows.rt:30:1
 same-length : tie.Need-same-length Inv-loop μ-loop
@@ -67,10 +68,9 @@ same-length c = search needs
 -- src/rows.rt:30:1
 returns : tie.Need-returns Inv-loop μ-loop
 returns c =
-    let start = c .before .before .before in
     let loop = c .before .loop in
     let loop-test = c .loop-test in
-    rows-all (loop .inv) (start .args .end) (loop-test .left)
+    rows-all (loop .inv) (loop-test .left)
 
 pub repeat-rows-spec : {M : Type 1} → statement M
 repeat-rows-spec =
