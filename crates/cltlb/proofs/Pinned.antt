@@ -14,7 +14,7 @@ use Rattle.cltlb.specs.declared.Atom.{Atom}
 use Rattle.cltlb.specs.declared.Atom.the-variants.{Less, Equal, Window, Pinned}
 use Rattle.cltlb.specs.declared.Unary.the-variants as unary
 
-no-number : (z : ℤ) → pinned ≡ number z → ⊥
+pub no-number : (z : ℤ) → pinned ≡ number z → ⊥
 no-number z e = let z : _≡_ {A = ℕ} 0 1 = cc in absurd (omega arith)
 
 -- 0 means no top.

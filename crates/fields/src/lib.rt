@@ -12,7 +12,8 @@ pub const BIAS: u64 = 2147483648;
 
 const HALF: u32 = BIAS as u32;
 
-const PATTERNS: u64 = 2 * BIAS;
+// How many patterns 32 bits have.
+pub const PATTERNS: u64 = 2 * BIAS;
 
 // A byte as a wider number.
 pub fn wide(x: u8) -> u32

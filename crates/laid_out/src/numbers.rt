@@ -9,7 +9,9 @@ ghost use Rattle.laid_out.specs.LaidOut.{laidReading, laidDrift};
 ghost use Rattle.laid_out.specs.inner.LaidSizes.{laidSizes};
 ghost use Rattle.laid_out.specs.inner.LaidNumbers.{laidNumber};
 use fields::BIAS;
+use fields::PATTERNS;
 use plan::lookup::LAST_PASS;
+use plan::lookup::ZERO;
 use plan::lookup::drift_at;
 use plan::lookup::number_at;
 use plan::lookup::stored_number;
@@ -17,13 +19,8 @@ use plan::positions::pass_of;
 use plan::positions::row_of;
 use plan::sizes::Sizes;
 
-// No drift.
-const NONE: u64 = (LAST_PASS + 1) * BIAS;
-
 // The least number of 32 bits, lifted as values are: what a field, which is biased, is lifted more by as a value.
 pub const LEAST: u64 = LAST_PASS * BIAS;
-
-const PATTERNS: u64 = 2 * BIAS;
 
 // n cycles more of start rows.
 pub fn laid_sizes(sizes: Sizes, n: usize) -> Sizes
@@ -56,7 +53,7 @@ fn laid_drift(plan: &[u8], sizes: Sizes, n: usize, k: usize, channel: usize) -> 
     ensures { λ r. ⌜ lowered r ≡ laidDrift (now (plan .entry)) n k channel ⌝ }
 {
     if k < sizes.lead + (sizes.start + n * sizes.cycle) {
-        return NONE;
+        return ZERO;
     }
     drift_at(plan, sizes, channel, row_of(sizes, k - sizes.lead)) + LEAST
 }

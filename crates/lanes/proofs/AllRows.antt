@@ -24,6 +24,8 @@ use Rattle.lanes.specs.inner.Ranges.{DirectAt, Divides}
 use Rattle.lanes.specs.inner.Still.{stillSays, StillPositions}
 use Rattle.lanes.specs.inner.Columns.{IsSide, InMarks}
 use Rattle.lanes.specs.declared.columns.Side.{Side}
+use Rattle.lanes.specs.declared.rows.ComparisonPart.{ComparisonPart}
+use Rattle.lanes.specs.declared.rows.Sides.{Sides}
 use Rattle.lanes.proofs.Reaching.{marks-there, swept-on}
 use Rattle.lanes.proofs.Direct.{before-says, numbers-say, lines-say}
 use Rattle.lanes.proofs.Positions.{positions-for-rows}
@@ -38,26 +40,41 @@ pub long-lanes : (z : Sizes) {array lanes : List ℕ} → Laid array (z .channel
 long-lanes z laid = (laid .there, laid .few)
 
 -- what is known of the comparison that part i is, once its ranges are found
-pub record Ranged (plan table : List ℕ) (z : Sizes) (n i : ℕ) (x : Comparison) (left right : Side) (back high : ℕ) (still : Bool) (r : Ranges) : Type 0 where
-  pub fitting : Fitting plan z
-  pub sized : Sized table n (allRows z)
-  pub present : i < n
-  pub terms-fit : TermsFit z x
-  pub asks-left : AsksLeft x
-  pub left-side : IsSide plan (x .left) left
-  pub right-side : IsSide plan (x .right) right
-  pub farther : back ≡ max (reach (x .left)) (reach (x .right))
-  pub higher : high ≡ max (left .code) (right .code)
-  pub divided : Divides z back high still r
+pub record Ranged (plan table : List ℕ) (part : ComparisonPart) (sides : Sides) (back high : ℕ) (still : Bool) (r : Ranges) : Type 0 where
+  pub fitting : Fitting plan (part .sizes)
+  pub sized : Sized table (part .n) (allRows (part .sizes))
+  pub present : part .i < part .n
+  pub terms-fit : TermsFit (part .sizes) (part .comparison)
+  pub asks-left : AsksLeft (part .comparison)
+  pub left-side : IsSide plan (part .comparison .left) (sides .left)
+  pub right-side : IsSide plan (part .comparison .right) (sides .right)
+  pub farther : back ≡ max (reach (part .comparison .left)) (reach (part .comparison .right))
+  pub higher : high ≡ max (sides .left .code) (sides .right .code)
+  pub divided : Divides (part .sizes) back high still r
 
-module _ {plan table : List ℕ} {z : Sizes} {n i : ℕ} {x : Comparison} {left right : Side} {back high : ℕ} {still : Bool} {r : Ranges} (known : Ranged plan table z n i x left right back high still r) where
+module _ {plan table : List ℕ} {part : ComparisonPart} {sides : Sides} {back high : ℕ} {still : Bool} {r : Ranges} (known : Ranged plan table part sides back high still r) where
+  abbrev z : Sizes
+  z = part .sizes
+
+  abbrev i : ℕ
+  i = part .i
+
+  abbrev x : Comparison
+  x = part .comparison
+
+  abbrev left : Side
+  left = sides .left
+
+  abbrev right : Side
+  right = sides .right
+
   f : Fitting plan z
   f = known .fitting
 
   d : Divides z back high still r
   d = known .divided
 
-  of-part : OfPart table n z i x left right
+  of-part : OfPart table part sides
   of-part = record {
     few-channels = f .few-channels;
     a-cycle = f .a-cycle;
@@ -84,24 +101,24 @@ module _ {plan table : List ℕ} {z : Sizes} {n i : ℕ} {x : Comparison} {left 
       (read-inside (x .left) (z .start) t (left .code) (omega arith) (known .left-side .is-code), read-inside (x .right) (z .start) t (right .code) (omega arith) (known .right-side .is-code))
 
   -- a stretch all of whose positions are on the first pass
-  stretch : (from to : ℕ) → to ≤ allRows z → ((t : ℕ) → from ≤ t → t < to → DirectAt z back high t) → DirectRows table n z i x left right from to
+  stretch : (from to : ℕ) → to ≤ allRows z → ((t : ℕ) → from ≤ t → t < to → DirectAt z back high t) → DirectRows table part sides from to
   stretch from to few on = record {
-    part = of-part;
+    of-part = of-part;
     few-rows = few;
     left-in = λ h. (low (z .lead + from) (on from (omega arith) h .0) .0, omega (arith, below (to - 1) (on (to - 1) (omega arith) (omega arith) .1) .0));
     right-in = λ h. (low (z .lead + from) (on from (omega arith) h .0) .1, omega (arith, below (to - 1) (on (to - 1) (omega arith) (omega arith) .1) .1));
   }
 
-  pub numbers-stretch : DirectRows table n z i x left right (r .before) (r .numbers)
+  pub numbers-stretch : DirectRows table part sides (r .before) (r .numbers)
   numbers-stretch = stretch (r .before) (r .numbers) (let order = d .in-order in omega arith) (λ t l k. d .numbers-direct t l k .0)
 
-  pub lines-stretch : DirectRows table n z i x left right (r .numbers) (r .end)
+  pub lines-stretch : DirectRows table part sides (r .numbers) (r .end)
   lines-stretch = stretch (r .numbers) (r .end) (d .in-order .2) (λ t l k. d .lines-direct t l k .0)
 
   -- the positions that are not direct, unless from one of them a term is read before position 0
-  pub later-positions : back ≤ r .end → {to : ℕ} → (allRows z ≤ to) × (to ≤ allRows z + 4) → StillPositions table n z i x left right (r .end) to
+  pub later-positions : back ≤ r .end → {to : ℕ} → (allRows z ≤ to) × (to ≤ allRows z + 4) → StillPositions table part sides (r .end) to
   later-positions h in-reach = record {
-    part = of-part;
+    of-part = of-part;
     few = in-reach .1;
     in-order = omega (arith, d .in-order .2, in-reach .0);
     in-run = low (r .end) h;
@@ -109,10 +126,7 @@ module _ {plan table : List ℕ} {z : Sizes} {n i : ℕ} {x : Comparison} {left 
 
   module _ {values steps : List ℕ} (lanes : Lanes plan z values steps still) where
     abbrev at : ℕ → Bool
-    at = positionSays plan table z i x (z .start + back)
-
-    abbrev mark : ℕ → Bool
-    mark = marked (allRows z) table i
+    at = positionSays plan table part (z .start + back)
 
     -- Where lines are swept something drifts.
     pub lines-lanes : r .numbers < r .end → LongLanes z steps
@@ -127,32 +141,32 @@ module _ {plan table : List ℕ} {z : Sizes} {n i : ℕ} {x : Comparison} {left 
         let reached = d .reach-before t l in
         let farther = known .farther in
         ap (λ (j : ℕ). not (eqb (getD table j 0) 1)) place
-        ∙ before-says f table i x left right (known .left-side) (known .right-side) (known .terms-fit) (z .start + back) t (omega arith) (known .asks-left) (omega arith) (omega arith))
+        ∙ before-says table part sides f (known .left-side) (known .right-side) (known .terms-fit) (z .start + back) t (omega arith) (known .asks-left) (omega arith) (omega arith))
 
     -- where nothing drifts, the numbers tell all at every position at which no term is read before position 0
-    still-at : still ≡ true → (t : ℕ) → back ≤ t → stillSays values table z i x left right t ≡ at t
-    still-at e t h = still-says f (lanes .no-drift e) values (lanes .readings-laid) table i x left right (known .left-side) (known .right-side) (known .terms-fit) (z .start + back) t (low t h) (in-cycle t)
+    still-at : still ≡ true → (t : ℕ) → back ≤ t → stillSays values table part sides t ≡ at t
+    still-at e t h = still-says values table part sides f (lanes .no-drift e) (lanes .readings-laid) (known .left-side) (known .right-side) (known .terms-fit) (z .start + back) t (low t h) (in-cycle t)
 
-    numbers-swept : {B : Bool} → B ≡ allBelow (λ k. numbersSay values z x left right (mark (r .before + k)) (r .before + k)) (r .numbers - r .before)
+    numbers-swept : {B : Bool} → B ≡ allBelow (λ k. numbersSay values table part sides (r .before + k)) (r .numbers - r .before)
         → B ≡ allBelow (λ k. at (r .before + k)) (r .numbers - r .before)
     numbers-swept e = e ∙ all-ext _ _ (r .numbers - r .before) (λ k l. position (r .before + k) (d .numbers-direct (r .before + k) (omega arith) (omega arith)) (let order = d .in-order in omega arith))
       where
-        position : (t : ℕ) → DirectAt z back high t × (still ≡ false → t < z .start + back) → t < allRows z → numbersSay values z x left right (mark t) t ≡ at t
+        position : (t : ℕ) → DirectAt z back high t × (still ≡ false → t < z .start + back) → t < allRows z → numbersSay values table part sides t ≡ at t
         position t on few =
             by-cases (decLt t (z .start + back))
-            (numbers-say f table i x left right (known .left-side) (known .right-side) (known .terms-fit) (z .start + back) t few values (lanes .readings-laid) (below t (on .0 .1)) (low (z .lead + t) (on .0 .0)))
+            (numbers-say table part sides f (known .left-side) (known .right-side) (known .terms-fit) (z .start + back) t few values (lanes .readings-laid) (below t (on .0 .1)) (low (z .lead + t) (on .0 .0)))
             (λ h. settled (omega arith) still refl)
           where
-            settled : z .start + back ≤ t → (b : Bool) → still ≡ b → numbersSay values z x left right (mark t) t ≡ at t
-            settled h true e = direct-still values table z i x left right t few (low t (omega arith)) (below t (on .0 .1)) ∙ still-at e t (omega arith)
+            settled : z .start + back ≤ t → (b : Bool) → still ≡ b → numbersSay values table part sides t ≡ at t
+            settled h true e = direct-still values table part sides t few (low t (omega arith)) (below t (on .0 .1)) ∙ still-at e t (omega arith)
             settled h false e = absurd (let early = on .1 e in omega arith)
 
-    lines-swept : {D : Bool} → D ≡ allBelow (λ k. linesSay values z x left right steps (mark (r .numbers + k)) (r .numbers + k)) (r .end - r .numbers)
+    lines-swept : {D : Bool} → D ≡ allBelow (λ k. linesSay values table part sides steps (r .numbers + k)) (r .end - r .numbers)
         → D ≡ allBelow (λ k. at (r .numbers + k)) (r .end - r .numbers)
     lines-swept e =
         e ∙ all-ext _ _ (r .end - r .numbers) (λ k l.
         let on = d .lines-direct (r .numbers + k) (omega arith) (omega arith) in
-        lines-say f table i x left right (known .left-side) (known .right-side) (known .terms-fit) (z .start + back) (r .numbers + k) (let order = d .in-order in omega arith) values (lanes .readings-laid)
+        lines-say table part sides f (known .left-side) (known .right-side) (known .terms-fit) (z .start + back) (r .numbers + k) (let order = d .in-order in omega arith) values (lanes .readings-laid)
         (below (r .numbers + k) (on .0 .1)) (low (r .numbers + k) (omega (arith, on .1))) (on .1) steps (lanes .drifts-laid (on .2)))
 
     -- the four together
@@ -162,16 +176,16 @@ module _ {plan table : List ℕ} {z : Sizes} {n i : ℕ} {x : Comparison} {left 
         let order = d .in-order in
         let farther = known .farther in
         swept-on at (r .end) (allRows z + back) (omega arith) (swept-on at (r .numbers) (r .end) (order .1) (swept-on at (r .before) (r .numbers) (order .0) a b) e) g
-        ∙ positions-for-rows f table i x (known .terms-fit) back (omega arith) (omega arith)
+        ∙ positions-for-rows table part f (known .terms-fit) back (omega arith) (omega arith)
 
     module _ (m : ℕ) (first : m ≡ 4 + (i * allRows z + 0)) {A B : Bool} (a : A ≡ allBelow (λ k. not (markIn table (m + k))) (r .before))
-        (b : B ≡ allBelow (λ k. numbersSay values z x left right (mark (r .before + k)) (r .before + k)) (r .numbers - r .before)) where
-      pub all-swept : {D E : Bool} → D ≡ allBelow (λ k. linesSay values z x left right steps (mark (r .numbers + k)) (r .numbers + k)) (r .end - r .numbers)
+        (b : B ≡ allBelow (λ k. numbersSay values table part sides (r .before + k)) (r .numbers - r .before)) where
+      pub all-swept : {D E : Bool} → D ≡ allBelow (λ k. linesSay values table part sides steps (r .numbers + k)) (r .end - r .numbers)
           → E ≡ allBelow (λ k. at (r .end + k)) (allRows z + back - r .end) → (((A && B) && D) && E) ≡ allBelow (agreesOn plan table (allRows z) i x) (allRows z)
       all-swept e g = together (before-swept m first a) (numbers-swept b) (lines-swept e) g
 
       -- where nothing drifts there are no lines
-      pub still-swept : still ≡ true → back ≤ r .end → {E : Bool} → E ≡ allBelow (λ k. stillSays values table z i x left right (r .end + k)) (allRows z + back - r .end)
+      pub still-swept : still ≡ true → back ≤ r .end → {E : Bool} → E ≡ allBelow (λ k. stillSays values table part sides (r .end + k)) (allRows z + back - r .end)
           → ((A && B) && E) ≡ allBelow (agreesOn plan table (allRows z) i x) (allRows z)
       still-swept e h {E} g =
           ap (λ (c : Bool). c && E) (sym (and-true (A && B)))

@@ -36,6 +36,8 @@ use Rattle.verdict.specs.declared.Relation.the-variants.{Below, Same, Within, P
 use Rattle.lanes.specs.inner.Agreement.{verdictAgrees}
 use Rattle.lanes.specs.inner.Columns.{IsSide, laneNumber, laneLine, laneSeen}
 use Rattle.lanes.specs.declared.columns.Side.{Side}
+use Rattle.lanes.specs.declared.rows.ComparisonPart.{ComparisonPart}
+use Rattle.lanes.specs.declared.rows.Sides.{Sides}
 use Rattle.lanes.specs.inner.Direct.{numbersSay, linesSay}
 use Rattle.lanes.specs.inner.Lanes.{Laid}
 use Rattle.lanes.specs.inner.Positions.{positionSays}
@@ -131,19 +133,31 @@ module _ {plan : List ℕ} {z : Sizes} (f : Fitting plan z) (t : ℕ) (x : Term)
 
 -- ---- direct positions
 
-module _ {plan : List ℕ} {z : Sizes} (f : Fitting plan z) (table : List ℕ) (i : ℕ) (x : Comparison) (left right : Side) (sl : IsSide plan (x .left) left) (sr : IsSide plan (x .right) right) (fits : TermsFit z x)
-    (lines t : ℕ) (few : t < allRows z) where
+module _ {plan : List ℕ} (table : List ℕ) (part : ComparisonPart) (sides : Sides) (f : Fitting plan (part .sizes)) (sl : IsSide plan (part .comparison .left) (sides .left)) (sr : IsSide plan (part .comparison .right) (sides .right))
+    (fits : TermsFit (part .sizes) (part .comparison)) (lines t : ℕ) (few : t < allRows (part .sizes)) where
+  abbrev z : Sizes
+  z = part .sizes
+
+  abbrev x : Comparison
+  x = part .comparison
+
+  abbrev left : Side
+  left = sides .left
+
+  abbrev right : Side
+  right = sides .right
+
   -- The row of a position of pass 0 is the position.
   abbrev mark : Bool
-  mark = marked (allRows z) table i t
+  mark = marked (allRows z) table (part .i) t
 
   own-row : rowOf (z .start) (z .cycle) t ≡ t
   own-row = row-start (z .start) (z .cycle) t few
 
   -- where a term is read before the run
-  pub before-says : AsksLeft x → z .lead + t < max (reach (x .left)) (reach (x .right)) → t < lines → not mark ≡ positionSays plan table z i x lines t
+  pub before-says : AsksLeft x → z .lead + t < max (reach (x .left)) (reach (x .right)) → t < lines → not mark ≡ positionSays plan table part lines t
   unfolding testAt
-  before-says asks l h = sym (alone plan table z i x lines t t own-row h ∙ ap (Bool·beq mark) blank ∙ is-not mark)
+  before-says asks l h = sym (alone plan table part lines t t own-row h ∙ ap (Bool·beq mark) blank ∙ is-not mark)
     where
       is-not : (b : Bool) → Bool·beq b false ≡ not b
       is-not true = refl
@@ -160,9 +174,9 @@ module _ {plan : List ℕ} {z : Sizes} (f : Fitting plan z) (table : List ℕ) (
 
   module _ (values : List ℕ) (laid : Laid (readings plan) (z .channels) (allStored z) values) (high : (t + left .code < allRows z + 4) × (t + right .code < allRows z + 4)) where
     -- where both terms are read in the lead-in or on pass 0, by the numbers, before the lines
-    pub numbers-say : (4 ≤ z .lead + t + left .code) × (4 ≤ z .lead + t + right .code) → t < lines → numbersSay values z x left right mark t ≡ positionSays plan table z i x lines t
+    pub numbers-say : (4 ≤ z .lead + t + left .code) × (4 ≤ z .lead + t + right .code) → t < lines → numbersSay values table part sides t ≡ positionSays plan table part lines t
     unfolding testAt
-    numbers-say low h = sym (alone plan table z i x lines t t own-row h ∙ ap (Bool·beq mark) seen)
+    numbers-say low h = sym (alone plan table part lines t t own-row h ∙ ap (Bool·beq mark) seen)
       where
         seen : testAt plan x t ≡ tested (x .relation) (laneSeen values (allStored z) (x .left) left (z .lead + t)) (laneSeen values (allStored z) (x .right) right (z .lead + t))
         seen =
@@ -173,10 +187,10 @@ module _ {plan : List ℕ} {z : Sizes} (f : Fitting plan z) (table : List ℕ) (
 
     -- where both are read on pass 0, from there on by the lines
     pub lines-say : (4 ≤ t + left .code) × (4 ≤ t + right .code) → lines ≤ t → (steps : List ℕ) → Laid (drifts plan) (z .channels) (allStored z) steps
-        → linesSay values z x left right steps mark t ≡ positionSays plan table z i x lines t
+        → linesSay values table part sides steps t ≡ positionSays plan table part lines t
     lines-say low h steps down =
         rw (sl .is-top, sr .is-top)
         (ap₂ (λ (p q : Line). verdictAgrees (judgeUnder (x .relation) (termTop plan (x .left)) p (termTop plan (x .right)) q) mark)
         (line-in-lane f t (x .left) (left .code) (sl .is-code) (fits .0) (high .0) values laid (low .0) steps down)
         (line-in-lane f t (x .right) (right .code) (sr .is-code) (fits .1) (high .1) values laid (low .1) steps down))
-        ∙ sym (settled plan table z i x lines t t own-row h)
+        ∙ sym (settled plan table part lines t t own-row h)

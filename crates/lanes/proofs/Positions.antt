@@ -22,6 +22,7 @@ use Rattle.verdict.specs.declared.Comparison.{Comparison}
 use Rattle.verdict.specs.declared.Verdict.{Verdict}
 use Rattle.verdict.specs.declared.Verdict.the-variants.{AlwaysTrue, AlwaysFalse, Changes}
 use Rattle.verdict.proofs.Values.{passTest, cycle-is, on-cycle-row, on-start-row}
+use Rattle.lanes.specs.declared.rows.ComparisonPart.{ComparisonPart}
 use Rattle.lanes.specs.inner.Agreement.{verdictAgrees}
 use Rattle.lanes.specs.inner.Direct.{agreesOn}
 use Rattle.lanes.specs.inner.Positions.{saysAt, positionSays}
@@ -37,16 +38,16 @@ module _ (plan : List ℕ) (x : Comparison) (lines : ℕ) (mark : Bool) (t : ℕ
   says-settled h e g = rw (le-ltb t lines h) (g ∙ ap (λ w. verdictAgrees w mark) e)
 
 -- the mark is that on the row of the position
-pub by-its-mark : (plan table : List ℕ) (z : Sizes) (i : ℕ) (x : Comparison) (lines t : ℕ) {row : ℕ} {mark r : Bool} → row ≡ rowOf (z .start) (z .cycle) t → mark ≡ marked (allRows z) table i row
-    → r ≡ saysAt plan x lines mark t → r ≡ positionSays plan table z i x lines t
-by-its-mark plan table z i x lines t e m g = g ∙ ap (λ (b : Bool). saysAt plan x lines b t) (m ∙ ap (marked (allRows z) table i) e)
+pub by-its-mark : (plan table : List ℕ) (part : ComparisonPart) (lines t : ℕ) {row : ℕ} {mark r : Bool} → row ≡ rowOf (part .sizes .start) (part .sizes .cycle) t → mark ≡ marked (allRows (part .sizes)) table (part .i) row
+    → r ≡ saysAt plan (part .comparison) lines mark t → r ≡ positionSays plan table part lines t
+by-its-mark plan table part lines t e m g = g ∙ ap (λ (b : Bool). saysAt plan (part .comparison) lines b t) (m ∙ ap (marked (allRows (part .sizes)) table (part .i)) e)
 
 -- before the lines, and from there on
-module _ (plan table : List ℕ) (z : Sizes) (i : ℕ) (x : Comparison) (lines t row : ℕ) (on : rowOf (z .start) (z .cycle) t ≡ row) where
-  pub alone : t < lines → positionSays plan table z i x lines t ≡ Bool·beq (marked (allRows z) table i row) (testAt plan x t)
+module _ (plan table : List ℕ) (part : ComparisonPart) (lines t row : ℕ) (on : rowOf (part .sizes .start) (part .sizes .cycle) t ≡ row) where
+  pub alone : t < lines → positionSays plan table part lines t ≡ Bool·beq (marked (allRows (part .sizes)) table (part .i) row) (testAt plan (part .comparison) t)
   alone h = simp (on, lt-ltb t lines h)
 
-  pub settled : lines ≤ t → positionSays plan table z i x lines t ≡ verdictAgrees (judgeFrom plan x t) (marked (allRows z) table i row)
+  pub settled : lines ≤ t → positionSays plan table part lines t ≡ verdictAgrees (judgeFrom plan (part .comparison) t) (marked (allRows (part .sizes)) table (part .i) row)
   settled h = simp (on, le-ltb t lines h)
 
 -- ---- passes in front of a verdict
@@ -77,7 +78,14 @@ joined-agrees f (suc n) v mark =
 first-pass : (C : ℕ) → 1 ≤ C → (d : ℕ) → (n : ℕ) × (d ≤ n * C) × (n * C < d + C)
 first-pass C hC d = ((d + C - 1) / C, omega (arith, div-add-mod' (d + C - 1) C, mod-lt (d + C - 1) hC), omega (arith, div-add-mod' (d + C - 1) C))
 
-module _ {plan : List ℕ} {z : Sizes} (f : Fitting plan z) (table : List ℕ) (i : ℕ) (x : Comparison) (fits : TermsFit z x) (back : ℕ) (left : reach (x .left) ≤ back) (right : reach (x .right) ≤ back) where
+module _ {plan : List ℕ} (table : List ℕ) (part : ComparisonPart) (f : Fitting plan (part .sizes)) (fits : TermsFit (part .sizes) (part .comparison)) (back : ℕ) (left : reach (part .comparison .left) ≤ back)
+    (right : reach (part .comparison .right) ≤ back) where
+  abbrev z : Sizes
+  z = part .sizes
+
+  abbrev x : Comparison
+  x = part .comparison
+
   abbrev P : ℕ
   P = z .start
 
@@ -85,19 +93,19 @@ module _ {plan : List ℕ} {z : Sizes} (f : Fitting plan z) (table : List ℕ) (
   C = z .cycle
 
   abbrev mark : ℕ → Bool
-  mark = marked (allRows z) table i
+  mark = marked (allRows z) table (part .i)
 
   abbrev onRow : ℕ → Bool
-  onRow = agreesOn plan table (allRows z) i x
+  onRow = agreesOn plan table (allRows z) (part .i) x
 
   abbrev at : ℕ → Bool
-  at = positionSays plan table z i x (P + back)
+  at = positionSays plan table part (P + back)
 
   start-row : (row : ℕ) → row < P → onRow row ≡ at row
   start-row row h =
       ap (λ v. verdictAgrees v (mark row)) (sym (on-start-row f x row h (testAt plan x row) (testAt plan x row) refl refl))
       ∙ sym (truth-agrees (testAt plan x row) (mark row))
-      ∙ sym (alone plan table z i x (P + back) row row (row-start P C row (omega arith)) (omega arith))
+      ∙ sym (alone plan table part (P + back) row row (row-start P C row (omega arith)) (omega arith))
 
   -- a cycle row, with n passes looked at one by one
   abbrev early : ℕ → ℕ → Bool
@@ -123,8 +131,8 @@ module _ {plan : List ℕ} {z : Sizes} (f : Fitting plan z) (table : List ℕ) (
       in-cycle : P ≤ t → at t ≡ true
       in-cycle h =
           by-cases (decLt t (P + back))
-          (λ g. alone plan table z i x (P + back) t row refl g ∙ ap (λ (u : ℕ). Bool·beq (mark row) (testAt plan x u)) split ∙ all-each (early row) (k + 1 + back) (seen (k + 1 + back) (omega (arith, low, le-mul-of-pos-right (k + 1 + back) (f .a-cycle))) .0) k (omega arith))
-          (λ g. settled plan table z i x (P + back) t row refl (omega arith) ∙ ap (λ (u : ℕ). verdictAgrees (judgeFrom plan x u) (mark row)) split ∙ seen k (omega (arith, split)) .1)
+          (λ g. alone plan table part (P + back) t row refl g ∙ ap (λ (u : ℕ). Bool·beq (mark row) (testAt plan x u)) split ∙ all-each (early row) (k + 1 + back) (seen (k + 1 + back) (omega (arith, low, le-mul-of-pos-right (k + 1 + back) (f .a-cycle))) .0) k (omega arith))
+          (λ g. settled plan table part (P + back) t row refl (omega arith) ∙ ap (λ (u : ℕ). verdictAgrees (judgeFrom plan x u) (mark row)) split ∙ seen k (omega (arith, split)) .1)
         where
           low : P ≤ row
           low = row-ge P C t h
@@ -150,8 +158,8 @@ module _ {plan : List ℕ} {z : Sizes} (f : Fitting plan z) (table : List ℕ) (
           seen n before low high =
               cycle-row row n h low
               ∙ and-eq-true-iff _ _ .1 (
-                each-all (early row) n (λ k b. let g = before k b in sym (alone plan table z i x (P + back) (row + k * C) row (again k) g) ∙ all (row + k * C) (omega arith)),
-                sym (settled plan table z i x (P + back) (row + n * C) row (again n) low) ∙ all (row + n * C) high,
+                each-all (early row) n (λ k b. let g = before k b in sym (alone plan table part (P + back) (row + k * C) row (again k) g) ∙ all (row + k * C) (omega arith)),
+                sym (settled plan table part (P + back) (row + n * C) row (again n) low) ∙ all (row + n * C) high,
               )
 
           later : row < P + back → onRow row ≡ true

@@ -3,7 +3,7 @@ use Prim.Native.Nat.{ℕ, zero, suc, _+_, _*_, _-_, _≤_, _<_}
 use native.Mathlib.Nat.{add-zero, add-suc}
 use native.Mathlib.Omega.{arith}
 use mathlib.Core.Path.{_≡_, refl, sym, ap, ap₂, _∙_}
-use mathlib.Core.Bool.{Bool, true, false, not, _&&_, and-true, and-assoc, false≢true}
+use mathlib.Core.Bool.{Bool, true, false, not, _&&_, and-true, and-assoc, Bool·not-not, false≢true}
 use mathlib.Core.List.{List}
 use lib.ListN.{length}
 use Rattle.table.specs.inner.Tables.{allBelow, Sized}
@@ -40,6 +40,10 @@ marks-there table n w s i row count m l h e = record {
   few = let whole = s .whole in let parts = s .few-parts in omega (arith, area n w (s .few-parts) (s .few-rows));
 }
 
+-- A test, by its negation.
+pub negated : (b : Bool) {c : Bool} → not b ≡ c → b ≡ not c
+negated b e = sym (Bool·not-not b) ∙ ap not e
+
 module _ (f : ℕ → Bool) where
   all-on : (a n : ℕ) → (allBelow f a && allBelow (λ k. f (a + k)) n) ≡ allBelow f (a + n)
   unfolding allBelow
@@ -57,17 +61,9 @@ module _ (f : ℕ → Bool) where
   pub sweep-stops : (k n : ℕ) {b : Bool} → k < n → b ≡ f k → not b ≡ true → false ≡ allBelow f n
   sweep-stops k n {b} l e h = sym (go (allBelow f n) refl)
     where
-      no : (b : Bool) → not b ≡ true → b ≡ false
-      no true h = absurd (false≢true h)
-      no false h = refl
-
       go : (t : Bool) → allBelow f n ≡ t → allBelow f n ≡ false
-      go true all = absurd (false≢true (sym (sym e ∙ no b h) ∙ all-each f n all k l))
+      go true all = absurd (false≢true (sym (sym e ∙ negated b h) ∙ all-each f n all k l))
       go false all = all
 
   pub sweep-passes : (k : ℕ) {b : Bool} → true ≡ allBelow f k → b ≡ f k → not b ≡ false → true ≡ allBelow f (k + 1)
-  sweep-passes k {b} all e h = sweep-next f k all (sym (yes b h) ∙ e)
-    where
-      yes : (b : Bool) → not b ≡ false → b ≡ true
-      yes true h = refl
-      yes false h = absurd (false≢true (sym h))
+  sweep-passes k {b} all e h = sweep-next f k all (sym (negated b h) ∙ e)

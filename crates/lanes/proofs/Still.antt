@@ -38,6 +38,8 @@ use Rattle.verdict.specs.declared.Comparison.{Comparison}
 use Rattle.verdict.specs.declared.Relation.{Relation}
 use Rattle.lanes.specs.declared.columns.Column.{Column}
 use Rattle.lanes.specs.declared.columns.Side.{Side}
+use Rattle.lanes.specs.declared.rows.ComparisonPart.{ComparisonPart}
+use Rattle.lanes.specs.declared.rows.Sides.{Sides}
 use Rattle.lanes.specs.inner.Columns.{numberIn, seenIn, IsSide, Reaches, FewChannels, Stands, laneNumber}
 use Rattle.lanes.specs.inner.Direct.{numbersSay, LongLanes}
 use Rattle.lanes.specs.inner.Lanes.{Laid}
@@ -118,38 +120,52 @@ module _ {plan : List ℕ} {z : Sizes} (f : Fitting plan z) (still : Still plan 
               (reading-still channel (t + code - 4) there ∙ in-lane channel (t + code - 4) there)
               (drift-still channel (t + code - 4) there (omega arith)))
 
-    -- ---- positions
+-- ---- positions
 
-    module _ (table : List ℕ) (i : ℕ) (x : Comparison) (left right : Side) (sl : IsSide plan (x .left) left) (sr : IsSide plan (x .right) right) (fits : TermsFit z x)
-        (lines t : ℕ) (low : (4 ≤ t + left .code) × (4 ≤ t + right .code)) (inside : lines ≤ t → (P + 4 ≤ t + left .code) × (P + 4 ≤ t + right .code)) where
-      abbrev mark : Bool
-      mark = marked (allRows z) table i (rowOf P C t)
+module _ {plan : List ℕ} (values table : List ℕ) (part : ComparisonPart) (sides : Sides) (f : Fitting plan (part .sizes)) (still : Still plan (part .sizes .start) (allRows (part .sizes)))
+    (laid : Laid (readings plan) (part .sizes .channels) (allStored (part .sizes)) values) (sl : IsSide plan (part .comparison .left) (sides .left)) (sr : IsSide plan (part .comparison .right) (sides .right))
+    (fits : TermsFit (part .sizes) (part .comparison)) where
+  abbrev z : Sizes
+  z = part .sizes
 
-      pub still-says : stillSays values table z i x left right t ≡ positionSays plan table z i x lines t
-      unfolding testAt
-      still-says = rw (sl .is-top, sr .is-top) (by-cases (decLt t lines) (λ h. says-alone plan x lines mark t h (sym test) refl) (λ h. settled (omega arith)))
-        where
-          a : ℤ
-          a = landedNumber values z (x .left) (left .code) t
+  abbrev x : Comparison
+  x = part .comparison
 
-          b : ℤ
-          b = landedNumber values z (x .right) (right .code) t
+  abbrev left : Side
+  left = sides .left
 
-          s : ℤ
-          s = termTop plan (x .left)
+  abbrev right : Side
+  right = sides .right
 
-          u : ℤ
-          u = termTop plan (x .right)
+  pub still-says : (lines t : ℕ) → (4 ≤ t + left .code) × (4 ≤ t + right .code) → (lines ≤ t → (z .start + 4 ≤ t + left .code) × (z .start + 4 ≤ t + right .code))
+      → stillSays values table part sides t ≡ positionSays plan table part lines t
+  unfolding testAt
+  still-says lines t low inside = rw (sl .is-top, sr .is-top) (by-cases (decLt t lines) (λ h. says-alone plan x lines mark t h (sym test) refl) (λ h. settled (omega arith)))
+    where
+      mark : Bool
+      mark = marked (allRows z) table (part .i) (rowOf (z .start) (z .cycle) t)
 
-          test : testAt plan x t ≡ tested (x .relation) (under s a) (under u b)
-          test = ap₂ (tested (x .relation)) (seen-still (x .left) (left .code) t (sl .is-code) (low .0) (fits .0)) (seen-still (x .right) (right .code) t (sr .is-code) (low .1) (fits .1))
+      a : ℤ
+      a = landedNumber values z (x .left) (left .code) t
 
-          settled : lines ≤ t → Bool·beq mark (tested (x .relation) (under s a) (under u b)) ≡ positionSays plan table z i x lines t
-          settled h =
-              says-settled plan x lines mark t h
-              (ap₂ (λ (p q : Line). judgeUnder (x .relation) s p u q)
-              (sym (line-still (x .left) (left .code) t (sl .is-code) (low .0) (fits .0) (inside h .0))) (sym (line-still (x .right) (right .code) t (sr .is-code) (low .1) (fits .1) (inside h .1))))
-              (level-agrees (x .relation) s a u b mark)
+      b : ℤ
+      b = landedNumber values z (x .right) (right .code) t
+
+      s : ℤ
+      s = termTop plan (x .left)
+
+      u : ℤ
+      u = termTop plan (x .right)
+
+      test : testAt plan x t ≡ tested (x .relation) (under s a) (under u b)
+      test = ap₂ (tested (x .relation)) (seen-still f still values laid (x .left) (left .code) t (sl .is-code) (low .0) (fits .0)) (seen-still f still values laid (x .right) (right .code) t (sr .is-code) (low .1) (fits .1))
+
+      settled : lines ≤ t → Bool·beq mark (tested (x .relation) (under s a) (under u b)) ≡ positionSays plan table part lines t
+      settled h =
+          says-settled plan x lines mark t h
+          (ap₂ (λ (p q : Line). judgeUnder (x .relation) s p u q)
+          (sym (line-still f still values laid (x .left) (left .code) t (sl .is-code) (low .0) (fits .0) (inside h .0))) (sym (line-still f still values laid (x .right) (right .code) t (sr .is-code) (low .1) (fits .1) (inside h .1))))
+          (level-agrees (x .relation) s a u b mark)
 
 -- ---- direct positions
 
@@ -161,13 +177,14 @@ on-pass-0 values z (Reading channel shift) code t low high =
     let place : z .lead + t + code - 4 ≡ z .lead + rowOf (z .start) (z .cycle) (t + code - 4) + 4 - 4 = omega arith in
     ap (λ (j : ℕ). entry values (channel * allStored z + j)) place
 
-pub direct-still : (values table : List ℕ) (z : Sizes) (i : ℕ) (x : Comparison) (left right : Side) (t : ℕ) → t < allRows z → (4 ≤ t + left .code) × (4 ≤ t + right .code) → (t + left .code < allRows z + 4) × (t + right .code < allRows z + 4)
-    → numbersSay values z x left right (marked (allRows z) table i t) t ≡ stillSays values table z i x left right t
-direct-still values table z i x left right t few low high =
-    ap₂ Bool·beq (ap (marked (allRows z) table i) (sym (row-start (z .start) (z .cycle) t few)))
-    (ap₂ (tested (x .relation))
-    (ap (under (pos (left .top))) (on-pass-0 values z (x .left) (left .code) t (low .0) (high .0)))
-    (ap (under (pos (right .top))) (on-pass-0 values z (x .right) (right .code) t (low .1) (high .1))))
+module _ (values table : List ℕ) (part : ComparisonPart) (sides : Sides) where
+  pub direct-still : (t : ℕ) → t < allRows (part .sizes) → (4 ≤ t + sides .left .code) × (4 ≤ t + sides .right .code) → (t + sides .left .code < allRows (part .sizes) + 4) × (t + sides .right .code < allRows (part .sizes) + 4)
+      → numbersSay values table part sides t ≡ stillSays values table part sides t
+  direct-still t few low high =
+      ap₂ Bool·beq (ap (marked (allRows (part .sizes)) table (part .i)) (sym (row-start (part .sizes .start) (part .sizes .cycle) t few)))
+      (ap₂ (tested (part .comparison .relation))
+      (ap (under (pos (sides .left .top))) (on-pass-0 values (part .sizes) (part .comparison .left) (sides .left .code) t (low .0) (high .0)))
+      (ap (under (pos (sides .right .top))) (on-pass-0 values (part .sizes) (part .comparison .right) (sides .right .code) t (low .1) (high .1))))
 
 -- ---- one by one, over two lanes
 
@@ -189,34 +206,34 @@ module _ (relation : Relation) (values table : List ℕ) (z : Sizes) (i : ℕ) (
       (ap₂ (λ (m : ℕ) (y : ℤ). under (pos m) y) (sym es) (ea ∙ ap (λ (j : ℕ). numberIn values x (z .lead + j)) ep))
       (ap₂ (λ (m : ℕ) (y : ℤ). under (pos m) y) (sym eu) (eb ∙ ap (λ (j : ℕ). numberIn values y (z .lead + j)) eq)))
 
-module _ {table : List ℕ} {n : ℕ} {z : Sizes} {i : ℕ} {x : Comparison} {left right : Side} {from to : ℕ} (d : StillPositions table n z i x left right from to) where
-  pub few-rows : (1 ≤ allStored z) × (allStored z ≤ mostStored) × (allRows z ≤ 256)
-  few-rows = let few = d .part .sized .few-rows in (omega (arith, d .part .a-cycle), omega (arith, d .part .few-lead), few)
+module _ {table : List ℕ} {part : ComparisonPart} {sides : Sides} {from to : ℕ} (d : StillPositions table part sides from to) where
+  pub few-rows : (1 ≤ allStored (part .sizes)) × (allStored (part .sizes) ≤ mostStored) × (allRows (part .sizes) ≤ 256)
+  few-rows = let few = d .of-part .sized .few-rows in (omega (arith, d .of-part .a-cycle), omega (arith, d .of-part .few-lead), few)
 
-  pub left-few : FewChannels (x .left)
-  left-few = few-channels (z .channels) (x .left) (d .part .few-channels) (d .part .terms-fit .0)
+  pub left-few : FewChannels (part .comparison .left)
+  left-few = few-channels (part .sizes .channels) (part .comparison .left) (d .of-part .few-channels) (d .of-part .terms-fit .0)
 
-  pub right-few : FewChannels (x .right)
-  right-few = few-channels (z .channels) (x .right) (d .part .few-channels) (d .part .terms-fit .1)
+  pub right-few : FewChannels (part .comparison .right)
+  right-few = few-channels (part .sizes .channels) (part .comparison .right) (d .of-part .few-channels) (d .of-part .terms-fit .1)
 
   -- a row, behind the lead-in
-  pub row-stored : (s : ℕ) {row : ℕ} → row ≡ rowOf (z .start) (z .cycle) s → z .lead + row < allStored z
-  row-stored s e = let within = row-lt (z .start) (z .cycle) (d .part .a-cycle) s in omega arith
+  pub row-stored : (s : ℕ) {row : ℕ} → row ≡ rowOf (part .sizes .start) (part .sizes .cycle) s → part .sizes .lead + row < allStored (part .sizes)
+  row-stored s e = let within = row-lt (part .sizes .start) (part .sizes .cycle) (d .of-part .a-cycle) s in omega arith
 
   -- in a term's lane
-  pub lane-reaches : (values : List ℕ) → LongLanes z values → (y : Term) → termFits (z .channels) y ≡ true → (c : Column) → Stands (allStored z) 0 4 y c → (s : ℕ) {row : ℕ} → row ≡ rowOf (z .start) (z .cycle) s
-      → Reaches values c (z .lead + row + 1) × (length values ≤ mostArray)
+  pub lane-reaches : (values : List ℕ) → LongLanes (part .sizes) values → (y : Term) → termFits (part .sizes .channels) y ≡ true → (c : Column) → Stands (allStored (part .sizes)) 0 4 y c → (s : ℕ) {row : ℕ} → row ≡ rowOf (part .sizes .start) (part .sizes .cycle) s
+      → Reaches values c (part .sizes .lead + row + 1) × (length values ≤ mostArray)
   lane-reaches values long y fits c stands s e =
-      (reaches-row values c (allStored z) _ (column-reaches (allStored z) 0 4 (omega arith) values (z .channels) (allStored z) y c fits (long .0) (omega arith) stands) (row-stored s e), long .1)
+      (reaches-row values c (allStored (part .sizes)) _ (column-reaches (allStored (part .sizes)) 0 4 (omega arith) values (part .sizes .channels) (allStored (part .sizes)) y c fits (long .0) (omega arith) stands) (row-stored s e), long .1)
 
   -- the two lanes are those of the terms
-  pub lanes-say : (values : List ℕ) (p q : Column) → Stands (allStored z) 0 4 (x .left) p × (p .top ≡ left .top) → Stands (allStored z) 0 4 (x .right) q × (q .top ≡ right .top) → (t : ℕ)
-      → landedSays (x .relation) values table z i p q (left .code) (right .code) t ≡ stillSays values table z i x left right t
-  lanes-say values p q s u t = ap (Bool·beq (marked (allRows z) table i (rowOf (z .start) (z .cycle) t))) (ap₂ (tested (x .relation))
-      (ap₂ (λ (m : ℕ) (y : ℤ). under (pos m) y) (s .1) (one (x .left) p (s .0) (t + left .code - 4)))
-      (ap₂ (λ (m : ℕ) (y : ℤ). under (pos m) y) (u .1) (one (x .right) q (u .0) (t + right .code - 4))))
+  pub lanes-say : (values : List ℕ) (p q : Column) → Stands (allStored (part .sizes)) 0 4 (part .comparison .left) p × (p .top ≡ sides .left .top) → Stands (allStored (part .sizes)) 0 4 (part .comparison .right) q × (q .top ≡ sides .right .top) → (t : ℕ)
+      → landedSays (part .comparison .relation) values table (part .sizes) (part .i) p q (sides .left .code) (sides .right .code) t ≡ stillSays values table part sides t
+  lanes-say values p q s u t = ap (Bool·beq (marked (allRows (part .sizes)) table (part .i) (rowOf (part .sizes .start) (part .sizes .cycle) t))) (ap₂ (tested (part .comparison .relation))
+      (ap₂ (λ (m : ℕ) (y : ℤ). under (pos m) y) (s .1) (one (part .comparison .left) p (s .0) (t + sides .left .code - 4)))
+      (ap₂ (λ (m : ℕ) (y : ℤ). under (pos m) y) (u .1) (one (part .comparison .right) q (u .0) (t + sides .right .code - 4))))
     where
-      one : (y : Term) (c : Column) → Stands (allStored z) 0 4 y c → (v : ℕ) → numberIn values c (z .lead + rowOf (z .start) (z .cycle) v) ≡ laneNumber values (allStored z) y 4 (z .lead + rowOf (z .start) (z .cycle) v)
+      one : (y : Term) (c : Column) → Stands (allStored (part .sizes)) 0 4 y c → (v : ℕ) → numberIn values c (part .sizes .lead + rowOf (part .sizes .start) (part .sizes .cycle) v) ≡ laneNumber values (allStored (part .sizes)) y 4 (part .sizes .lead + rowOf (part .sizes .start) (part .sizes .cycle) v)
       one y c stands v =
-          column-number (allStored z) 0 4 (omega arith) values y c (z .lead + rowOf (z .start) (z .cycle) v) stands
-          ∙ ap (laneNumber values (allStored z) y 4) (zero-add (z .lead + rowOf (z .start) (z .cycle) v))
+          column-number (allStored (part .sizes)) 0 4 (omega arith) values y c (part .sizes .lead + rowOf (part .sizes .start) (part .sizes .cycle) v) stands
+          ∙ ap (laneNumber values (allStored (part .sizes)) y 4) (zero-add (part .sizes .lead + rowOf (part .sizes .start) (part .sizes .cycle) v))

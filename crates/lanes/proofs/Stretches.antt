@@ -20,6 +20,8 @@ use Rattle.verdict.specs.declared.Comparison.{Comparison}
 use Rattle.cltlb.specs.declared.Term.{Term}
 use Rattle.lanes.specs.declared.columns.Column.{Column}
 use Rattle.lanes.specs.declared.columns.Side.{Side}
+use Rattle.lanes.specs.declared.rows.ComparisonPart.{ComparisonPart}
+use Rattle.lanes.specs.declared.rows.Sides.{Sides}
 use Rattle.cltlb.specs.Run.{under}
 use Rattle.fields.specs.inner.Biased.{bias}
 use Rattle.lanes.specs.inner.Agreement.{verdictAgrees, seenAgree, underAgree}
@@ -37,37 +39,52 @@ mark-on : (table : List ℕ) (w i from m k : ℕ) → m ≡ 4 + (i * w + from) �
 unfolding marked markByte
 mark-on table w i from m k e = let place : m + k ≡ 4 + (i * w + (from + k)) = omega arith in ap (λ (j : ℕ). eqb (getD table j 0) 1) place
 
-module _ {table : List ℕ} {n : ℕ} {z : Sizes} {i : ℕ} {x : Comparison} {left right : Side} {from to : ℕ} (d : DirectRows table n z i x left right from to) where
+module _ {table : List ℕ} {part : ComparisonPart} {sides : Sides} {from to : ℕ} (d : DirectRows table part sides from to) where
+  abbrev z : Sizes
+  z = part .sizes
+
+  abbrev i : ℕ
+  i = part .i
+
+  abbrev x : Comparison
+  x = part .comparison
+
+  abbrev left : Side
+  left = sides .left
+
+  abbrev right : Side
+  right = sides .right
+
   -- what a column and a mark's place ask for
   pub few-all : (allRows z ≤ 256) × (allStored z ≤ mostStored)
-  few-all = let few = d .part .sized .few-rows in (few, omega (arith, d .part .few-lead))
+  few-all = let few = d .of-part .sized .few-rows in (few, omega (arith, d .of-part .few-lead))
 
   pub at-place : (allRows z ≤ 256) × (i < 64) × (from < to → from ≤ 256)
-  at-place = (few-all .0, omega (arith, d .part .present, d .part .sized .few-parts), λ h. omega (arith, d .few-rows, few-all))
+  at-place = (few-all .0, omega (arith, d .of-part .present, d .of-part .sized .few-parts), λ h. omega (arith, d .few-rows, few-all))
 
   module _ (h : from < to) where
     pub left-column : (allStored z ≤ mostStored) × (z .lead + from < allStored z) × (left .code ≤ 8) × (4 ≤ z .lead + from + left .code) × FewChannels (x .left)
     left-column =
         let rows = d .few-rows in
-        (few-all .1, omega arith, d .part .few-codes .0, d .left-in h .0, few-channels (z .channels) (x .left) (d .part .few-channels) (d .part .terms-fit .0))
+        (few-all .1, omega arith, d .of-part .few-codes .0, d .left-in h .0, few-channels (z .channels) (x .left) (d .of-part .few-channels) (d .of-part .terms-fit .0))
 
     pub right-column : (allStored z ≤ mostStored) × (z .lead + from < allStored z) × (right .code ≤ 8) × (4 ≤ z .lead + from + right .code) × FewChannels (x .right)
     right-column =
         let rows = d .few-rows in
-        (few-all .1, omega arith, d .part .few-codes .1, d .right-in h .0, few-channels (z .channels) (x .right) (d .part .few-channels) (d .part .terms-fit .1))
+        (few-all .1, omega arith, d .of-part .few-codes .1, d .right-in h .0, few-channels (z .channels) (x .right) (d .of-part .few-channels) (d .of-part .terms-fit .1))
 
     pub in-marks : (m : ℕ) → m ≡ 4 + (i * allRows z + from) → InMarks table m (to - from)
-    in-marks m place = let rows = d .few-rows in marks-there table n (allRows z) (d .part .sized) i from (to - from) m (d .part .present) (omega arith) place
+    in-marks m place = let rows = d .few-rows in marks-there table (part .n) (allRows z) (d .of-part .sized) i from (to - from) m (d .of-part .present) (omega arith) place
 
     module _ (p q : Column) (s : Stands (allStored z) (z .lead + from) (left .code) (x .left) p × (p .top ≡ left .top)) (t : Stands (allStored z) (z .lead + from) (right .code) (x .right) q × (q .top ≡ right .top)) where
       -- their tops are small
       pub small-tops : (p .top < bias) × (q .top < bias)
-      small-tops = (omega (arith, s .1, d .part .small .0), omega (arith, t .1, d .part .small .1))
+      small-tops = (omega (arith, s .1, d .of-part .small .0), omega (arith, t .1, d .of-part .small .1))
 
       pub in-lanes : {lanes : List ℕ} → LongLanes z lanes → InLanes lanes p q (to - from)
       in-lanes {lanes} long = record {
-        left = column-reaches (allStored z) (z .lead + from) (left .code) (d .left-in h .0) lanes (z .channels) (to - from) (x .left) p (d .part .terms-fit .0) (long .0) (omega (arith, d .left-in h .1)) (s .0);
-        right = column-reaches (allStored z) (z .lead + from) (right .code) (d .right-in h .0) lanes (z .channels) (to - from) (x .right) q (d .part .terms-fit .1) (long .0) (omega (arith, d .right-in h .1)) (t .0);
+        left = column-reaches (allStored z) (z .lead + from) (left .code) (d .left-in h .0) lanes (z .channels) (to - from) (x .left) p (d .of-part .terms-fit .0) (long .0) (omega (arith, d .left-in h .1)) (s .0);
+        right = column-reaches (allStored z) (z .lead + from) (right .code) (d .right-in h .0) lanes (z .channels) (to - from) (x .right) q (d .of-part .terms-fit .1) (long .0) (omega (arith, d .right-in h .1)) (t .0);
         few = long .1;
       }
 
@@ -76,7 +93,7 @@ module _ {table : List ℕ} {n : ℕ} {z : Sizes} {i : ℕ} {x : Comparison} {le
       behind k = omega arith
 
       pub numbers-said : (m : ℕ) → m ≡ 4 + (i * allRows z + from) → (values : List ℕ) {r : Bool} → r ≡ allBelow (λ k. seenAgree (x .relation) values p q (markIn table (m + k)) k) (to - from)
-          → r ≡ allBelow (λ k. numbersSay values z x left right (marked (allRows z) table i (from + k)) (from + k)) (to - from)
+          → r ≡ allBelow (λ k. numbersSay values table part sides (from + k)) (to - from)
       numbers-said m place values e =
           e ∙ all-ext _ _ (to - from) (λ k _. ap₂ Bool·beq (mark-on table (allRows z) i from m k place)
           (ap₂ (tested (x .relation)) (seen (x .left) left p (d .left-in h .0) s k) (seen (x .right) right q (d .right-in h .0) t k)))
@@ -88,7 +105,7 @@ module _ {table : List ℕ} {n : ℕ} {z : Sizes} {i : ℕ} {x : Comparison} {le
               (column-number (allStored z) (z .lead + from) (side .code) low values y c k (u .0) ∙ ap (laneNumber values (allStored z) y (side .code)) (behind k))
 
       pub lines-said : (m : ℕ) → m ≡ 4 + (i * allRows z + from) → (values drifts : List ℕ) {r : Bool} → r ≡ allBelow (λ k. underAgree (x .relation) values drifts p q (markIn table (m + k)) k) (to - from)
-          → r ≡ allBelow (λ k. linesSay values z x left right drifts (marked (allRows z) table i (from + k)) (from + k)) (to - from)
+          → r ≡ allBelow (λ k. linesSay values table part sides drifts (from + k)) (to - from)
       lines-said m place values drifts e =
           e ∙ all-ext _ _ (to - from) (λ k _. ap₂ verdictAgrees
           (same-verdict (s .1) (column-line (allStored z) (z .lead + from) (left .code) (d .left-in h .0) values drifts (x .left) p k (s .0) ∙ ap (laneLine values drifts (allStored z) (x .left) (left .code)) (behind k))

@@ -16,7 +16,7 @@ use Rattle.refusal.specs.First.{unless, refusedAt}
 use Rattle.refusal.specs.declared.Outcome.{Outcome}
 use Rattle.refusal.specs.declared.Outcome.the-variants.{Clear}
 use Rattle.refusal.specs.declared.Refusal.the-variants.{Closing, Witness}
-use Rattle.refusal.proofs.Lowest.{from-none}
+use Rattle.refusal.proofs.Lowest.{not-so, from-none}
 use Rattle.refusal.proofs.First.{refusedAt-clear}
 use Rattle.refusal.proofs.Search.{searchFrom}
 use Rattle.plan.specs.Layout.{startRows, cycleRows, rows}
@@ -40,6 +40,7 @@ use Rattle.marks.specs.inner.Tables.{meetsOn, clearOf}
 use Rattle.table.specs.inner.Tables.{allBelow}
 use Rattle.marks.specs.inner.PartsRead.{PartClear}
 use Rattle.lanes.specs.inner.Agreement.{verdictAgrees}
+use Rattle.lanes.proofs.Reaching.{negated}
 use Rattle.table.proofs.AllBelow.{all-each}
 use Rattle.marks.proofs.Unrolled.{equation-clear}
 use Rattle.marks.proofs.Swept.{met-each}
@@ -57,18 +58,10 @@ module _ (plan : List ℕ) (hC : 1 ≤ cycleRows plan) (mark : ℕ → ℕ → B
       here : rowOf (startRows plan) (cycleRows plan) row ≡ row
       here = row-start (startRows plan) (cycleRows plan) row h
 
-      false-of : (b : Bool) → (b ≡ true → ⊥) → b ≡ false
-      false-of true n = absurd (n refl)
-      false-of false n = refl
-
-      not-marked : (b : Bool) → not b ≡ true → b ≡ false
-      not-marked true e = absurd (false≢true e)
-      not-marked false e = refl
-
       go : (w : Verdict) → verdictOf plan x row ≡ w → verdictAgrees w (mark i row) ≡ true → atomAt plan x row ≡ mark i row
       go AlwaysTrue e m = atom-tells plan v x fits row .1 (means .alwaysTrue .0 e row here) ∙ sym m
       go AlwaysFalse e m =
-          false-of (atomAt plan x row) (λ t. means .alwaysFalse .0 e row here (atom-tells plan v x fits row .0 t)) ∙ sym (not-marked (mark i row) m)
+          not-so (atomAt plan x row) (λ t. means .alwaysFalse .0 e row here (atom-tells plan v x fits row .0 t)) ∙ sym (negated (mark i row) m)
       go Changes e m = absurd (false≢true m)
 
   steady-row : (w : Verdict) (b : Bool) → verdictAgrees w b ≡ true → isChanges w ≡ false

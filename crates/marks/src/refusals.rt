@@ -18,6 +18,7 @@ use crate::stretches::operator_clear;
 use crate::witness::witness_in_order;
 use cltlb::Atom;
 use cltlb::View;
+use lanes::rows::ComparisonPart;
 use lanes::rows::verdicts_agree;
 use plan::sizes::Sizes;
 use refusal::Outcome;
@@ -45,17 +46,15 @@ pub fn surely_clear(
     ensures { λ r. ⌜ (r ≡ true → PartClear (now (plan .entry)) (now (table .entry)) sizes view i) ⌝ }
 {
     match view {
-        View::Atom(atom) => verdicts_agree(
-            plan,
-            values,
-            drifts,
-            still,
-            table,
-            n,
-            sizes,
-            i,
-            comparison_of(atom),
-        ),
+        View::Atom(atom) => {
+            let part = ComparisonPart {
+                n: n,
+                sizes: sizes,
+                i: i,
+                comparison: comparison_of(atom),
+            };
+            verdicts_agree(plan, values, drifts, still, table, part)
+        }
         View::Operator(operator) => operator_clear(table, n, sizes, i, operator),
     }
 }

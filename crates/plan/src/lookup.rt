@@ -25,6 +25,9 @@ use fields::u32_at;
 // The last pass that the lookups reach.
 pub const LAST_PASS: u64 = 1023;
 
+// The value 0, lifted.
+pub const ZERO: u64 = (LAST_PASS + 1) * BIAS;
+
 // A value, lifted; that it is pinned; or nothing, because the position is before the run.
 pub enum Seen {
     Number(u64),

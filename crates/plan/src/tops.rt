@@ -10,8 +10,8 @@ ghost use Rattle.plan.specs.inner.Sizes.{Fitting};
 ghost use Rattle.plan.specs.inner.Lifted.{valueEnd, lowered, seenOf, Small};
 use crate::layout::head_length;
 use crate::layout::sizes_length;
-use crate::lookup::LAST_PASS;
 use crate::lookup::Seen;
+use crate::lookup::ZERO;
 use crate::lookup::entry_at;
 use crate::sizes::Sizes;
 use fields::BIAS;
@@ -49,7 +49,7 @@ pub fn seen_under(top: u64, value: u64) -> Seen
     if top == 0 {
         return Seen::Number(value);
     }
-    if value < top + (LAST_PASS + 1) * BIAS {
+    if value < top + ZERO {
         return Seen::Number(value);
     }
     Seen::Pinned

@@ -17,8 +17,13 @@ FalseFrom f k m = (i : ℕ) → k ≤ i → i < m → f i ≡ false
 abbrev pub LowestAt : (ℕ → Bool) → ℕ → ℕ → ℕ → Type 0
 LowestAt f k m j = (k ≤ j) × (j < m) × (f j ≡ true) × FalseFrom f k j
 
-true-false : {b : Bool} → b ≡ true → b ≡ false → ⊥
+-- A test is not both, and false where it is not true.
+pub true-false : {b : Bool} → b ≡ true → b ≡ false → ⊥
 true-false d e = let z : _≡_ {A = ℕ} 0 1 = cc in omega arith
+
+pub not-so : (b : Bool) → (b ≡ true → ⊥) → b ≡ false
+not-so true h = absurd (h refl)
+not-so false h = refl
 
 none-some : {o : Option ℕ} {j : ℕ} → o ≡ none → o ≡ some j → ⊥
 none-some d e = let z : _≡_ {A = ℕ} 0 1 = cc in omega arith

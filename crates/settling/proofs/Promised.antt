@@ -20,7 +20,7 @@ use Rattle.refusal.specs.declared.Refusal.{Refusal}
 use Rattle.refusal.specs.declared.Refusal.the-variants.{BufferLength, NoLayout}
 use Rattle.refusal.specs.First.{unless}
 use Rattle.refusal.proofs.First.{orElse-clear, unless-clear}
-use Rattle.refusal.proofs.Lowest.{lowest-none, lowest-some}
+use Rattle.refusal.proofs.Lowest.{true-false, not-so, lowest-none, lowest-some}
 use Rattle.refusal.proofs.RefusesOnly.{Small, Within, RefusesOnly, refused-only, orElse-only, unless-only, within-small, within-wider}
 use Rattle.rule.specs.Layout.{partCount, channelCount}
 use Rattle.rule.specs.Take.{viewsOf}
@@ -43,7 +43,7 @@ use Rattle.settling.specs.Settle.{laidOutLength, scratchLength, settlesA
 use Rattle.settling.specs.Promise.{SettledAfter, FewestSettle, NoDrift, mostPasses, Lent, SettlePromise}
 use Rattle.settling.proofs.Bound.{still-settled}
 use Rattle.settling.proofs.Closings.{closings-settled, settled-makes}
-use Rattle.settling.proofs.Searched.{true-false, not-so, settles-as}
+use Rattle.settling.proofs.Searched.{settles-as}
 
 -- ---- a rule and a plan that clear 1 to 6
 

@@ -8,7 +8,7 @@ use mathlib.Core.Bool.{Bool, true, false, true≢false}
 use mathlib.Core.List.{List}
 use mathlib.Core.Logic.{_↔_, inl, by-cases}
 use Rattle.refusal.specs.Lowest.{lowestFrom}
-use Rattle.refusal.proofs.Lowest.{from-none}
+use Rattle.refusal.proofs.Lowest.{not-so, from-none}
 use Rattle.plan.specs.Layout.{cycleRows}
 use Rattle.plan.specs.declared.sizes.Sizes.{Sizes}
 use Rattle.plan.specs.inner.Sizes.{Fitting}
@@ -24,7 +24,6 @@ use Rattle.words.specs.inner.Written.{Marked}
 use Rattle.words.proofs.Marking.{marked-others, marked-up}
 use Rattle.marks.specs.Parts.{isChanges}
 use Rattle.settling.specs.inner.Scratch.{changingFrom, isNone}
-use Rattle.settling.proofs.Searched.{not-so}
 use Rattle.settling.proofs.Steadying.{none-is, means}
 
 -- What does not change is on every pass what it is on the first.

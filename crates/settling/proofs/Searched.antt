@@ -4,7 +4,7 @@ use Prim.Native.Nat.{ℕ, _+_, _≤_, _<_}
 use native.Mathlib.Decide.{decLt}
 use native.Mathlib.Omega.{arith}
 use mathlib.Core.Path.{_≡_, refl, ap₂, subst}
-use mathlib.Core.Bool.{Bool, true, false, _&&_}
+use mathlib.Core.Bool.{true, false, _&&_}
 use mathlib.Core.List.{List}
 use mathlib.Core.Option.{none, some}
 use mathlib.Core.Logic.{_↔_, Iff·trans, Iff·symm, by-cases}
@@ -12,7 +12,7 @@ use Rattle.cltlb.specs.Fits.{viewFits}
 use Rattle.refusal.specs.declared.Outcome.{Outcome}
 use Rattle.refusal.specs.declared.Outcome.the-variants.{Clear, Refused}
 use Rattle.refusal.proofs.First.{clear-refused, inTurn-clear}
-use Rattle.refusal.proofs.Lowest.{lowest-none, lowest-some}
+use Rattle.refusal.proofs.Lowest.{true-false, not-so, lowest-none, lowest-some}
 use Rattle.rule.specs.Layout.{partCount}
 use Rattle.rule.specs.Take.{viewsOf}
 use Rattle.plan.specs.Layout.{cycleRows}
@@ -28,13 +28,6 @@ use Rattle.settling.specs.Settle.{isClear, settlesAfter, fewestPasses}
 use Rattle.settling.specs.inner.Scratch.{closesOn}
 
 -- ---- tests
-
-pub true-false : {b : Bool} → b ≡ true → b ≡ false → ⊥
-true-false d e = let z : _≡_ {A = ℕ} 0 1 = cc in omega arith
-
-pub not-so : (b : Bool) → (b ≡ true → ⊥) → b ≡ false
-not-so true h = absurd (h refl)
-not-so false h = refl
 
 -- The test whether an outcome refuses nothing.
 pub is-clear : (o : Outcome) → (isClear o ≡ true) ↔ (o ≡ Clear)

@@ -17,7 +17,7 @@ use Rattle.cltlb.specs.declared.View.{View}
 use Rattle.cltlb.specs.declared.View.the-variants as view
 use Rattle.cltlb.proofs.Fits.{atom-fits}
 use Rattle.refusal.specs.Lowest.{lowestFrom}
-use Rattle.refusal.proofs.Lowest.{from-none}
+use Rattle.refusal.proofs.Lowest.{true-false, not-so, from-none}
 use Rattle.rule.specs.Take.{takeOf, viewsOf}
 use Rattle.rule.specs.declared.Taken.{Taken}
 use Rattle.rule.specs.declared.Taken.the-variants as K
@@ -42,7 +42,7 @@ use Rattle.laid_out.specs.LaidOut.{laidOut, canBeLaid}
 use Rattle.settling.specs.Settle.{isClear, settlesAfter}
 use Rattle.words.specs.inner.Words.{mostRows}
 use Rattle.settling.specs.inner.Scratch.{changingFrom, isNone, closesOn, Unsteady, NoneSettles}
-use Rattle.settling.proofs.Searched.{true-false, not-so, part-open, not-laid}
+use Rattle.settling.proofs.Searched.{part-open, not-laid}
 use Rattle.settling.proofs.Trying.{steady-as}
 
 -- ---- a comparison that changes has changed before

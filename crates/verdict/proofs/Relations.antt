@@ -9,6 +9,7 @@ use lib.IntN.{ℤ}
 use lib.Signed.{_<ℤ_}
 use Rattle.cltlb.specs.Run.{Seen, number, pinned, beforeRun, isPinned, under}
 use Rattle.cltlb.specs.Truth.{Compared}
+use Rattle.cltlb.proofs.Pinned.{no-number}
 use Rattle.verdict.specs.Comparisons.{testOf, ofNumber, ofNumbers, seenPinned, tested, judgeLines}
 use Rattle.verdict.specs.Weeks.{minutesAfter}
 use Rattle.verdict.specs.declared.Relation.{Relation}
@@ -72,10 +73,7 @@ test-before Same b = refl
 test-before (Within n) b = refl
 test-before Pinned b = refl
 
--- No number is seen where it is pinned or before the run.
-pinned-number : (a : ℤ) → pinned ≡ number a → ⊥
-pinned-number a e = let z : _≡_ {A = ℕ} 0 1 = cc in absurd (omega arith)
-
+-- No number is seen before the run.
 before-number : (a : ℤ) → beforeRun ≡ number a → ⊥
 before-number a e = let z : _≡_ {A = ℕ} 0 1 = cc in absurd (omega arith)
 
@@ -93,11 +91,11 @@ module _ (R : ℤ → ℤ → Type 0) where
 
   no-left : (b : Seen) → (Compared R pinned b → ⊥) × (Compared R beforeRun b → ⊥)
   unfolding Compared
-  no-left b = (λ h. pinned-number (h .0) (h .2), λ h. before-number (h .0) (h .2))
+  no-left b = (λ h. no-number (h .0) (h .2), λ h. before-number (h .0) (h .2))
 
   no-right : (a : Seen) → (Compared R a pinned → ⊥) × (Compared R a beforeRun → ⊥)
   unfolding Compared
-  no-right a = (λ h. pinned-number (h .1) (h .3), λ h. before-number (h .1) (h .3))
+  no-right a = (λ h. no-number (h .1) (h .3), λ h. before-number (h .1) (h .3))
 
   -- The test of what is seen tells whether it is two numbers that stand in the relation.
   numbers-decide : (test : ℤ → ℤ → Bool) → Decides test R → (a b : Seen) → (ofNumbers test a b ≡ true) ↔ Compared R a b
@@ -120,7 +118,7 @@ module _ (R : ℤ → ℤ → Type 0) where
 
 pinned-decides : (a : Seen) → (seenPinned a ≡ true) ↔ (a ≡ pinned)
 unfolding seenPinned
-pinned-decides (number a) = (λ t. absurd (false≢true t), λ e. absurd (pinned-number a (sym e)))
+pinned-decides (number a) = (λ t. absurd (false≢true t), λ e. absurd (no-number a (sym e)))
 pinned-decides pinned = (λ _. refl, λ _. refl)
 pinned-decides beforeRun = (λ t. absurd (false≢true t), λ e. absurd (before-pinned e))
 
@@ -130,7 +128,7 @@ pinned-under top z = by-test (isPinned top z)
   where
     by-test : (p : Bool) → (p ≡ true) ↔ (cond p pinned (number z) ≡ pinned)
     by-test true = (λ _. refl, λ _. refl)
-    by-test false = (λ t. absurd (false≢true t), λ e. absurd (pinned-number z (sym e)))
+    by-test false = (λ t. absurd (false≢true t), λ e. absurd (no-number z (sym e)))
 
 -- The test of what is seen of two terms tells whether they stand in the relation.
 pub tested-decides : (relation : Relation) (a b : Seen) → (tested relation a b ≡ true) ↔ SeenRelates relation a b

@@ -26,7 +26,7 @@ use crate::stretches::same;
 use crate::weeks::WEEK;
 use crate::weeks::minutes_after;
 use fields::BIAS;
-use plan::lookup::LAST_PASS;
+use plan::lookup::ZERO;
 
 // The line of a top.
 fn level_at(top: u64) -> LiftedLine
@@ -34,7 +34,7 @@ fn level_at(top: u64) -> LiftedLine
     ensures { λ r. ⌜ (lineOf r ≡ level (pos top)) × (Low r) ⌝ }
 {
     LiftedLine {
-        at: top + (LAST_PASS + 1) * BIAS,
+        at: top + ZERO,
         step: BIAS,
     }
 }

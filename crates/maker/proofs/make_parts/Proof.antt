@@ -5,7 +5,6 @@ use denote.Ref.{now}
 use mathlib.Core.Path.{_≡_, refl, _∙_}
 use lib.ListN.{length}
 use Rattle.refusal.specs.First.{inTurnFrom}
-use Rattle.refusal.proofs.First.{clear-refused}
 use Rattle.plan.specs.inner.Sizes.{allRows}
 use Rattle.maker.specs.Make.{openOutcome, closingsOutcome}
 use Rattle.maker.specs.inner.Parts.{MadeBelow}

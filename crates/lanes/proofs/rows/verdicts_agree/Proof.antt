@@ -30,13 +30,13 @@ add-w c = search needs
 -- src/rows.rt:180:9
 side-of-requires : tie.Need-side-of-requires
 side-of-requires c κs =
-    let start = c .before .before .before .before .before in
+    let start = c .before .before .before .before .before .before .before in
     (start .pre .0, start .pre .4 .0)
 
 -- src/rows.rt:181:9
 side-of-requires-2 : tie.Need-side-of-requires-2
 side-of-requires-2 c κs =
-    let start = c .before .before .before .before .before .before in
+    let start = c .before .before .before .before .before .before .before .before in
     (start .pre .0, start .pre .4 .1)
 
 -- src/rows.rt:182:23
@@ -57,7 +57,7 @@ larger-requires-2 c κs = search needs
 
 -- how far back the two terms are read at most
 farther : (c : tie.After-larger) →
-    let x = c .before .before .before .before .before .before .before .before .before .before .args .comparison in
+    let x = c .before .before .before .before .before .before .before .before .before .before .before .before .args .part .comparison in
     c .larger .result ≡ max (reach (x .left)) (reach (x .right))
 farther c =
     let reach-of = c .before .before .reach-of in
@@ -66,27 +66,27 @@ farther c =
 
 few-back : (c : tie.After-larger) → c .larger .result ≤ 4
 few-back c =
-    let start = c .before .before .before .before .before .before .before .before .before .before in
-    farther-le (start .args .sizes) (start .args .comparison) _ (farther c) (start .pre .4)
+    let start = c .before .before .before .before .before .before .before .before .before .before .before .before in
+    farther-le (start .args .part .sizes) (start .args .part .comparison) _ (farther c) (start .pre .4)
 
 -- src/rows.rt:183:9
 ranges-of-requires : tie.Need-ranges-of-requires
 ranges-of-requires c κs =
     let sides = c .before .before .before .before in
-    let start = sides .before .before .before .before .before .before .before in
+    let start = sides .before .before .before .before .before .before .before .before .before in
     (start .pre .0 .few-rows, few-back (c .before), omega (arith, c .larger2 .ensures, sides .before .side-of .ensures .few, sides .side-of2 .ensures .few))
 
 -- what is known once the ranges are found
 ranged : (c : tie.After-ranges-of) →
     let sides = c .before .before .before .before .before in
-    let args = sides .before .before .before .before .before .before .before .args in
-    Ranged (now (args .plan)) (now (args .table)) (args .sizes) (args .n) (args .i) (args .comparison) (sides .before .side-of .result) (sides .side-of2 .result)
+    let args = sides .before .before .before .before .before .before .before .before .before .args in
+    Ranged (now (args .plan)) (now (args .table)) (args .part) (record { left = sides .before .side-of .result; right = sides .side-of2 .result })
     (c .before .before .larger .result) (c .before .larger2 .result) (args .still) (c .ranges-of .result)
 ranged c =
     let sides = c .before .before .before .before .before in
     let side-of = sides .before .side-of in
     let side-of2 = sides .side-of2 in
-    let start = sides .before .before .before .before .before .before .before in
+    let start = sides .before .before .before .before .before .before .before .before .before in
     record {
       fitting = start .pre .0;
       sized = start .pre .2;
@@ -108,68 +108,68 @@ place-requires c κs = search needs
 none-marked-requires : tie.Need-none-marked-requires
 none-marked-requires c κs =
     let ranges = c .before in
-    let start = ranges .before .before .before .before .before .before .before .before .before .before .before .before in
+    let start = ranges .before .before .before .before .before .before .before .before .before .before .before .before .before .before in
     let order = ranges .ranges-of .ensures .in-order in
-    let marks = law.marks-from-first _ _ _ (start .pre .2) (start .args .i) (ranges .ranges-of .result .before) _ (start .pre .3) (omega arith) (c .place .ensures) in
+    let marks = law.marks-from-first _ _ _ (start .pre .2) (start .args .part .i) (ranges .ranges-of .result .before) _ (start .pre .3) (omega arith) (c .place .ensures) in
     (marks .there, marks .few)
 
 -- src/rows.rt:185:9
 direct-numbers-requires : tie.Need-direct-numbers-requires
 direct-numbers-requires c κs =
     let ranges = c .before .before in
-    let start = ranges .before .before .before .before .before .before .before .before .before .before .before .before in
-    (law.numbers-stretch (ranged ranges), law.long-lanes (start .args .sizes) (start .pre .1 .readings-laid))
+    let start = ranges .before .before .before .before .before .before .before .before .before .before .before .before .before .before in
+    (law.numbers-stretch (ranged ranges), law.long-lanes (start .args .part .sizes) (start .pre .1 .readings-laid))
 
 add-still-one-by-one : tie.Need-add-still-one-by-one
 add-still-one-by-one c =
     let ranges = c .before .before .before .before .before .before in
-    let start = ranges .before .before .before .before .before .before .before .before .before .before .before .before in
+    let start = ranges .before .before .before .before .before .before .before .before .before .before .before .before .before .before in
     omega (arith, start .pre .0 .few-rows, few-back (ranges .before .before))
 
 still-one-by-one-requires : tie.Need-still-one-by-one-requires
 still-one-by-one-requires c κs =
     let ranges = c .before .before .before .before .before .before in
-    let start = ranges .before .before .before .before .before .before .before .before .before .before .before .before in
-    (law.later-positions (ranged ranges) (c .if2 .taken) (omega arith, omega (arith, few-back (ranges .before .before))), law.long-lanes (start .args .sizes) (start .pre .1 .readings-laid))
+    let start = ranges .before .before .before .before .before .before .before .before .before .before .before .before .before .before in
+    (law.later-positions (ranged ranges) (c .if2 .taken) (omega arith, omega (arith, few-back (ranges .before .before))), law.long-lanes (start .args .part .sizes) (start .pre .1 .readings-laid))
 
 returns : tie.Need-returns
 returns c =
     let ranges = c .before .before .before .before .before .before .before in
-    let start = ranges .before .before .before .before .before .before .before .before .before .before .before .before in
+    let start = ranges .before .before .before .before .before .before .before .before .before .before .before .before .before .before in
     law.still-swept (ranged ranges) (start .pre .1) _ (c .before .before .before .before .before .before .place .ensures) (c .before .before .before .before .before .none-marked .ensures) (c .before .before .before .before .direct-numbers .ensures)
     (c .before .before .before .if1 .taken) (c .before .if2 .taken) (c .still-one-by-one .ensures)
 
 direct-lines-requires : tie.Need-direct-lines-requires
 direct-lines-requires c κs =
     let ranges = c .before .before .before .before in
-    let start = ranges .before .before .before .before .before .before .before .before .before .before .before .before in
-    (law.lines-stretch (ranged ranges), law.long-lanes (start .args .sizes) (start .pre .1 .readings-laid), law.lines-lanes (ranged ranges) (start .pre .1))
+    let start = ranges .before .before .before .before .before .before .before .before .before .before .before .before .before .before in
+    (law.lines-stretch (ranged ranges), law.long-lanes (start .args .part .sizes) (start .pre .1 .readings-laid), law.lines-lanes (ranged ranges) (start .pre .1))
 
 add-one-by-one : tie.Need-add-one-by-one
 add-one-by-one c =
     let ranges = c .before .before .before .before .before .before in
-    let start = ranges .before .before .before .before .before .before .before .before .before .before .before .before in
+    let start = ranges .before .before .before .before .before .before .before .before .before .before .before .before .before .before in
     omega (arith, start .pre .0 .few-rows, few-back (ranges .before .before))
 
 add-one-by-one-2 : tie.Need-add-one-by-one-2
 add-one-by-one-2 c =
     let ranges = c .before .before .before .before .before .before in
-    let start = ranges .before .before .before .before .before .before .before .before .before .before .before .before in
+    let start = ranges .before .before .before .before .before .before .before .before .before .before .before .before .before .before in
     omega (arith, start .pre .0 .few-rows, few-back (ranges .before .before))
 
 one-by-one-requires : tie.Need-one-by-one-requires
 one-by-one-requires c κs =
     let ranges = c .before .before .before .before .before .before in
-    let start = ranges .before .before .before .before .before .before .before .before .before .before .before .before in
+    let start = ranges .before .before .before .before .before .before .before .before .before .before .before .before .before .before in
     let larger = ranges .before .before in
-    let inside = farther-in (start .args .sizes) (start .args .comparison) _ (farther larger) (start .args .sizes .start + larger .larger .result) (omega arith) in
+    let inside = farther-in (start .args .part .sizes) (start .args .part .comparison) _ (farther larger) (start .args .part .sizes .start + larger .larger .result) (omega arith) in
     let order = ranges .ranges-of .ensures .in-order in
     (start .pre .0, start .pre .2, start .pre .3, start .pre .4, inside .0, inside .1, omega arith, omega (arith, few-back larger))
 
 returns-2 : tie.Need-returns-2
 returns-2 c =
     let ranges = c .before .before .before .before .before .before .before in
-    let start = ranges .before .before .before .before .before .before .before .before .before .before .before .before in
+    let start = ranges .before .before .before .before .before .before .before .before .before .before .before .before .before .before in
     law.all-swept (ranged ranges) (start .pre .1) _ (c .before .before .before .before .before .before .place .ensures) (c .before .before .before .before .before .none-marked .ensures) (c .before .before .before .before .direct-numbers .ensures)
     (c .before .before .direct-lines .ensures) (c .one-by-one .ensures)
 

@@ -19,14 +19,6 @@ returns c =
 add-if2 : tie.Need-add-if2
 add-if2 c = search needs
 
--- src/tops.rt:52:22
-mul-if2 : tie.Need-mul-if2
-mul-if2 c = search needs
-
--- src/tops.rt:52:16
-add-if2-2 : tie.Need-add-if2-2
-add-if2-2 c = search needs
-
 -- src/tops.rt:53:9
 returns-2 : tie.Need-returns-2
 unfolding seenOf
@@ -42,4 +34,4 @@ returns-3 c =
     (under-above (start .args .top) (start .args .value) (omega arith) (omega arith), tt)
 
 pub seen-under-spec : {M : Type 1} → statement M
-seen-under-spec = tie.close (tie.spec returns add-if2 mul-if2 add-if2-2 returns-2 returns-3)
+seen-under-spec = tie.close (tie.spec returns add-if2 returns-2 returns-3)

@@ -8,14 +8,8 @@ use Rattle.verdict.proofs.tops.level_at.Tie as tie
 add-t2 : tie.Need-add-t2
 add-t2 c = search needs
 
-mul-t3 : tie.Need-mul-t3
-mul-t3 c = search needs
-
-add-t4 : tie.Need-add-t4
-add-t4 c = search needs
-
 returns : tie.Need-returns
 returns c = (level-lifted (c .args .top), omega arith)
 
 pub level-at-spec : {M : Type 1} → statement M
-level-at-spec = tie.close (tie.spec add-t2 mul-t3 add-t4 returns)
+level-at-spec = tie.close (tie.spec add-t2 returns)
