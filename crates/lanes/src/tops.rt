@@ -1,15 +1,18 @@
 // Sweeps over two columns with tops, and the marks of a part. Where neither has a top they are the sweeps over the numbers and the
-// lines themselves; else each row is looked at under the tops.
+// lines themselves, and of lines also where none of them comes to its top; else each row is looked at under the tops.
 ghost use mathlib.Core.Path.{_≡_};
-ghost use Prim.Native.Nat.{_+_, _<_};
+ghost use mathlib.Core.Bool.{true};
+ghost use Prim.Native.Nat.{_+_, _≤_, _<_};
 ghost use lib.IntN.{pos};
+ghost use lib.ListN.{length};
 ghost use Rattle.cltlb.specs.Run.{isPinned, under};
 ghost use Rattle.fields.specs.inner.Biased.{patterns, bias, unbiased};
+ghost use Rattle.plan.specs.inner.Sizes.{mostArray};
 ghost use Rattle.table.specs.inner.Tables.{allBelow, markIn};
 ghost use Rattle.verdict.specs.Comparisons.{tested};
 ghost use Rattle.verdict.specs.Tops.{judgeUnder};
-ghost use Rattle.lanes.specs.inner.Agreement.{lineFrom, verdictAgrees, seenAgree, underAgree};
-ghost use Rattle.lanes.specs.inner.Columns.{InLanes, InMarks};
+ghost use Rattle.lanes.specs.inner.Agreement.{lineFrom, verdictAgrees, seenAgree, underAgree, StayFree};
+ghost use Rattle.lanes.specs.inner.Columns.{Reaches, InLanes, InMarks};
 use crate::columns::Column;
 use crate::columns::drift;
 use crate::columns::number;
@@ -127,6 +130,24 @@ fn topped_lines(
     all
 }
 
+// No line of a column comes to its top: each lies below it and does not rise.
+fn stays_free(values: &[u8], drifts: &[u8], x: Column, count: usize) -> bool
+    requires { ⌜ (Reaches (now values) x count) × (length (now values) ≤ mostArray) × (Reaches (now drifts) x count) × (length (now drifts) ≤ mostArray) × (x .top < bias) ⌝ }
+    ensures { λ r. ⌜ (r ≡ true → StayFree (now (values .entry)) (now (drifts .entry)) x count) ⌝ }
+{
+    if x.top == 0 {
+        return true;
+    }
+    let end = x.top + BIAS;
+    let mut all = true;
+    let mut k = 0;
+    while k < count {
+        all = all & ((number(values, x, k) < end) & (drift(drifts, x, k) <= BIAS));
+        k += 1;
+    }
+    all
+}
+
 // The marks say how what is seen in two columns compares.
 pub fn seen_agree(
     values: &[u8],
@@ -162,8 +183,8 @@ pub fn under_agree(
     requires { ⌜ (InLanes (now values) x y count) × (InLanes (now drifts) x y count) × (InMarks (now table) m count) × (x .top < bias) × (y .top < bias) ⌝ }
     ensures { λ r. ⌜ r ≡ allBelow (λ k. underAgree relation (now (values .entry)) (now (drifts .entry)) x y (markIn (now (table .entry)) (m + k)) k) count ⌝ }
 {
-    if x.top == 0 {
-        if y.top == 0 {
+    if stays_free(values, drifts, x, count) {
+        if stays_free(values, drifts, y, count) {
             return lines_agree(values, drifts, relation, x, y, table, m, count);
         }
     }

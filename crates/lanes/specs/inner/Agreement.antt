@@ -1,11 +1,14 @@
--- Marks that say on every pass how two lines compare. Assumes nothing.
-use Prim.Native.Nat.{ℕ}
+-- Marks that say on every pass how two lines compare, and lines that do not come to their tops. Assumes nothing.
+use Prim.Native.Nat.{ℕ, _<_}
+use mathlib.Core.Path.{_≡_}
 use mathlib.Core.Bool.{Bool, true, false, not, Bool·beq}
 use mathlib.Core.List.{List}
+use lib.IntN.{ℤ}
 use Rattle.fields.specs.inner.Biased.{unbiased}
 use Rattle.verdict.specs.Lines.{Line}
 use Rattle.verdict.specs.Comparisons.{testOf, tested, judgeLines}
-use Rattle.verdict.specs.Tops.{judgeUnder}
+use Rattle.verdict.specs.Stretches.{allPasses, noPass}
+use Rattle.verdict.specs.Tops.{passesFree, passesPinned, judgeUnder}
 use Rattle.verdict.specs.declared.Relation.{Relation}
 use Rattle.verdict.specs.declared.Verdict.{Verdict}
 use Rattle.verdict.specs.declared.Verdict.the-variants.{AlwaysTrue, AlwaysFalse, Changes}
@@ -42,3 +45,12 @@ seenAgree relation values x y mark k = Bool·beq mark (tested relation (seenIn v
 
 abbrev pub underAgree : Relation → List ℕ → List ℕ → Column → Column → Bool → ℕ → Bool
 underAgree relation values drifts x y mark k = verdictAgrees (judgeUnder relation (topIn x) (lineIn values drifts x k) (topIn y) (lineIn values drifts y k)) mark
+
+-- a line is below its top on every pass
+pub record Free (top : ℤ) (x : Line) : Type 0 where
+  pub free : allPasses ≡ passesFree top x
+  pub pinned : noPass ≡ passesPinned top x
+
+-- and so are the lines of a column on its first `count` rows
+unfoldable pub StayFree : List ℕ → List ℕ → Column → ℕ → Type 0
+StayFree values drifts x count = (k : ℕ) → k < count → Free (topIn x) (lineIn values drifts x k)
