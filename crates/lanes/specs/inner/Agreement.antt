@@ -1,8 +1,9 @@
 -- Marks that say on every pass how two lines compare. Assumes nothing.
 use Prim.Native.Nat.{ℕ}
-use mathlib.Core.Bool.{Bool, true, false, not, Bool·beq}
+use mathlib.Core.Bool.{Bool, false, not, Bool·beq}
 use mathlib.Core.List.{List}
 use Rattle.fields.specs.inner.Biased.{unbiased}
+use Rattle.verdict.specs.Meaning.{isChanges}
 use Rattle.verdict.specs.Lines.{Line}
 use Rattle.verdict.specs.Comparisons.{testOf, tested, judgeLines}
 use Rattle.verdict.specs.Tops.{judgeUnder}
@@ -24,9 +25,7 @@ verdictAgrees Changes mark = false
 
 -- a verdict is no change
 abbrev pub stays : Verdict → Bool
-stays AlwaysTrue = true
-stays AlwaysFalse = true
-stays Changes = false
+stays v = not (isChanges v)
 
 -- the mark says how the numbers of two columns compare
 abbrev pub valuesAgree : Relation → List ℕ → Column → Column → Bool → ℕ → Bool
