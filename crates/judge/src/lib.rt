@@ -28,7 +28,7 @@ fn judge_part(rule: &[u8], plan: &[u8], n: usize, sizes: Sizes, part: usize, row
         return Judged::Refused(Refusal::Absent);
     }
     match cltlb::view_of(found) {
-        View::Atom(atom) => Judged::Verdict(verdict::rows::judge_row(plan, sizes, atom, row)),
+        View::Atom(atom) => Judged::Verdict(verdict::atoms::judge_row(plan, sizes, atom, row)),
         View::Operator(_) => Judged::Refused(Refusal::Absent),
     }
 }

@@ -19,6 +19,7 @@ use Rattle.refusal.proofs.Search.{searchFrom, search-on, search-stops, search-e
 use Rattle.plan.specs.Layout.{startRows, cycleRows}
 use Rattle.plan.specs.declared.sizes.Sizes.{Sizes}
 use Rattle.plan.specs.inner.Sizes.{allRows, Fitting}
+use Rattle.verdict.specs.Meaning.{isChanges}
 use Rattle.verdict.specs.Comparisons.{comparisonOf}
 use Rattle.verdict.specs.Rows.{join, joinFirst, testAt, judgeFrom, judgeCycle, judgeRow, atomAt, verdictOf}
 use Rattle.verdict.specs.declared.Comparison.{Comparison}
@@ -29,7 +30,7 @@ use Rattle.table.specs.inner.Stored.{Stored}
 use Rattle.table.specs.inner.Tables.{mostBytes, Sized}
 use Rattle.table.proofs.Places.{cell, area}
 use Rattle.table.proofs.Stores.{stored-none, stored-join}
-use Rattle.marks.specs.Parts.{isChanges, steadyOutcome}
+use Rattle.marks.specs.Parts.{steadyOutcome}
 use Rattle.marks.proofs.PartsChecked.{steady-starts}
 use Rattle.labelling.specs.inner.Rows.{isTrue, RowsLabelled}
 

@@ -10,7 +10,6 @@ ghost use Rattle.table.specs.inner.Tables.{Sized};
 ghost use Rattle.marks.specs.Parts.{steadyOutcome};
 ghost use Rattle.labelling.specs.inner.Rows.{isTrue, RowsLabelled};
 use cltlb::Atom;
-use marks::refusals::is_changes;
 use plan::sizes::Sizes;
 use refusal::Outcome;
 use refusal::Refusal;
@@ -18,7 +17,8 @@ use table::bytes::place;
 use table::fills::put_mark;
 use verdict::Comparison;
 use verdict::Verdict;
-use verdict::rows::comparison_of;
+use verdict::atoms::comparison_of;
+use verdict::is_changes;
 use verdict::rows::judge_comparison;
 
 fn is_true(verdict: Verdict) -> bool

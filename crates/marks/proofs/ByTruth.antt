@@ -32,26 +32,21 @@ use Rattle.refusal.proofs.First.{clear-refused, unless-refused, unless-clear-T,
 use Rattle.plan.specs.Layout.{startRows, cycleRows, rows}
 use Rattle.plan.specs.Positions.{passOf}
 use Rattle.plan.specs.Run.{runOf}
-use Rattle.verdict.specs.declared.Verdict.{Verdict}
-use Rattle.verdict.specs.declared.Verdict.the-variants.{AlwaysTrue, AlwaysFalse, Changes}
+use Rattle.verdict.specs.Meaning.{isChanges}
 use Rattle.verdict.specs.Rows.{atomAt, verdictOf}
+use Rattle.verdict.proofs.Verdicts.{is-changes, same-truth}
 use Rattle.marks.specs.declared.operators.Beside.{Beside}
 use Rattle.marks.specs.declared.operators.Beside.the-variants.{After, Before}
 use Rattle.marks.specs.Equations.{besideOne, besideTwo, besideOf, stepOn, watchedTruth, markBeside}
-use Rattle.marks.specs.Parts.{isChanges, running, closesBy, closes, steadyOutcome, closingOutcome}
+use Rattle.marks.specs.Parts.{running, closesBy, closes, steadyOutcome, closingOutcome}
 use Rattle.marks.specs.Meaning.{SameOn, DiffersOn}
 use Rattle.marks.proofs.Tests.{T-path, beq-T, beq-differs}
 use Rattle.marks.proofs.Rows.{lastRow, rowAt, first-position, last-is-row, again, once-more, second-pass, on-cycle-row, after-last-row}
 use Rattle.marks.proofs.Endless.{Agrees, besideAt, due}
 use Rattle.marks.proofs.Temporal.{agrees-below, meets-agrees}
-use Rattle.marks.proofs.Comparisons.{Judged, judged-atom, same-truth, steady-iff}
+use Rattle.marks.proofs.Comparisons.{Judged, judged-atom, steady-iff}
 use Rattle.marks.proofs.Unrolled.{RowsMet, beside-same, unrolled}
 use Rattle.marks.proofs.Parts.{Right, This, Due, byEarlier, byLater, is-due, repeats}
-
-is-changes : (v : Verdict) → isChanges v ≡ true → v ≡ Changes
-is-changes AlwaysTrue e = absurd (true≢false (sym e))
-is-changes AlwaysFalse e = absurd (true≢false (sym e))
-is-changes Changes e = refl
 
 module _ (plan : List ℕ) (F : ℕ → Type 0) where
   -- What a refusal 10 says of a part whose truth is F.

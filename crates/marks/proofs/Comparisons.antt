@@ -1,7 +1,7 @@
 -- A comparison that changes on no cycle row is at every position what it is on the position's row, and the other way round.
 -- Assumes nothing.
 use mathlib.Core.Path.{_≡_, refl, sym, ap, _∙_}
-use mathlib.Core.Bool.{true, false, true≢false}
+use mathlib.Core.Bool.{true, false}
 use mathlib.Core.List.{List}
 use mathlib.Core.Logic.{_↔_, Iff·symm, Iff·trans, by-cases}
 use Prim.Native.Nat.{ℕ, _≤_, _<_}
@@ -17,14 +17,11 @@ use Rattle.refusal.specs.Lowest.{lowestFrom}
 use Rattle.refusal.proofs.Lowest.{from-none}
 use Rattle.refusal.proofs.First.{refusedAt-clear}
 use Rattle.plan.specs.Layout.{startRows, cycleRows, rows}
-use Rattle.plan.specs.Positions.{rowOf}
 use Rattle.plan.specs.Run.{runOf}
-use Rattle.verdict.specs.declared.Verdict.{Verdict}
-use Rattle.verdict.specs.declared.Verdict.the-variants.{AlwaysTrue, AlwaysFalse, Changes}
-use Rattle.verdict.specs.Meaning.{VerdictMeans}
+use Rattle.verdict.specs.Meaning.{VerdictMeans, isChanges}
 use Rattle.verdict.specs.Rows.{atomAt, verdictOf}
-use Rattle.verdict.proofs.Verdicts.{judged, atom-tells}
-use Rattle.marks.specs.Parts.{isChanges, steadyOutcome}
+use Rattle.verdict.proofs.Verdicts.{judged, atom-tells, same-truth, not-changes}
+use Rattle.marks.specs.Parts.{steadyOutcome}
 use Rattle.verdict.proofs.Decisions.{T-true}
 use Rattle.marks.proofs.Tests.{T-ext}
 use Rattle.marks.proofs.Rows.{rowAt, first-position, start-row, from-start, is-row}
@@ -43,20 +40,6 @@ judged-atom plan hC v x fits = record {
   tells = atom-tells plan v x fits;
   verdict = λ row low high. judged plan hC row high v x fits;
 }
-
--- Where a verdict is not "changes", the truth at two positions of the row is one.
-pub same-truth : (P C row : ℕ) (F : ℕ → Type 0) (v : Verdict) → VerdictMeans P C row F v → isChanges v ≡ false
-    → (s t : ℕ) → rowOf P C s ≡ row → rowOf P C t ≡ row → F s ↔ F t
-same-truth P C row F AlwaysTrue w e s t d k = let all = w .alwaysTrue .0 refl in (λ _. all t k, λ _. all s d)
-same-truth P C row F AlwaysFalse w e s t d k = let none = w .alwaysFalse .0 refl in (λ h. absurd (none s d h), λ h. absurd (none t k h))
-same-truth P C row F Changes w e s t d k = absurd (true≢false e)
-
-not-changes : (P C row : ℕ) (F : ℕ → Type 0) (v : Verdict) → VerdictMeans P C row F v
-    → ((s t : ℕ) → rowOf P C s ≡ row → rowOf P C t ≡ row → F s → F t) → isChanges v ≡ false
-not-changes P C row F AlwaysTrue w same = refl
-not-changes P C row F AlwaysFalse w same = refl
-not-changes P C row F Changes w same =
-    let p = w .changes .0 refl in absurd (p .1 .2 (same (p .0 .0) (p .1 .0) (p .0 .1) (p .1 .1) (p .0 .2)))
 
 module _ (plan : List ℕ) (hC : 1 ≤ cycleRows plan) (x : Atom) (i : ℕ) (F : ℕ → Type 0) (right : Judged plan x F) where
   -- The comparison at a position is what it is at the first position of the row.

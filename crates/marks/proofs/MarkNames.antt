@@ -17,9 +17,10 @@ use Rattle.refusal.specs.First.{_orElse_, unless, atLowest, inTurn}
 use Rattle.refusal.proofs.First.{orElse-clear, unless-clear}
 use Rattle.refusal.proofs.RefusesOnly.{Small, Within, RefusesOnly, orElse-only, unless-only, search-only, atLowest-only, inTurn-only}
 use Rattle.plan.specs.Layout.{startRows, cycleRows, rows}
+use Rattle.verdict.specs.Meaning.{isChanges}
 use Rattle.verdict.specs.Rows.{verdictOf}
 use Rattle.table.specs.Layout.{sizesFit, aboveOne, bytesOutcome, tableOutcome}
-use Rattle.marks.specs.Parts.{isChanges, closes, witnessInOrder, steadyOutcome, breaks, equationOutcome, closingOutcome, witnessOutcome, partOutcome}
+use Rattle.marks.specs.Parts.{closes, witnessInOrder, steadyOutcome, breaks, equationOutcome, closingOutcome, witnessOutcome, partOutcome}
 use Rattle.table.specs.inner.Tables.{Sized}
 
 -- A table that passes refusal 7 has n parts on w rows.

@@ -27,7 +27,7 @@ use Rattle.plan.specs.Run.{runOf}
 use Rattle.plan.proofs.Rows.{row-start}
 use Rattle.verdict.specs.declared.Verdict.{Verdict}
 use Rattle.verdict.specs.declared.Verdict.the-variants.{AlwaysTrue, AlwaysFalse, Changes}
-use Rattle.verdict.specs.Meaning.{VerdictMeans}
+use Rattle.verdict.specs.Meaning.{VerdictMeans, isChanges}
 use Rattle.verdict.specs.declared.Comparison.{Comparison}
 use Rattle.verdict.specs.Comparisons.{comparisonOf}
 use Rattle.verdict.specs.Rows.{atomAt, judgeRow, verdictOf}
@@ -35,7 +35,7 @@ use Rattle.verdict.specs.inner.Reach.{AsksLeft}
 use Rattle.verdict.proofs.Verdicts.{judged, asks-left, atom-tells}
 use Rattle.table.specs.Layout.{marked}
 use Rattle.marks.specs.Equations.{expected}
-use Rattle.marks.specs.Parts.{isChanges, closes, witnessInOrder, breaks, equationOutcome, steadyOutcome, closingOutcome, witnessOutcome}
+use Rattle.marks.specs.Parts.{closes, witnessInOrder, breaks, equationOutcome, steadyOutcome, closingOutcome, witnessOutcome}
 use Rattle.marks.specs.inner.Tables.{meetsOn, clearOf}
 use Rattle.table.specs.inner.Tables.{allBelow}
 use Rattle.marks.specs.inner.PartsRead.{PartClear}

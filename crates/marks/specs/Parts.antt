@@ -2,7 +2,7 @@
 -- eventualities). Assumes nothing.
 use Prim.Native.Nat.{ℕ, zero, suc, _+_}
 use mathlib.Core.List.{List}
-use mathlib.Core.Bool.{Bool, true, false, cond, not, _&&_, Bool·beq}
+use mathlib.Core.Bool.{Bool, true, cond, not, _&&_, Bool·beq}
 use lib.Dec.{leb, ltb, eqb}
 use Rattle.refusal.specs.declared.Outcome.{Outcome}
 use Rattle.refusal.specs.declared.Refusal.the-variants.{Equation, Closing, Witness}
@@ -17,17 +17,11 @@ use Rattle.cltlb.specs.declared.View.{View}
 use Rattle.cltlb.specs.declared.View.the-variants as view
 use Rattle.plan.specs.Layout.{startRows, cycleRows, rows}
 use Rattle.plan.specs.Positions.{last}
-use Rattle.verdict.specs.declared.Verdict.{Verdict}
-use Rattle.verdict.specs.declared.Verdict.the-variants.{AlwaysTrue, AlwaysFalse, Changes}
+use Rattle.verdict.specs.Meaning.{isChanges}
 use Rattle.verdict.specs.Rows.{atomAt, verdictOf}
 use Rattle.marks.specs.declared.operators.Beside.{Beside}
 use Rattle.marks.specs.declared.operators.Beside.the-variants.{After, Before}
 use Rattle.marks.specs.Equations.{besideOf, stepOn, watchedTruth, expected}
-
-abbrev pub isChanges : Verdict → Bool
-isChanges AlwaysTrue = false
-isChanges AlwaysFalse = false
-isChanges Changes = true
 
 -- 65535 means none
 abbrev pub noWitness : ℕ

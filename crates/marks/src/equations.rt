@@ -104,7 +104,7 @@ pub fn expected_mark(
     ensures { λ r. ⌜ r ≡ expected (sizes .start) (sizes .cycle) (marked (allRows sizes) (now (table .entry))) (atomAt (now (plan .entry))) view i row ⌝ }
 {
     match view {
-        View::Atom(atom) => verdict::rows::atom_at(plan, sizes, atom, row),
+        View::Atom(atom) => verdict::atoms::atom_at(plan, sizes, atom, row),
         View::Operator(operator) => operator_mark(table, n, sizes, i, operator, row),
     }
 }

@@ -8,7 +8,7 @@ ghost use Rattle.refusal.specs.declared.Outcome.the-variants.{Clear};
 ghost use Rattle.refusal.specs.declared.Refusal.the-variants.{Closing};
 ghost use Rattle.plan.specs.inner.Sizes.{allRows, Fitting};
 ghost use Rattle.table.specs.Layout.{marked, witnessOf};
-ghost use Rattle.marks.specs.Parts.{isChanges, breaks, closingOutcome, witnessOutcome, steadyOutcome};
+ghost use Rattle.marks.specs.Parts.{breaks, closingOutcome, witnessOutcome, steadyOutcome};
 ghost use Rattle.table.specs.inner.Tables.{MarkBytes};
 ghost use Rattle.marks.specs.inner.PartsRead.{Readable, PartClear};
 ghost use Rattle.lanes.specs.inner.Lanes.{Lanes};
@@ -25,9 +25,9 @@ use refusal::Outcome;
 use refusal::Refusal;
 use table::bytes::mark_at;
 use table::sweeps::agree;
-use verdict::Verdict;
-use verdict::rows::comparison_of;
-use verdict::rows::judge_row;
+use verdict::atoms::comparison_of;
+use verdict::atoms::judge_row;
+use verdict::is_changes;
 
 // All rows at once, of a table whose bytes are marks, over the plan's lanes: where this is true, part `i` closes and meets its
 // equation on every row.
@@ -77,16 +77,6 @@ pub fn breaks_on(
         mark_at(table, n, w, i, row),
         expected_mark(plan, table, n, sizes, i, view, row),
     )
-}
-
-pub fn is_changes(verdict: Verdict) -> bool
-    ensures { λ r. ⌜ r ≡ isChanges verdict ⌝ }
-{
-    match verdict {
-        Verdict::AlwaysTrue => false,
-        Verdict::AlwaysFalse => false,
-        Verdict::Changes => true,
-    }
 }
 
 // The lowest cycle row on which an atom changes.

@@ -6,10 +6,10 @@ use mathlib.Core.Bool.{Bool, true, false}
 use mathlib.Core.List.{List}
 use Rattle.refusal.specs.Lowest.{lowestFrom}
 use Rattle.refusal.proofs.Lowest.{passes, found, ended}
+use Rattle.verdict.specs.Meaning.{isChanges}
 use Rattle.verdict.specs.Rows.{judgeCycle}
 use Rattle.verdict.specs.declared.Comparison.{Comparison}
 use Rattle.verdict.specs.declared.Verdict.{Verdict}
-use Rattle.marks.specs.Parts.{isChanges}
 use Rattle.settling.specs.inner.Scratch.{changingFrom, isNone}
 
 module _ (plan : List ℕ) (x : Comparison) where

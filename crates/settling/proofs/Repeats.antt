@@ -12,6 +12,7 @@ use Rattle.refusal.proofs.Lowest.{not-so, from-none}
 use Rattle.plan.specs.Layout.{cycleRows}
 use Rattle.plan.specs.declared.sizes.Sizes.{Sizes}
 use Rattle.plan.specs.inner.Sizes.{Fitting}
+use Rattle.verdict.specs.Meaning.{isChanges}
 use Rattle.verdict.specs.Rows.{testAt, judgeCycle}
 use Rattle.verdict.specs.declared.Comparison.{Comparison}
 use Rattle.verdict.specs.declared.Verdict.{Verdict}
@@ -22,7 +23,6 @@ use Rattle.verdict.proofs.Cycles.{ComparedAt, test-decides}
 use Rattle.words.specs.inner.Words.{markAt}
 use Rattle.words.specs.inner.Written.{Marked}
 use Rattle.words.proofs.Marking.{marked-others, marked-up}
-use Rattle.marks.specs.Parts.{isChanges}
 use Rattle.settling.specs.inner.Scratch.{changingFrom, isNone}
 use Rattle.settling.proofs.Steadying.{none-is, means}
 

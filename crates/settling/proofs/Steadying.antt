@@ -24,6 +24,7 @@ use Rattle.rule.specs.declared.Taken.the-variants as K
 use Rattle.plan.specs.Layout.{cycleRows}
 use Rattle.plan.specs.declared.sizes.Sizes.{Sizes}
 use Rattle.plan.specs.inner.Sizes.{Fitting}
+use Rattle.verdict.specs.Meaning.{isChanges}
 use Rattle.verdict.specs.Comparisons.{comparisonOf}
 use Rattle.verdict.specs.Rows.{judgeCycle}
 use Rattle.verdict.specs.declared.Comparison.{Comparison}
@@ -33,7 +34,7 @@ use Rattle.verdict.specs.inner.Reach.{TermsFit}
 use Rattle.verdict.proofs.Passes.{PassMeans, means-iff}
 use Rattle.verdict.proofs.Cycles.{ComparedAt, cycle-means, inside-4}
 use Rattle.verdict.proofs.Values.{atom-fit}
-use Rattle.marks.specs.Parts.{isChanges, closingOutcome}
+use Rattle.marks.specs.Parts.{closingOutcome}
 use Rattle.marks.proofs.PartsChecked.{own-cycle}
 use Rattle.labelling.specs.Labels.{madeMark}
 use Rattle.inputs.specs.inner.Read.{Ready}

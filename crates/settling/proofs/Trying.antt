@@ -26,6 +26,7 @@ use Rattle.plan.specs.Run.{runOf}
 use Rattle.plan.specs.declared.sizes.Sizes.{Sizes}
 use Rattle.plan.specs.inner.Sizes.{allRows, Fitting}
 use Rattle.plan.proofs.Fits.{rows-are}
+use Rattle.verdict.specs.Meaning.{isChanges}
 use Rattle.verdict.specs.Comparisons.{tested, comparisonOf}
 use Rattle.verdict.specs.Rows.{testAt, judgeCycle, judgeRow, atomAt, verdictOf}
 use Rattle.verdict.specs.declared.Comparison.{Comparison}
@@ -35,7 +36,7 @@ use Rattle.verdict.proofs.Cycles.{ComparedAt, test-decides, cycle-means, inside
 use Rattle.verdict.proofs.Values.{atom-fit}
 use Rattle.words.specs.inner.Words.{mostRows, markAt}
 use Rattle.words.specs.inner.Written.{Marked}
-use Rattle.marks.specs.Parts.{isChanges, closes, steadyOutcome, closingOutcome}
+use Rattle.marks.specs.Parts.{closes, steadyOutcome, closingOutcome}
 use Rattle.marks.proofs.PartsChecked.{at-sizes, own-cycle}
 use Rattle.labelling.specs.Labels.{operatorLabel, labelOf}
 use Rattle.laid_out.specs.LaidOut.{laidOut, canBeLaid}

@@ -18,7 +18,7 @@ use cltlb::View;
 use laid_out::numbers::laid_sizes;
 use plan::sizes::Sizes;
 use rule::Taken;
-use verdict::rows::comparison_of;
+use verdict::atoms::comparison_of;
 
 // A comparison: its verdicts on the cycle rows, from that pass on, come first, and its marks once it is steady.
 fn try_atom(

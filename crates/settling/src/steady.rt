@@ -11,8 +11,8 @@ use laid_out::fits::MOST_ROWS;
 use plan::sizes::Sizes;
 use rule::Taken;
 use verdict::Comparison;
+use verdict::atoms::comparison_of;
 use verdict::bounds::smaller;
-use verdict::rows::comparison_of;
 
 // The fewest passes, from `passes` on, from which on a comparison does not change, or the fewest that take too many rows. What does
 // not change stays so: the steps ahead double, and then the number is enclosed.

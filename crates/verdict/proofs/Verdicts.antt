@@ -1,10 +1,10 @@
--- The verdict on a comparison on a row is right: on every pass, that is, at every position that lies on the row. Assumes
--- nothing.
+-- The verdict on a comparison on a row is right: on every pass, that is, at every position that lies on the row; and it is not
+-- "changes" exactly where the truth at these is one. Assumes nothing.
 use Prim.Native.Nat.{ℕ, _+_, _*_, _≤_, _<_}
 use native.Mathlib.Decide.{decLt}
 use native.Mathlib.Omega.{arith}
 use mathlib.Core.Path.{_≡_, refl, sym, subst}
-use mathlib.Core.Bool.{Bool, true, false, cond, false≢true}
+use mathlib.Core.Bool.{Bool, true, false, cond, false≢true, true≢false}
 use mathlib.Core.List.{List}
 use mathlib.Core.Logic.{_↔_, Iff·trans, by-cases}
 use lib.IntN.{ℤ, pos}
@@ -19,7 +19,7 @@ use Rattle.plan.specs.Layout.{startRows, cycleRows}
 use Rattle.plan.specs.Positions.{rowOf, passOf}
 use Rattle.plan.specs.Run.{runOf}
 use Rattle.plan.proofs.Rows.{row-start, row-ge, row-again, row-split}
-use Rattle.verdict.specs.Meaning.{VerdictMeans}
+use Rattle.verdict.specs.Meaning.{VerdictMeans, isChanges}
 use Rattle.verdict.specs.Comparisons.{comparison, comparisonOf}
 use Rattle.verdict.specs.Weeks.{minutesAfter}
 use Rattle.verdict.specs.Rows.{testAt, judgeRow, atomAt, verdictOf}
@@ -149,3 +149,23 @@ atom-tells plan v (Equal x y) f t = test-decides plan (comparison Same x y) t
 atom-tells plan v (Window c s from to) f t =
     Iff·trans (test-decides plan (comparisonOf (Window c s from to)) t) (window-holds plan c s from to (ends-fit from to (window-fits v c s from to f .1)) t)
 atom-tells plan v (Pinned c s) f t = test-decides plan (comparisonOf (Pinned c s)) t
+
+pub is-changes : (v : Verdict) → isChanges v ≡ true → v ≡ Changes
+is-changes AlwaysTrue e = absurd (true≢false (sym e))
+is-changes AlwaysFalse e = absurd (true≢false (sym e))
+is-changes Changes e = refl
+
+-- Where a verdict is not "changes", the truth at two positions of the row is one.
+pub same-truth : (P C row : ℕ) (F : ℕ → Type 0) (v : Verdict) → VerdictMeans P C row F v → isChanges v ≡ false
+    → (s t : ℕ) → rowOf P C s ≡ row → rowOf P C t ≡ row → F s ↔ F t
+same-truth P C row F AlwaysTrue w e s t d k = let all = w .alwaysTrue .0 refl in (λ _. all t k, λ _. all s d)
+same-truth P C row F AlwaysFalse w e s t d k = let none = w .alwaysFalse .0 refl in (λ h. absurd (none s d h), λ h. absurd (none t k h))
+same-truth P C row F Changes w e s t d k = absurd (true≢false e)
+
+-- And where it is one, the verdict is not "changes".
+pub not-changes : (P C row : ℕ) (F : ℕ → Type 0) (v : Verdict) → VerdictMeans P C row F v
+    → ((s t : ℕ) → rowOf P C s ≡ row → rowOf P C t ≡ row → F s → F t) → isChanges v ≡ false
+not-changes P C row F AlwaysTrue w same = refl
+not-changes P C row F AlwaysFalse w same = refl
+not-changes P C row F Changes w same =
+    let p = w .changes .0 refl in absurd (p .1 .2 (same (p .0 .0) (p .1 .0) (p .0 .1) (p .1 .1) (p .0 .2)))

@@ -2,6 +2,7 @@
 -- pass. Assumes nothing.
 use Prim.Native.Nat.{ℕ}
 use mathlib.Core.Path.{_≡_}
+use mathlib.Core.Bool.{Bool, true, false}
 use mathlib.Core.Logic.{_↔_}
 use Rattle.plan.specs.Positions.{rowOf}
 use Rattle.verdict.specs.declared.Verdict.{Verdict}
@@ -15,3 +16,9 @@ pub record VerdictMeans (P C row : ℕ) (F : ℕ → Type 0) (v : Verdict) : Typ
   pub alwaysFalse : (v ≡ AlwaysFalse) ↔ ((t : ℕ) → rowOf P C t ≡ row → ¬ F t)
   -- changes: two passes differ
   pub changes : (v ≡ Changes) ↔ (((t : ℕ) × (rowOf P C t ≡ row) × F t) × ((t : ℕ) × (rowOf P C t ≡ row) × (¬ F t)))
+
+-- two passes differ
+abbrev pub isChanges : Verdict → Bool
+isChanges AlwaysTrue = false
+isChanges AlwaysFalse = false
+isChanges Changes = true

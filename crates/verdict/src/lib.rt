@@ -1,6 +1,9 @@
 // The verdict on an atom, as a comparison of two terms, on one row of a plan, over all passes.
+ghost use mathlib.Core.Path.{_≡_};
+ghost use Rattle.verdict.specs.Meaning.{isChanges};
 use cltlb::Term;
 
+pub mod atoms;
 pub mod bounds;
 pub mod early;
 pub mod laps;
@@ -16,6 +19,17 @@ pub enum Verdict {
     AlwaysTrue,
     AlwaysFalse,
     Changes,
+}
+
+// Two passes differ.
+pub fn is_changes(verdict: Verdict) -> bool
+    ensures { λ r. ⌜ r ≡ isChanges verdict ⌝ }
+{
+    match verdict {
+        Verdict::AlwaysTrue => false,
+        Verdict::AlwaysFalse => false,
+        Verdict::Changes => true,
+    }
 }
 
 // What a comparison asks of its two terms: that they are numbers, the left one below the right one, or the same, or less than so many

@@ -3,15 +3,13 @@ ghost use mathlib.Core.Path.{_≡_};
 ghost use mathlib.Core.Bool.{true};
 ghost use Prim.Native.Nat.{_+_, _*_, _≤_, _<_};
 ghost use Rattle.cltlb.specs.Run as cltlb;
-ghost use Rattle.cltlb.specs.Fits.{atomFits};
 ghost use Rattle.plan.specs.Layout.{cycleRows};
 ghost use Rattle.plan.specs.inner.Sizes.{allRows, Fitting};
 ghost use Rattle.plan.specs.inner.Lifted.{lowered, seenOf};
-ghost use Rattle.verdict.specs.Comparisons.{comparisonOf, testOf, tested};
-ghost use Rattle.verdict.specs.Rows.{joinFirst, testAt, judgeFrom, judgeCycle, judgeRow, atomAt};
-ghost use Rattle.verdict.specs.inner.Reach.{reach, TermsFit, FitsSome, latest, latestFrom};
+ghost use Rattle.verdict.specs.Comparisons.{testOf, tested};
+ghost use Rattle.verdict.specs.Rows.{joinFirst, testAt, judgeFrom, judgeCycle, judgeRow};
+ghost use Rattle.verdict.specs.inner.Reach.{reach, TermsFit, latest, latestFrom};
 ghost use Rattle.verdict.specs.inner.Landed.{BothLand, Reached, judgeLanded, NoTops};
-ghost use Rattle.verdict.specs.inner.Judgement.{Judgement};
 use crate::Comparison;
 use crate::Relation;
 use crate::Verdict;
@@ -27,8 +25,6 @@ use crate::terms::seen_term;
 use crate::terms::top_in;
 use crate::tops::decide_under;
 use crate::weeks::minutes_after;
-use cltlb::Atom;
-use cltlb::Term;
 use plan::landing::Landing;
 use plan::landing::landing_of;
 use plan::lookup::Seen;
@@ -293,54 +289,4 @@ pub fn judge_comparison(plan: &[u8], sizes: Sizes, comparison: Comparison, row: 
         return Verdict::AlwaysTrue;
     }
     Verdict::AlwaysFalse
-}
-
-// The comparison that an atom is.
-pub fn comparison_of(atom: Atom) -> Comparison
-    requires { ⌜ FitsSome atom ⌝ }
-    ensures { λ r. ⌜ r ≡ comparisonOf atom ⌝ }
-{
-    match atom {
-        Atom::Less(left, right) => Comparison {
-            relation: Relation::Below,
-            left,
-            right,
-        },
-        Atom::Equal(left, right) => Comparison {
-            relation: Relation::Same,
-            left,
-            right,
-        },
-        Atom::Window {
-            channel,
-            shift,
-            from,
-            to,
-        } => Comparison {
-            relation: Relation::Within(minutes_after(to as u64, from as u64)),
-            left: Term::Reading { channel, shift },
-            right: Term::Constant(from as i32),
-        },
-        Atom::Pinned { channel, shift } => Comparison {
-            relation: Relation::Pinned,
-            left: Term::Reading { channel, shift },
-            right: Term::Constant(0),
-        },
-    }
-}
-
-// The verdict on an atom, on a row.
-pub fn judge_row(plan: &[u8], sizes: Sizes, atom: Atom, row: usize) -> Verdict
-    requires { ⌜ (Fitting (now plan) sizes) × (atomFits (sizes .channels) atom ≡ true) × (row < allRows sizes) ⌝ }
-    ensures { λ r. ⌜ Judgement (now (plan .entry)) atom row r ⌝ }
-{
-    judge_comparison(plan, sizes, comparison_of(atom), row)
-}
-
-// The truth of an atom at position t.
-pub fn atom_at(plan: &[u8], sizes: Sizes, atom: Atom, t: usize) -> bool
-    requires { ⌜ (Fitting (now plan) sizes) × (atomFits (sizes .channels) atom ≡ true) × (t ≤ latest sizes) ⌝ }
-    ensures { λ r. ⌜ r ≡ atomAt (now (plan .entry)) atom t ⌝ }
-{
-    test_at(plan, sizes, comparison_of(atom), t)
 }

@@ -1,10 +1,11 @@
 -- Marks that say on every pass how two lines compare, and lines that do not come to their tops. Assumes nothing.
 use Prim.Native.Nat.{ℕ, _<_}
 use mathlib.Core.Path.{_≡_}
-use mathlib.Core.Bool.{Bool, true, false, not, Bool·beq}
+use mathlib.Core.Bool.{Bool, false, not, Bool·beq}
 use mathlib.Core.List.{List}
 use lib.IntN.{ℤ}
 use Rattle.fields.specs.inner.Biased.{unbiased}
+use Rattle.verdict.specs.Meaning.{isChanges}
 use Rattle.verdict.specs.Lines.{Line}
 use Rattle.verdict.specs.Comparisons.{testOf, tested, judgeLines}
 use Rattle.verdict.specs.Stretches.{allPasses, noPass}
@@ -27,9 +28,7 @@ verdictAgrees Changes mark = false
 
 -- a verdict is no change
 abbrev pub stays : Verdict → Bool
-stays AlwaysTrue = true
-stays AlwaysFalse = true
-stays Changes = false
+stays v = not (isChanges v)
 
 -- the mark says how the numbers of two columns compare
 abbrev pub valuesAgree : Relation → List ℕ → Column → Column → Bool → ℕ → Bool

@@ -11,10 +11,11 @@ use Rattle.refusal.specs.Lowest.{lowestFrom}
 use Rattle.rule.specs.Take.{viewsOf}
 use Rattle.plan.specs.Layout.{rows}
 use Rattle.plan.specs.declared.sizes.Sizes.{Sizes}
+use Rattle.verdict.specs.Meaning.{isChanges}
 use Rattle.verdict.specs.Rows.{judgeCycle}
 use Rattle.verdict.specs.declared.Comparison.{Comparison}
 use Rattle.words.specs.inner.Words.{markAt, Room}
-use Rattle.marks.specs.Parts.{isChanges, closes, closingOutcome}
+use Rattle.marks.specs.Parts.{closes, closingOutcome}
 use Rattle.labelling.specs.Labels.{operatorLabel, labelOf, madeMark}
 use Rattle.settling.specs.Settle.{isClear, settlesAfter}
 

@@ -10,7 +10,7 @@ use Rattle.labelling.proofs.atoms.label_rows.Tie as tie
 use Rattle.labelling.proofs.atoms.label_rows.Reads as reads
 use Rattle.labelling.proofs.atoms.label_rows.Lts as lts
 use Rattle.labelling.proofs.atoms.is_true.Reads as is-true-reads
-use Rattle.marks.proofs.refusals.is_changes.Reads as is-changes-reads
+use Rattle.verdict.proofs.is_changes.Reads as is-changes-reads
 use Rattle.table.proofs.bytes.place.Reads as place-reads
 use Rattle.table.proofs.fills.put_mark.Reads as put-mark-reads
 use Rattle.verdict.proofs.rows.judge_comparison.Reads as judge-comparison-reads

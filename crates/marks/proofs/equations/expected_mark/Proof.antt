@@ -11,7 +11,7 @@ use Rattle.marks.proofs.equations.expected_mark.Tie as tie
 use Rattle.marks.proofs.equations.expected_mark.Reads as reads
 use Rattle.marks.proofs.equations.expected_mark.Lts as lts
 use Rattle.marks.proofs.equations.operator_mark.Reads as operator-mark-reads
-use Rattle.verdict.proofs.rows.atom_at.Reads as atom-at-reads
+use Rattle.verdict.proofs.atoms.atom_at.Reads as atom-at-reads
 
 -- src/equations.rt:103:20
 enum-known-view : tie.Need-enum-known-view

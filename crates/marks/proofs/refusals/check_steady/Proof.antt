@@ -5,15 +5,16 @@ use borrow.Author.Needs.{needs}
 use denote.Ref.{now}
 use Rattle.refusal.specs.declared.Refusal.the-variants.{Closing}
 use Rattle.refusal.proofs.Search.{searchFrom, search-on, search-stops, search-ends}
+use Rattle.verdict.specs.Meaning.{isChanges}
 use Rattle.verdict.specs.Rows.{verdictOf}
-use Rattle.marks.specs.Parts.{isChanges, steadyOutcome}
+use Rattle.marks.specs.Parts.{steadyOutcome}
 use Rattle.marks.proofs.PartsChecked.{steady-starts}
 use Rattle.marks.proofs.refusals.check_steady.Statement.{statement}
 use Rattle.marks.proofs.refusals.check_steady.Tie as tie
 use Rattle.marks.proofs.refusals.check_steady.Reads as reads
 use Rattle.marks.proofs.refusals.check_steady.Lts as lts
-use Rattle.marks.proofs.refusals.is_changes.Reads as is-changes-reads
-use Rattle.verdict.proofs.rows.judge_row.Reads as judge-row-reads
+use Rattle.verdict.proofs.is_changes.Reads as is-changes-reads
+use Rattle.verdict.proofs.atoms.judge_row.Reads as judge-row-reads
 
 abbrev Inv-loop : tie.InvT-loop
 Inv-loop plan sizes i atom w row₀ row = (sizes .start ≤ row) × (row ≤ w) × (steadyOutcome plan atom i ≡ searchFrom (λ r. isChanges (verdictOf plan atom r)) w (Closing i) row)

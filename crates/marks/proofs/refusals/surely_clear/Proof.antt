@@ -9,7 +9,7 @@ use Rattle.marks.proofs.refusals.surely_clear.Reads as reads
 use Rattle.marks.proofs.refusals.surely_clear.Lts as lts
 use Rattle.lanes.proofs.rows.verdicts_agree.Reads as verdicts-agree-reads
 use Rattle.marks.proofs.stretches.operator_clear.Reads as operator-clear-reads
-use Rattle.verdict.proofs.rows.comparison_of.Reads as comparison-of-reads
+use Rattle.verdict.proofs.atoms.comparison_of.Reads as comparison-of-reads
 
 -- src/refusals.rt:71:20
 enum-known-view : tie.Need-enum-known-view

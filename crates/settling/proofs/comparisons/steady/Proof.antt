@@ -8,7 +8,7 @@ use Rattle.settling.proofs.comparisons.steady.Statement.{statement}
 use Rattle.settling.proofs.comparisons.steady.Tie as tie
 use Rattle.settling.proofs.comparisons.steady.Reads as reads
 use Rattle.settling.proofs.comparisons.steady.Lts as lts
-use Rattle.marks.proofs.refusals.is_changes.Reads as is-changes-reads
+use Rattle.verdict.proofs.is_changes.Reads as is-changes-reads
 use Rattle.verdict.proofs.rows.judge_cycle.Reads as judge-cycle-reads
 
 abbrev Inv-loop : tie.InvT-loop

@@ -15,7 +15,7 @@ use Rattle.settling.proofs.parts.try_atom.Lts as lts
 use Rattle.laid_out.proofs.numbers.laid_sizes.Reads as laid-sizes-reads
 use Rattle.settling.proofs.comparisons.put_marks.Reads as put-marks-reads
 use Rattle.settling.proofs.comparisons.steady.Reads as steady-reads
-use Rattle.verdict.proofs.rows.comparison_of.Reads as comparison-of-reads
+use Rattle.verdict.proofs.atoms.comparison_of.Reads as comparison-of-reads
 
 -- src/parts.rt:35:9
 comparison-of-requires : tie.Need-comparison-of-requires

@@ -11,7 +11,7 @@ use Rattle.settling.proofs.steady.next_passes.Lts as lts
 use Rattle.cltlb.proofs.view_of.Reads as view-of-reads
 use Rattle.rule.proofs.take.Reads as take-reads
 use Rattle.settling.proofs.steady.steady_after.Reads as steady-after-reads
-use Rattle.verdict.proofs.rows.comparison_of.Reads as comparison-of-reads
+use Rattle.verdict.proofs.atoms.comparison_of.Reads as comparison-of-reads
 
 -- src/steady.rt:51:9
 take-requires : tie.Need-take-requires

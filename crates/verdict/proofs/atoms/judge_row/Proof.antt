@@ -1,8 +1,8 @@
--- `verdict::rows::judge_row` meets its contract. Assumes nothing.
+-- `verdict::atoms::judge_row` meets its contract. Assumes nothing.
 use Rattle.verdict.specs.Rows.{verdictOf}
 use Rattle.verdict.proofs.Values.{atom-fit, judgement}
-use Rattle.verdict.proofs.rows.judge_row.Statement.{statement}
-use Rattle.verdict.proofs.rows.judge_row.Tie as tie
+use Rattle.verdict.proofs.atoms.judge_row.Statement.{statement}
+use Rattle.verdict.proofs.atoms.judge_row.Tie as tie
 
 comparison-of-requires : tie.Need-comparison-of-requires
 comparison-of-requires c κs = (c .before .args .sizes .channels, c .before .pre .1)

@@ -1,8 +1,8 @@
--- `verdict::rows::atom_at` meets its contract. Assumes nothing.
+-- `verdict::atoms::atom_at` meets its contract. Assumes nothing.
 use Rattle.verdict.specs.Rows.{atomAt}
 use Rattle.verdict.proofs.Values.{atom-fit}
-use Rattle.verdict.proofs.rows.atom_at.Statement.{statement}
-use Rattle.verdict.proofs.rows.atom_at.Tie as tie
+use Rattle.verdict.proofs.atoms.atom_at.Statement.{statement}
+use Rattle.verdict.proofs.atoms.atom_at.Tie as tie
 
 comparison-of-requires : tie.Need-comparison-of-requires
 comparison-of-requires c κs = (c .before .args .sizes .channels, c .before .pre .1)

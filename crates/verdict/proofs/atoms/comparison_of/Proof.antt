@@ -1,4 +1,4 @@
--- `verdict::rows::comparison_of` meets its contract. Assumes nothing.
+-- `verdict::atoms::comparison_of` meets its contract. Assumes nothing.
 use mathlib.Core.Path.{ap, sym}
 use borrow.Author.Needs.{sfits-of}
 use mir.Syntax.{w32}
@@ -7,8 +7,8 @@ use Rattle.verdict.specs.Comparisons.{comparisonOf}
 use Rattle.verdict.proofs.Values.{window-comparison, window-begins, pinned-comparison}
 use native.Mathlib.Omega.{arith}
 use borrow.Author.Needs.{needs}
-use Rattle.verdict.proofs.rows.comparison_of.Statement.{statement}
-use Rattle.verdict.proofs.rows.comparison_of.Tie as tie
+use Rattle.verdict.proofs.atoms.comparison_of.Statement.{statement}
+use Rattle.verdict.proofs.atoms.comparison_of.Tie as tie
 
 enum-known-atom : tie.Need-enum-known-atom
 enum-known-atom c = search needs
