@@ -158,7 +158,7 @@ fn check_laid(
 }
 
 // The check, of a rule of `n` parts and a plan that clear 1 to 6.
-fn check_marks(rule: &[u8], plan: &[u8], marks: &[u8], n: usize, sizes: Sizes) -> Checked
+pub fn check_marks(rule: &[u8], plan: &[u8], marks: &[u8], n: usize, sizes: Sizes) -> Checked
     requires { ⌜ Ready (now rule) (now plan) n sizes ⌝ }
     ensures { λ r. ⌜ r ≡ checkOf (now (rule .entry)) (now (plan .entry)) (now (marks .entry)) ⌝ }
 {

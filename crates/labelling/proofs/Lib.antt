@@ -9,3 +9,4 @@ pub mod Sweeping
 pub mod Verdicts
 pub mod LowestRows
 pub mod OnePart
+pub mod Guessing

@@ -51,11 +51,11 @@ module _ (plan : List ℕ) (hC : 1 ≤ cycleRows plan) (parts : ℕ → View) (v
 
   -- ---- the bytes of the table
 
-  mark-there : (i row : ℕ) → i < n → row < w → getD table (4 + (i * w + row)) 0 ≡ byteOf (madeMark parts plan i row)
+  pub mark-there : (i row : ℕ) → i < n → row < w → getD table (4 + (i * w + row)) 0 ≡ byteOf (madeMark parts plan i row)
   unfolding madeTable
   mark-there = bytes.table-byte n w (madeMark parts plan) (madeWitness parts plan)
 
-  witness-there : (i k : ℕ) → i < n → k < 2 → getD table (4 + n * w + 2 * i + k) 0 ≡ getD (bytesOf 2 (madeWitness parts plan i)) k 0
+  pub witness-there : (i k : ℕ) → i < n → k < 2 → getD table (4 + n * w + 2 * i + k) 0 ≡ getD (bytesOf 2 (madeWitness parts plan i)) k 0
   unfolding madeTable
   witness-there = bytes.witness-byte n w (madeMark parts plan) (madeWitness parts plan)
 

@@ -72,13 +72,13 @@ module _ (rule plan : List ℕ) (e : inputsOutcome rule plan ≡ Clear) where
   fits = cleared-fits rule (clear-both rule plan e .0)
 
   -- part i closes, by the marks made
-  abbrev Closes : ℕ → Type 0
+  abbrev pub Closes : ℕ → Type 0
   Closes = Closed plan some-cycle (viewsOf rule) (channelCount rule) (partCount rule) fits
 
   abbrev table : List ℕ
   table = madeTable (viewsOf rule) plan (partCount rule)
 
-  all-closed : closingsOutcome rule plan ≡ Clear → (i : ℕ) → i < partCount rule → Closes i
+  pub all-closed : closingsOutcome rule plan ≡ Clear → (i : ℕ) → i < partCount rule → Closes i
   unfolding closingsOutcome openOutcome
   all-closed c i l =
       no-table-clear (closingOutcome plan (madeMark (viewsOf rule) plan) (viewsOf rule i) i) .0 (inTurn-clear (openOutcome rule plan) (partCount rule) .0 c i l)
@@ -123,7 +123,7 @@ module _ (rule plan : List ℕ) (e : inputsOutcome rule plan ≡ Clear) where
       (p .0, p .1, (λ a l. no-table-clear (closingOutcome plan (madeMark (viewsOf rule) plan) (viewsOf rule a) a) .0 (p .2 a l)), o .0, o .1, o .2)
 
   -- No table is accepted then.
-  none-accepted : (q : Refusal) → closingsOutcome rule plan ≡ Refused q → NoneAccepted rule plan
+  pub none-accepted : (q : Refusal) → closingsOutcome rule plan ≡ Refused q → NoneAccepted rule plan
   unfolding NoneAccepted checkOf partsOutcome
   none-accepted q c other v accepted =
       let p = first-open q c in

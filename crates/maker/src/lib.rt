@@ -1,4 +1,6 @@
 // The maker: the mark table of a rule and a plan, written into a lent buffer, or refused.
+pub mod guesses;
+
 ghost use mathlib.Core.Path.{_≡_};
 ghost use Prim.Native.Nat.{_+_, _<_};
 ghost use Rattle.plan.specs.inner.Sizes.{allRows};
@@ -7,6 +9,8 @@ ghost use Rattle.table.specs.inner.Tables.{Sized};
 ghost use Rattle.maker.specs.Make.{openOutcome, closingsOutcome, makeOf, bytesAfter};
 ghost use Rattle.maker.specs.Promise.{MakePromise};
 ghost use Rattle.maker.specs.inner.Parts.{MadeBelow, MadeTo};
+use crate::guesses::guess_table;
+use acceptance::Checked;
 use inputs::InputsRead;
 use labelling::label_part;
 use labelling::witnesses::lowest_witness;
@@ -71,7 +75,7 @@ fn make_parts(rule: &[u8], plan: &[u8], table: &mut [u8], n: usize, sizes: Sizes
     Outcome::Clear
 }
 
-// The table of a rule of `n` parts and a plan that clear 1 to 6.
+// The table of a rule of `n` parts and a plan that clear 1 to 6: the one guessed, where the check accepts it, and else part by part.
 fn make_table(rule: &[u8], plan: &[u8], marks: &mut [u8], n: usize, sizes: Sizes) -> Made
     requires { ⌜ Ready (now rule) (now plan) n sizes ⌝ }
     ensures { λ r. ⌜ (r ≡ makeOf (now (rule .entry)) (now (plan .entry)) (now (marks .entry))) × (now (marks .exit) ≡ bytesAfter (now (rule .entry)) (now (plan .entry)) (now (marks .entry))) ⌝ }
@@ -79,6 +83,10 @@ fn make_table(rule: &[u8], plan: &[u8], marks: &mut [u8], n: usize, sizes: Sizes
     let w = sizes.start + sizes.cycle;
     if marks.len() != 4 + n * w + 2 * n {
         return Made::Refused(Refusal::BufferLength);
+    }
+    let guess = guess_table(rule, plan, marks, n, sizes);
+    if let Checked::Accepted(verdict) = guess {
+        return Made::Table(verdict);
     }
     let made = make_parts(rule, plan, marks, n, sizes);
     if let Outcome::Refused(refusal) = made {
