@@ -10,7 +10,7 @@ use Rattle.labelling.proofs.guesses.guess_part.Reads as reads
 use Rattle.labelling.proofs.guesses.guess_part.Lts as lts
 use Rattle.labelling.proofs.guesses.guess_comparison.Reads as guess-comparison-reads
 use Rattle.labelling.proofs.operators.label_operator.Reads as label-operator-reads
-use Rattle.verdict.proofs.rows.comparison_of.Reads as comparison-of-reads
+use Rattle.verdict.proofs.atoms.comparison_of.Reads as comparison-of-reads
 
 -- src/guesses.rt:198:20
 enum-known-view : tie.Need-enum-known-view
