@@ -15,11 +15,12 @@ ghost use Rattle.table.specs.inner.Tables.{Sized};
 use crate::operators::label_operator;
 use cltlb::View;
 use lanes::columns::Column;
-use lanes::columns::Side;
 use lanes::columns::column_of;
 use lanes::columns::number;
 use lanes::columns::side_of;
 use lanes::ranges::ranges_of;
+use lanes::rows::ComparisonPart;
+use lanes::rows::Sides;
 use lanes::tops::seen_compare;
 use plan::sizes::Sizes;
 use table::bytes::place;
@@ -102,30 +103,30 @@ fn guess_values(
 fn guess_direct(
     values: &[u8],
     table: &mut [u8],
-    n: usize,
-    sizes: Sizes,
-    i: usize,
-    comparison: Comparison,
-    left: Side,
-    right: Side,
+    part: ComparisonPart,
+    sides: Sides,
     from: usize,
     to: usize,
 )
-    requires { ⌜ (DirectRows (now table) n sizes i comparison left right from to) × (LongLanes sizes (now values)) ⌝ }
+    requires { ⌜ (DirectRows (now table) part sides from to) × (LongLanes (part .sizes) (now values)) ⌝ }
     ensures { λ _. ⌜ length (now (table .exit)) ≡ length (now (table .entry)) ⌝ }
 {
     if to <= from {
         return;
     }
+    let sizes = part.sizes;
+    let comparison = part.comparison;
     let w = sizes.start + sizes.cycle;
     let lane = sizes.lead + w;
     let first = sizes.lead + from;
     let relation = comparison.relation;
     let left_term = comparison.left;
     let right_term = comparison.right;
+    let left = sides.left;
+    let right = sides.right;
     let x = column_of(left_term, left, lane, first);
     let y = column_of(right_term, right, lane, first);
-    let m = place(w, i, from);
+    let m = place(w, part.i, from);
     if left.top + right.top == 0 {
         guess_values(values, relation, x, y, table, m, to - from);
         return;
@@ -154,39 +155,26 @@ fn guess_rows(
 }
 
 // A comparison on all rows.
-fn guess_comparison(
-    plan: &[u8],
-    values: &[u8],
-    table: &mut [u8],
-    n: usize,
-    sizes: Sizes,
-    i: usize,
-    comparison: Comparison,
-)
-    requires { ⌜ (Fitting (now plan) sizes) × (LongLanes sizes (now values)) × (Sized (now table) n (allRows sizes)) × (i < n) × (TermsFit sizes comparison) × (AsksLeft comparison) ⌝ }
+fn guess_comparison(plan: &[u8], values: &[u8], table: &mut [u8], part: ComparisonPart)
+    requires { ⌜ (Fitting (now plan) (part .sizes)) × (LongLanes (part .sizes) (now values)) × (Sized (now table) (part .n) (allRows (part .sizes))) × (part .i < part .n) × (TermsFit (part .sizes) (part .comparison)) × (AsksLeft (part .comparison)) ⌝ }
     ensures { λ _. ⌜ length (now (table .exit)) ≡ length (now (table .entry)) ⌝ }
 {
+    let sizes = part.sizes;
+    let comparison = part.comparison;
     let w = sizes.start + sizes.cycle;
     let x = comparison.left;
     let y = comparison.right;
     let left = side_of(plan, sizes, x);
     let right = side_of(plan, sizes, y);
+    let sides = Sides {
+        left: left,
+        right: right,
+    };
     let back = larger(reach_of(x), reach_of(y));
     let ranges = ranges_of(sizes, back, larger(left.code, right.code), true);
-    let own = place(w, i, 0);
+    let own = place(w, part.i, 0);
     guess_rows(plan, table, sizes, own, comparison, 0, ranges.before);
-    guess_direct(
-        values,
-        table,
-        n,
-        sizes,
-        i,
-        comparison,
-        left,
-        right,
-        ranges.before,
-        ranges.numbers,
-    );
+    guess_direct(values, table, part, sides, ranges.before, ranges.numbers);
     guess_rows(plan, table, sizes, own, comparison, ranges.numbers, w);
 }
 
@@ -205,7 +193,13 @@ pub fn guess_part(
 {
     match view {
         View::Atom(atom) => {
-            guess_comparison(plan, values, table, n, sizes, i, comparison_of(atom));
+            let part = ComparisonPart {
+                n: n,
+                sizes: sizes,
+                i: i,
+                comparison: comparison_of(atom),
+            };
+            guess_comparison(plan, values, table, part);
         }
         View::Operator(operator) => label_operator(table, n, sizes, i, operator),
     }

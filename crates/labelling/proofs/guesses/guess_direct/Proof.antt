@@ -17,39 +17,48 @@ returns c = search needs
 
 -- src/guesses.rt:114:13
 add-w : tie.Need-add-w
-add-w c = search needs
+add-w c =
+    let start = c .before .before .before .before .before .before in
+    omega (arith, law.few-all (start .pre .0))
 
 -- src/guesses.rt:115:16
 add-lane : tie.Need-add-lane
-add-lane c = search needs
+add-lane c =
+    let start = c .before .before .before .before .before .before .before in
+    omega (arith, law.few-all (start .pre .0))
 
 -- src/guesses.rt:116:17
 add-first : tie.Need-add-first
-add-first c = search needs
+add-first c =
+    let start = c .before .before .before .before .before .before .before .before in
+    omega (arith, law.few-all (start .pre .0), start .pre .0 .few-rows)
 
 -- src/guesses.rt:120:9
 column-of-requires : tie.Need-column-of-requires
 column-of-requires c κs =
-    let start = c .before .before .before .before .before .before in
-    let if1 = c .before .before .before .if1 in
+    let start = c .before .before .before .before .before .before .before .before .before .before in
+    let if1 = c .before .before .before .before .before .before .before .if1 in
     law.left-column (start .pre .0) (if1 .left)
 
 -- src/guesses.rt:121:9
 column-of-requires-2 : tie.Need-column-of-requires-2
 column-of-requires-2 c κs =
-    let start = c .before .before .before .before .before .before .before in
-    let if1 = c .before .before .before .before .if1 in
+    let start = c .before .before .before .before .before .before .before .before .before .before .before in
+    let if1 = c .before .before .before .before .before .before .before .before .if1 in
     law.right-column (start .pre .0) (if1 .left)
 
 -- src/guesses.rt:122:9
 place-requires : tie.Need-place-requires
-place-requires c κs = search needs
+place-requires c κs =
+    let start = c .before .before .before .before .before .before .before .before .before .before .before .before in
+    let if1 = c .before .before .before .before .before .before .before .before .before .if1 in
+    (law.at-place (start .pre .0) .0, law.at-place (start .pre .0) .1, law.at-place (start .pre .0) .2 (if1 .left))
 
 -- src/guesses.rt:123:8
 add-if2 : tie.Need-add-if2
 add-if2 c =
-    let start = c .before .before .before .before .before .before .before .before .before .before .before in
-    omega (arith, start .pre .0 .part .small)
+    let start = c .before .before .before .before .before .before .before .before .before .before .before .before .before .before .before in
+    omega (arith, start .pre .0 .of-part .small)
 
 -- src/guesses.rt:124:56
 sub-guess-values : tie.Need-sub-guess-values
@@ -58,8 +67,8 @@ sub-guess-values c = search needs
 -- src/guesses.rt:124:9
 guess-values-requires : tie.Need-guess-values-requires
 guess-values-requires c κs =
-    let start = c .before .before .before .before .before .before .before .before .before .before .before .before .before in
-    let if1 = c .before .before .before .before .before .before .before .before .before .before .if1 in
+    let start = c .before .before .before .before .before .before .before .before .before .before .before .before .before .before .before .before .before in
+    let if1 = c .before .before .before .before .before .before .before .before .before .before .before .before .before .before .if1 in
     let column-of = c .before .before .before .before .before .before .column-of in
     let column-of2 = c .before .before .before .before .before .column-of2 in
     let place = c .before .before .before .before .place in
@@ -80,8 +89,8 @@ sub-guess-seen c = search needs
 -- src/guesses.rt:127:5
 guess-seen-requires : tie.Need-guess-seen-requires
 guess-seen-requires c κs =
-    let start = c .before .before .before .before .before .before .before .before .before .before .before .before .before in
-    let if1 = c .before .before .before .before .before .before .before .before .before .before .if1 in
+    let start = c .before .before .before .before .before .before .before .before .before .before .before .before .before .before .before .before .before in
+    let if1 = c .before .before .before .before .before .before .before .before .before .before .before .before .before .before .if1 in
     let column-of = c .before .before .before .before .before .before .column-of in
     let column-of2 = c .before .before .before .before .before .column-of2 in
     let place = c .before .before .before .before .place in
