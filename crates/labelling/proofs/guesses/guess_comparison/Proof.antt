@@ -31,13 +31,13 @@ add-w c = search needs
 -- src/guesses.rt:164:9
 side-of-requires : tie.Need-side-of-requires
 side-of-requires c κs =
-    let start = c .before .before .before .before .before .before .before in
+    let start = c .before .before .before .before .before .before in
     (start .pre .0, start .pre .4 .0)
 
 -- src/guesses.rt:165:9
 side-of-requires-2 : tie.Need-side-of-requires-2
 side-of-requires-2 c κs =
-    let start = c .before .before .before .before .before .before .before .before in
+    let start = c .before .before .before .before .before .before .before in
     (start .pre .0, start .pre .4 .1)
 
 -- src/guesses.rt:166:23
@@ -58,7 +58,7 @@ larger-requires-2 c κs = search needs
 
 -- how far back the two terms are read at most
 farther : (c : tie.After-larger) →
-    let x = c .before .before .before .before .before .before .before .before .before .before .before .before .args .part .comparison in
+    let x = c .before .before .before .before .before .before .before .before .before .before .before .args .part .comparison in
     c .larger .result ≡ max (reach (x .left)) (reach (x .right))
 farther c =
     let reach-of = c .before .before .reach-of in
@@ -67,13 +67,13 @@ farther c =
 
 few-back : (c : tie.After-larger) → c .larger .result ≤ 4
 few-back c =
-    let start = c .before .before .before .before .before .before .before .before .before .before .before .before in
+    let start = c .before .before .before .before .before .before .before .before .before .before .before in
     farther-le (start .args .part .sizes) (start .args .part .comparison) _ (farther c) (start .pre .4)
 
 -- what is known of a table of the part once the ranges are found
 ranged : (c : tie.After-ranges-of) {table : List ℕ} →
     let sides = c .before .before .before .before .before in
-    let args = sides .before .before .before .before .before .before .before .before .before .args in
+    let args = sides .before .before .before .before .before .before .before .before .args in
     Sized table (args .part .n) (allRows (args .part .sizes))
     → law.Ranged (now (args .plan)) table (args .part) (record { left = sides .before .side-of .result; right = sides .side-of2 .result })
     (c .before .before .larger .result) (c .before .larger2 .result) true (c .ranges-of .result)
@@ -81,7 +81,7 @@ ranged c sized =
     let sides = c .before .before .before .before .before in
     let side-of = sides .before .side-of in
     let side-of2 = sides .side-of2 in
-    let start = sides .before .before .before .before .before .before .before .before .before in
+    let start = sides .before .before .before .before .before .before .before .before in
     record {
       fitting = start .pre .0;
       sized = sized;
@@ -98,7 +98,7 @@ ranged c sized =
 -- src/guesses.rt:167:9
 ranges-of-requires : tie.Need-ranges-of-requires
 ranges-of-requires c κs =
-    let start = c .before .before .before .before .before .before .before .before .before .before .before .before .before in
+    let start = c .before .before .before .before .before .before .before .before .before .before .before .before in
     let larger2 = c .larger2 in
     let side-of = c .before .before .before .before .before .side-of in
     let side-of2 = c .before .before .before .before .side-of2 in
@@ -112,7 +112,7 @@ place-requires c κs = search needs
 guess-rows-requires : tie.Need-guess-rows-requires
 guess-rows-requires c κs =
     let ranges-of = c .before .before .ranges-of in
-    let start = c .before .before .before .before .before .before .before .before .before .before .before .before .before .before .before .before in
+    let start = c .before .before .before .before .before .before .before .before .before .before .before .before .before .before .before in
     let place = c .before .place in
     let order = ranges-of .ensures .in-order in
     (start .pre .0, start .pre .4, law.marks-from-first _ _ _ (start .pre .2) (start .args .part .i) (ranges-of .result .before) _ (start .pre .3) (omega arith) (place .ensures), omega arith)
@@ -121,13 +121,13 @@ guess-rows-requires c κs =
 guess-direct-requires : tie.Need-guess-direct-requires
 guess-direct-requires c κs =
     let guess-rows = c .before .before .before .guess-rows in
-    let start = c .before .before .before .before .before .before .before .before .before .before .before .before .before .before .before .before .before .before .before .before in
+    let start = c .before .before .before .before .before .before .before .before .before .before .before .before .before .before .before .before .before .before .before in
     (law.numbers-stretch (ranged (c .before .before .before .before .before .before) (as-long (guess-rows .ensures) (start .pre .2))), start .pre .1)
 
 -- src/guesses.rt:182:5
 guess-rows-requires-2 : tie.Need-guess-rows-requires-2
 guess-rows-requires-2 c κs =
-    let start = c .before .before .before .before .before .before .before .before .before .before .before .before .before .before .before .before .before .before .before .before .before .before .before .before in
+    let start = c .before .before .before .before .before .before .before .before .before .before .before .before .before .before .before .before .before .before .before .before .before .before .before in
     let guess-direct = c .before .before .before .guess-direct in
     let guess-rows = c .before .before .before .before .before .before .before .guess-rows in
     let place = c .before .before .before .before .before .before .before .before .before .place in

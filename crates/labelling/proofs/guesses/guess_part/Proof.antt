@@ -19,8 +19,8 @@ enum-known-view c = search needs
 -- src/guesses.rt:199:64
 comparison-of-requires : tie.Need-comparison-of-requires
 comparison-of-requires c κs =
-    let start = c .before .before .before .before .before .before .before in
-    let view = c .before .before .view in
+    let start = c .before .before .before .before .before .before in
+    let view = c .before .view in
     (start .args .sizes .channels, atom-there (now (start .args .plan)) (start .pre .0) (start .args .n) (start .args .i) (start .pre .4) _ (view .given .1))
 
 -- src/guesses.rt:199:13
@@ -28,7 +28,7 @@ guess-comparison-requires : tie.Need-guess-comparison-requires
 guess-comparison-requires c κs =
     let start = c .before .before .before .before .before .before .before .before in
     let view = c .before .before .before .view in
-    let comparison-of = c .comparison-of in
+    let comparison-of = c .before .comparison-of in
     let fits = atom-there (now (start .args .plan)) (start .pre .0) (start .args .n) (start .args .i) (start .pre .4) _ (view .given .1) in
     (start .pre .0, start .pre .1, start .pre .2, start .pre .3, atom-fit (start .args .sizes) _ fits (comparison-of .ensures), asked (start .args .sizes .channels) _ fits (comparison-of .ensures))
 
