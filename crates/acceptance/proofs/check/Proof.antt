@@ -11,23 +11,18 @@ use Rattle.acceptance.proofs.check.Lts as lts
 use Rattle.acceptance.proofs.check_marks.Reads as check-marks-reads
 use Rattle.inputs.proofs.read_inputs.Reads as read-inputs-reads
 
--- src/lib.rt:81:11
 read-inputs-requires : tie.Need-read-inputs-requires
 read-inputs-requires c κs = search needs
 
--- src/lib.rt:82:29
 enum-known-refusal : tie.Need-enum-known-refusal
 enum-known-refusal c = search needs
 
--- src/lib.rt:83:27
 enum-known-parts : tie.Need-enum-known-parts
 enum-known-parts c = search needs
 
--- src/lib.rt:83:45
 check-marks-requires : tie.Need-check-marks-requires
 check-marks-requires c κs = ways.ready (now (c .before .before .before .before .before .before .before .args .rule)) (now (c .before .before .before .before .before .before .before .args .plan)) (sym (c .before .before .before .read-inputs .ensures) ∙ c .before .parts .given .1) .1
 
--- src/lib.rt:78:1
 returns : tie.Need-returns
 returns c =
     let start = c .before .before .before .before .before .before .before in
@@ -35,7 +30,6 @@ returns c =
     let refusal = c .before .refusal in
     check-promise (now (start .args .rule)) (now (start .args .plan)) (now (start .args .marks)) (inputs-refused (now (start .args .rule)) (now (start .args .plan)) (now (start .args .marks)) (ways.refused (now (start .args .rule)) (now (start .args .plan)) (sym (read-inputs .ensures) ∙ refusal .given .1)))
 
--- src/lib.rt:78:1
 returns-2 : tie.Need-returns-2
 returns-2 c = check-promise (now (c .before .before .before .before .before .before .before .before .args .rule)) (now (c .before .before .before .before .before .before .before .before .args .plan)) (now (c .before .before .before .before .before .before .before .before .args .marks)) (c .check-marks .ensures)
 

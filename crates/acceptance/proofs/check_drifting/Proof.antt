@@ -8,22 +8,18 @@ use Rattle.acceptance.proofs.check_drifting.Lts as lts
 use Rattle.acceptance.proofs.check_parts.Reads as check-parts-reads
 use Rattle.lanes.proofs.layout.lay_drifts.Reads as lay-drifts-reads
 
--- src/lib.rt:117:5
 lay-drifts-requires : tie.Need-lay-drifts-requires
 lay-drifts-requires c κs = search needs
 
--- src/lib.rt:118:5
 check-parts-requires : tie.Need-check-parts-requires
 check-parts-requires c κs =
     let start = c .before .before .before .before .before .before .before .before .before .before in
     let lay-drifts = c .before .before .before .lay-drifts in
     (start .pre .0, record { readings-laid = start .pre .1; drifts-laid = λ _. lay-drifts .ensures; no-drift = λ e. absurd (false≢true e) })
 
--- src/lib.rt:105:1
 same-length : tie.Need-same-length
 same-length c = search needs
 
--- src/lib.rt:105:1
 returns : tie.Need-returns
 returns c = search needs
 

@@ -12,19 +12,15 @@ use Rattle.acceptance.proofs.check_laid.Reads as check-laid-reads
 use Rattle.table.proofs.bytes.check_table.Reads as check-table-reads
 use Rattle.table.proofs.bytes.mark_at.Reads as mark-at-reads
 
--- src/lib.rt:65:13
 add-w : tie.Need-add-w
 add-w c = omega (arith, c .before .before .before .before .pre .fits .few-rows)
 
--- src/lib.rt:66:9
 check-table-requires : tie.Need-check-table-requires
 check-table-requires c κs = few-there (now (c .before .before .before .before .args .rule)) (now (c .before .before .before .before .args .plan)) (c .before .before .before .before .pre)
 
--- src/lib.rt:67:29
 enum-known-table : tie.Need-enum-known-table
 enum-known-table c = search needs
 
--- src/lib.rt:68:9
 returns : tie.Need-returns
 returns c =
     let start = c .before .before .before .before .before .before .before .before in
@@ -44,7 +40,6 @@ part-values-start c = search needs
 part-values-end : tie.Need-part-values-end
 part-values-end c = search needs
 
--- src/lib.rt:70:9
 check-laid-requires : tie.Need-check-laid-requires
 check-laid-requires c κs =
     let start = c .before .before .before .before .before .before .before .before in
@@ -52,11 +47,9 @@ check-laid-requires c κs =
     let enum-told = c .before .enum-told in
     (law.prepared (now (start .args .rule)) (now (start .args .plan)) (now (start .args .marks)) (start .pre) (check-table .ensures) (enum-told .given .1), refl)
 
--- src/lib.rt:71:29
 enum-known-all : tie.Need-enum-known-all
 enum-known-all c = search needs
 
--- src/lib.rt:72:9
 returns-2 : tie.Need-returns-2
 returns-2 c =
     let start = c .before .before .before .before .before .before .before .before .before .before .before .before .before in
@@ -69,13 +62,11 @@ returns-2 c =
 enum-told-2 : tie.Need-enum-told-2
 enum-told-2 c = search needs
 
--- src/lib.rt:74:44
 sub-mark-at : tie.Need-sub-mark-at
 sub-mark-at c =
     let start = c .before .before .before .before .before .before .before .before .before .before .before .before in
     omega (arith, last-there (now (start .args .rule)) (now (start .args .plan)) (start .pre))
 
--- src/lib.rt:74:23
 mark-at-requires : tie.Need-mark-at-requires
 mark-at-requires c κs =
     let start = c .before .before .before .before .before .before .before .before .before .before .before .before in
@@ -85,7 +76,6 @@ mark-at-requires c κs =
     let prepared = law.prepared (now (start .args .rule)) (now (start .args .plan)) (now (start .args .marks)) (start .pre) (check-table .ensures) (enum-told .given .1) in
     (prepared .sized, omega arith, omega arith)
 
--- src/lib.rt:61:1
 returns-3 : tie.Need-returns-3
 returns-3 c =
     let start = c .before .before .before .before .before .before .before .before .before .before .before .before .before in

@@ -8,42 +8,33 @@ use Rattle.acceptance.proofs.check_drifting.Reads as check-drifting-rea
 use Rattle.acceptance.proofs.check_still.Reads as check-still-reads
 use Rattle.plan.proofs.sweeps.still.Reads as still-reads
 
--- src/lib.rt:133:13
 add-w : tie.Need-add-w
 add-w c = search needs
 
--- src/lib.rt:134:8
 still-requires : tie.Need-still-requires
 still-requires c κs = search needs
 
--- src/lib.rt:135:9
 check-still-requires : tie.Need-check-still-requires
 check-still-requires c κs =
     let start = c .before .before .before .before .before .before .before in
     let still = c .before .still in
     (start .pre .0, start .pre .1, still .ensures (c .if1 .taken))
 
--- src/lib.rt:135:9
 returns : tie.Need-returns
 returns c = search needs
 
--- src/lib.rt:142:9
 sub-check-drifting : tie.Need-sub-check-drifting
 sub-check-drifting c = search needs
 
--- src/lib.rt:142:9
 part-drifts-start : tie.Need-part-drifts-start
 part-drifts-start c = search needs
 
--- src/lib.rt:142:9
 part-drifts-end : tie.Need-part-drifts-end
 part-drifts-end c = search needs
 
--- src/lib.rt:138:5
 check-drifting-requires : tie.Need-check-drifting-requires
 check-drifting-requires c κs = search needs
 
--- src/lib.rt:122:1
 returns-2 : tie.Need-returns-2
 returns-2 c = search needs
 

@@ -37,35 +37,27 @@ Inv-parts rule plan values drifts still table n sizes w answer₀ i₀ answer i 
 abbrev μ-parts : tie.MeasureT-parts
 μ-parts rule plan values drifts still table n sizes w answer₀ i₀ answer i = n - i
 
--- src/lib.rt:50:13
 add-w : tie.Need-add-w Inv-loop μ-loop Inv-parts μ-parts
 add-w c = omega (arith, c .before .before .before .before .before .before .pre .0 .ready .fits .few-rows)
 
--- src/lib.rt:53:5
 parts-holds : tie.Need-parts-holds Inv-loop μ-loop Inv-parts μ-parts
 parts-holds c = (omega arith, refl, turn-first _ _)
 
--- src/lib.rt:54:13
 take-requires : tie.Need-take-requires Inv-loop μ-loop Inv-parts μ-parts
 take-requires c κs = search needs
 
--- src/lib.rt:55:25
 enum-known-taken : tie.Need-enum-known-taken Inv-loop μ-loop Inv-parts μ-parts
 enum-known-taken c = search needs
 
--- src/lib.rt:56:39
 enum-told : tie.Need-enum-told Inv-loop μ-loop Inv-parts μ-parts
 enum-told c = search needs
 
--- src/lib.rt:56:39
 refusal-of-requires : tie.Need-refusal-of-requires Inv-loop μ-loop Inv-parts μ-parts
 refusal-of-requires c κs = search needs
 
--- src/lib.rt:59:13
 view-of-requires : tie.Need-view-of-requires Inv-loop μ-loop Inv-parts μ-parts
 view-of-requires c κs = search needs
 
--- src/lib.rt:60:13
 surely-clear-requires : tie.Need-surely-clear-requires Inv-loop μ-loop Inv-parts μ-parts
 surely-clear-requires c κs =
     let start = c .before .before .before .before .before .before .before .before .before .before .before .before .before in
@@ -76,7 +68,6 @@ surely-clear-requires c κs =
     let view-of = c .view-of in
     (law.readable (now (start .args .rule)) (now (start .args .plan)) (now (start .args .table)) (start .pre .0) (parts .i) (parts-test .taken) (take .ensures .isTake) (taken .given .1) (view-of .ensures), start .pre .0 .marks, start .pre .1)
 
--- src/lib.rt:61:13
 check-closing-requires : tie.Need-check-closing-requires Inv-loop μ-loop Inv-parts μ-parts
 check-closing-requires c κs =
     let start = c .before .before .before .before .before .before .before .before .before .before .before .before .before .before in
@@ -88,18 +79,15 @@ check-closing-requires c κs =
     let surely-clear = c .surely-clear in
     (law.readable (now (start .args .rule)) (now (start .args .plan)) (now (start .args .table)) (start .pre .0) (parts .i) (parts-test .taken) (take .ensures .isTake) (taken .given .1) (view-of .ensures), λ sure. surely-clear .ensures sure .closing)
 
--- src/lib.rt:62:33
 enum-known-closing : tie.Need-enum-known-closing Inv-loop μ-loop Inv-parts μ-parts
 enum-known-closing c = search needs
 
 enum-told-2 : tie.Need-enum-told-2 Inv-loop μ-loop Inv-parts μ-parts
 enum-told-2 c = search needs
 
--- src/lib.rt:66:13
 choose-requires : tie.Need-choose-requires Inv-loop μ-loop Inv-parts μ-parts
 choose-requires c κs = search needs
 
--- src/lib.rt:68:9
 loop-holds : tie.Need-loop-holds Inv-loop μ-loop Inv-parts μ-parts
 loop-holds c =
     let start = c .before .before .before .before .before .before .before .before .before .before .before .before .before .before .before .before .before .before in
@@ -112,7 +100,6 @@ loop-holds c =
     let choose = c .choose in
     (omega arith, parts .inv .1, law.searched (now (start .args .rule)) (now (start .args .plan)) (now (start .args .table)) (start .pre .0) (parts .i) (parts-test .taken) (take .ensures .isTake) (taken .given .1) (view-of .ensures) (surely-clear .result) (surely-clear .ensures) (choose .result) (choose .ensures))
 
--- src/lib.rt:69:16
 breaks-on-requires : tie.Need-breaks-on-requires Inv-loop μ-loop Inv-parts μ-parts
 breaks-on-requires c κs =
     let start = c .before .before .before .before .before .before .before .before .before .before .before .before .before .before .before .before .before .before .before .before in
@@ -126,7 +113,6 @@ breaks-on-requires c κs =
     let loop-test = c .loop-test in
     (law.readable (now (start .args .rule)) (now (start .args .plan)) (now (start .args .table)) (start .pre .0) (parts .i) (parts-test .taken) (take .ensures .isTake) (taken .given .1) (view-of .ensures), omega (arith, loop-test .taken, rows-most (surely-clear .result) (choose .result) (allRows (start .args .sizes)) (choose .ensures)))
 
--- src/lib.rt:73:13
 add-row : tie.Need-add-row Inv-loop μ-loop Inv-parts μ-parts
 add-row c =
     let start = c .before .before .before .before .before .before .before .before .before .before .before .before .before .before .before .before .before .before .before .before .before .before in
@@ -135,11 +121,9 @@ add-row c =
     let loop-test = c .before .before .loop-test in
     omega (arith, loop-test .taken, rows-most (surely-clear .result) (choose .result) (allRows (start .args .sizes)) (choose .ensures), start .pre .0 .ready .fits .few-rows)
 
--- src/lib.rt:68:9
 loop-less : tie.Need-loop-less Inv-loop μ-loop Inv-parts μ-parts
 loop-less c = omega arith
 
--- src/lib.rt:68:9
 loop-again : tie.Need-loop-again Inv-loop μ-loop Inv-parts μ-parts
 loop-again c =
     let start = c .before .before .before .before .before .before .before .before .before .before .before .before .before .before .before .before .before .before .before .before .before .before in
@@ -155,7 +139,6 @@ loop-again c =
     let if1 = c .if1 in
     (omega arith, loop .inv .1, law.row-met (now (start .args .rule)) (now (start .args .plan)) (now (start .args .table)) (start .pre .0) (parts .i) (parts-test .taken) (take .ensures .isTake) (taken .given .1) (view-of .ensures) (choose .result) (loop .row) (loop .inv .2) (loop-test .taken) (breaks-on .ensures) (if1 .left))
 
--- src/lib.rt:75:13
 check-witness-requires : tie.Need-check-witness-requires Inv-loop μ-loop Inv-parts μ-parts
 check-witness-requires c κs =
     let start = c .before .before .before .before .before .before .before .before .before .before .before .before .before .before .before .before .before .before .before .before in
@@ -166,25 +149,21 @@ check-witness-requires c κs =
     let view-of = c .before .before .before .before .before .before .before .view-of in
     law.readable (now (start .args .rule)) (now (start .args .plan)) (now (start .args .table)) (start .pre .0) (parts .i) (parts-test .taken) (take .ensures .isTake) (taken .given .1) (view-of .ensures)
 
--- src/lib.rt:76:33
 enum-known-witness : tie.Need-enum-known-witness Inv-loop μ-loop Inv-parts μ-parts
 enum-known-witness c = search needs
 
 enum-told-3 : tie.Need-enum-told-3 Inv-loop μ-loop Inv-parts μ-parts
 enum-told-3 c = search needs
 
--- src/lib.rt:80:9
 add-i : tie.Need-add-i Inv-loop μ-loop Inv-parts μ-parts
 add-i c =
     let start = c .before .before .before .before .before .before .before .before .before .before .before .before .before .before .before .before .before .before .before .before .before .before .before in
     let parts-test = c .before .before .before .before .before .before .before .before .before .before .before .before .before .before .before .parts-test in
     omega (arith, parts-test .taken, start .pre .0 .sized .few-parts)
 
--- src/lib.rt:53:5
 parts-less : tie.Need-parts-less Inv-loop μ-loop Inv-parts μ-parts
 parts-less c = omega arith
 
--- src/lib.rt:53:5
 parts-again : tie.Need-parts-again Inv-loop μ-loop Inv-parts μ-parts
 parts-again c =
     let start = c .before .before .before .before .before .before .before .before .before .before .before .before .before .before .before .before .before .before .before .before .before .before .before in
@@ -202,7 +181,6 @@ parts-again c =
     let enum-told3 = c .enum-told3 in
     (omega arith, loop .inv .1, law.part-passed (now (start .args .rule)) (now (start .args .plan)) (now (start .args .table)) (start .pre .0) (parts .i) (parts-test .taken) (take .ensures .isTake) (taken .given .1) (view-of .ensures) (parts .inv .2) (check-closing .ensures) (enum-told2 .given .1) (law.rows-met (now (start .args .rule)) (now (start .args .plan)) (now (start .args .table)) (start .pre .0) (parts .i) (parts-test .taken) (take .ensures .isTake) (taken .given .1) (view-of .ensures) (choose .result) (loop .row) (loop .inv .2) (loop-test .left)) (check-witness .ensures) (enum-told3 .given .1))
 
--- src/lib.rt:37:1
 returns : tie.Need-returns Inv-loop μ-loop Inv-parts μ-parts
 returns c =
     let start = c .before .before .before .before .before .before .before .before in
@@ -210,7 +188,6 @@ returns c =
     let parts-test = c .parts-test in
     law.all-passed (now (start .args .rule)) (now (start .args .plan)) (now (start .args .table)) (start .pre .0) (parts .i) (parts .inv .2) (parts-test .left) (parts .inv .1)
 
--- src/lib.rt:37:1
 returns-2 : tie.Need-returns-2 Inv-loop μ-loop Inv-parts μ-parts
 returns-2 c =
     let start = c .before .before .before .before .before .before .before .before .before .before .before .before in
@@ -220,7 +197,6 @@ returns-2 c =
     let enum-told = c .before .enum-told in
     absurd (always-taken (now (start .args .rule)) (now (start .args .plan)) (start .pre .0 .ready) (parts .i) (parts-test .taken) (take .ensures .isTake) (enum-told .given .1))
 
--- src/lib.rt:37:1
 returns-3 : tie.Need-returns-3 Inv-loop μ-loop Inv-parts μ-parts
 returns-3 c =
     let start = c .before .before .before .before .before .before .before .before .before .before .before .before .before .before .before .before .before .before in
@@ -233,7 +209,6 @@ returns-3 c =
     let closing = c .before .closing in
     law.closing-refused (now (start .args .rule)) (now (start .args .plan)) (now (start .args .table)) (start .pre .0) (parts .i) (parts-test .taken) (take .ensures .isTake) (taken .given .1) (view-of .ensures) (parts .inv .2) (check-closing .ensures) (closing .given .1)
 
--- src/lib.rt:37:1
 returns-4 : tie.Need-returns-4 Inv-loop μ-loop Inv-parts μ-parts
 returns-4 c =
     let start = c .before .before .before .before .before .before .before .before .before .before .before .before .before .before .before .before .before .before .before .before .before .before in
@@ -251,7 +226,6 @@ returns-4 c =
     let if1 = c .if1 in
     law.equation-refused (now (start .args .rule)) (now (start .args .plan)) (now (start .args .table)) (start .pre .0) (parts .i) (parts-test .taken) (take .ensures .isTake) (taken .given .1) (view-of .ensures) (parts .inv .2) (check-closing .ensures) (enum-told2 .given .1) (choose .result) (loop .row) (loop .inv .2) (loop-test .taken) (breaks-on .ensures) (if1 .taken)
 
--- src/lib.rt:37:1
 returns-5 : tie.Need-returns-5 Inv-loop μ-loop Inv-parts μ-parts
 returns-5 c =
     let start = c .before .before .before .before .before .before .before .before .before .before .before .before .before .before .before .before .before .before .before .before .before .before .before .before in

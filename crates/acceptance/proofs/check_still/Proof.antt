@@ -8,13 +8,11 @@ use Rattle.acceptance.proofs.check_still.Reads as reads
 use Rattle.acceptance.proofs.check_still.Lts as lts
 use Rattle.acceptance.proofs.check_parts.Reads as check-parts-reads
 
--- src/lib.rt:101:5
 check-parts-requires : tie.Need-check-parts-requires
 check-parts-requires c κs =
     let start = c .before .before .before .before in
     (start .pre .0, record { readings-laid = start .pre .1; drifts-laid = λ e. absurd (false≢true (sym e)); no-drift = λ _. start .pre .2 })
 
--- src/lib.rt:90:1
 returns : tie.Need-returns
 returns c = search needs
 

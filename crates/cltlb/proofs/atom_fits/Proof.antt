@@ -13,39 +13,30 @@ use Rattle.cltlb.proofs.atom_fits.Lts as lts
 use Rattle.cltlb.proofs.term_fits.Reads as term-fits-reads
 use Rattle.cltlb.proofs.window_fits.Reads as window-fits-reads
 
--- src/lib.rt:157:20
 enum-known-x : tie.Need-enum-known-x
 enum-known-x c = search needs
 
--- src/lib.rt:157:36
 term-fits-requires : tie.Need-term-fits-requires
 term-fits-requires c κs = search needs
 
--- src/lib.rt:157:57
 term-fits-requires-2 : tie.Need-term-fits-requires-2
 term-fits-requires-2 c κs = search needs
 
--- src/lib.rt:158:21
 enum-known-x-2 : tie.Need-enum-known-x-2
 enum-known-x-2 c = search needs
 
--- src/lib.rt:158:37
 term-fits-requires-3 : tie.Need-term-fits-requires-3
 term-fits-requires-3 c κs = search needs
 
--- src/lib.rt:158:58
 term-fits-requires-4 : tie.Need-term-fits-requires-4
 term-fits-requires-4 c κs = search needs
 
--- src/lib.rt:160:13
 enum-known-x-3 : tie.Need-enum-known-x-3
 enum-known-x-3 c = search needs
 
--- src/lib.rt:164:14
 term-fits-requires-5 : tie.Need-term-fits-requires-5
 term-fits-requires-5 c κs = search needs
 
--- src/lib.rt:164:63
 window-fits-requires : tie.Need-window-fits-requires
 window-fits-requires c κs = search needs
 
@@ -55,7 +46,6 @@ enum-known-x-4 c = search needs
 term-fits-requires-6 : tie.Need-term-fits-requires-6
 term-fits-requires-6 c κs = search needs
 
--- src/lib.rt:153:1
 returns : tie.Need-returns
 unfolding atomFits
 returns c =
@@ -63,7 +53,6 @@ returns c =
     let x = c .before .before .before .x in
     ap₂ _&&_ (c .before .term-fits .ensures) (c .term-fits2 .ensures) ∙ sym (ap (atomFits (start .args .v)) (x .given .1))
 
--- src/lib.rt:153:1
 returns-2 : tie.Need-returns-2
 unfolding atomFits
 returns-2 c =
@@ -71,7 +60,6 @@ returns-2 c =
     let x2 = c .before .before .before .x2 in
     ap₂ _&&_ (c .before .term-fits3 .ensures) (c .term-fits4 .ensures) ∙ sym (ap (atomFits (start .args .v)) (x2 .given .1))
 
--- src/lib.rt:153:1
 returns-3 : tie.Need-returns-3
 returns-3 c =
     let x3 = c .before .before .before .x3 in

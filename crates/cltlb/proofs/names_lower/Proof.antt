@@ -6,20 +6,16 @@ use Rattle.cltlb.proofs.names_lower.Tie as tie
 use Rattle.cltlb.proofs.names_lower.Reads as reads
 use Rattle.cltlb.proofs.names_lower.Lts as lts
 
--- src/lib.rt:133:26
 enum-known-x : tie.Need-enum-known-x
 enum-known-x c = search needs
 
--- src/lib.rt:134:26
 enum-known-x-2 : tie.Need-enum-known-x-2
 enum-known-x-2 c = search needs
 
--- src/lib.rt:129:1
 returns : tie.Need-returns
 unfolding namesLower
 returns c = sym (ap (namesLower (c .before .before .before .args .n)) (c .before .x .given .1))
 
--- src/lib.rt:129:1
 returns-2 : tie.Need-returns-2
 unfolding namesLower
 returns-2 c = sym (ap (namesLower (c .before .before .before .args .n)) (c .before .x2 .given .1))

@@ -10,27 +10,21 @@ use Rattle.cltlb.proofs.term_fits.Tie as tie
 use Rattle.cltlb.proofs.term_fits.Reads as reads
 use Rattle.cltlb.proofs.term_fits.Lts as lts
 
--- src/terms.rt:50:30
 enum-told : tie.Need-enum-told
 enum-told c = search needs
 
--- src/terms.rt:51:25
 enum-known-x : tie.Need-enum-known-x
 enum-known-x c = search needs
 
--- src/terms.rt:53:17
 returns : tie.Need-returns
 returns c = law.fits-channel _ (c .before .before .x .given .1) (c .if1 .taken)
 
--- src/terms.rt:56:17
 returns-2 : tie.Need-returns-2
 returns-2 c = law.fits-low _ (c .before .before .before .x .given .1) (c .before .if1 .left) (ap (λ (z : ℤ). ltZ z (negsuc 3)) (sym (toZ-ofZ w32 (c .before .before .before .x .given .0 .1 .0) (record { sfits = c .before .before .known-told .given .1 .0 .1 }))) ∙ c .if2 .taken)
 
--- src/terms.rt:46:1
 returns-3 : tie.Need-returns-3
 returns-3 c = law.fits-constant _ (c .enum-told .given .1)
 
--- src/terms.rt:46:1
 returns-4 : tie.Need-returns-4
 returns-4 c =
     let x = c .before .before .before .x in

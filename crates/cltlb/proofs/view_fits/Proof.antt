@@ -8,28 +8,22 @@ use Rattle.cltlb.proofs.view_fits.Lts as lts
 use Rattle.cltlb.proofs.atom_fits.Reads as atom-fits-reads
 use Rattle.cltlb.proofs.names_lower.Reads as names-lower-reads
 
--- src/lib.rt:143:20
 enum-known-x : tie.Need-enum-known-x
 enum-known-x c = search needs
 
--- src/lib.rt:143:29
 atom-fits-requires : tie.Need-atom-fits-requires
 atom-fits-requires c κs = search needs
 
--- src/lib.rt:144:24
 enum-known-x-2 : tie.Need-enum-known-x-2
 enum-known-x-2 c = search needs
 
--- src/lib.rt:144:37
 names-lower-requires : tie.Need-names-lower-requires
 names-lower-requires c κs = search needs
 
--- src/lib.rt:139:1
 returns : tie.Need-returns
 unfolding viewFits
 returns c = c .atom-fits .ensures ∙ sym (ap (viewFits (c .before .before .before .before .args .v) (c .before .before .before .before .args .n)) (c .before .before .x .given .1))
 
--- src/lib.rt:139:1
 returns-2 : tie.Need-returns-2
 unfolding viewFits
 returns-2 c = c .names-lower .ensures ∙ sym (ap (viewFits (c .before .before .before .before .args .v) (c .before .before .before .before .args .n)) (c .before .before .x2 .given .1))

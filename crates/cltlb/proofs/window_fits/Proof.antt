@@ -4,7 +4,6 @@ use Rattle.cltlb.specs.Fits.{windowFits}
 use Rattle.cltlb.proofs.window_fits.Statement.{statement}
 use Rattle.cltlb.proofs.window_fits.Tie as tie
 
--- src/lib.rt:146:1
 returns : tie.Need-returns
 unfolding windowFits
 returns c = refl

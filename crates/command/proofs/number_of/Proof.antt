@@ -17,43 +17,33 @@ Inv-loop text n₀ i₀ n i = (i ≤ length text) × (n ≤ 65536) × (argumentO
 abbrev μ-loop : tie.MeasureT-loop
 μ-loop text n₀ i₀ n i = length text - i
 
--- src/lib.rt:43:9
 returns : tie.Need-returns Inv-loop μ-loop
 returns c = law.no-text (now (c .before .before .args .text)) (c .if1 .taken)
 
--- src/lib.rt:47:5
 loop-holds : tie.Need-loop-holds Inv-loop μ-loop
 loop-holds c = (omega arith, omega arith, law.some-text (now (c .before .before .args .text)) (c .if1 .left))
 
--- src/lib.rt:48:21
 shared-slice-read-digit : tie.Need-shared-slice-read-digit Inv-loop μ-loop
 shared-slice-read-digit c = omega arith
 
--- src/lib.rt:50:13
 returns-2 : tie.Need-returns-2 Inv-loop μ-loop
 returns-2 c = sym (c .before .before .before .loop .inv .2 ∙ law.below-digits (now (c .before .before .before .before .before .before .args .text)) _ _ (c .before .before .loop-test .taken) (c .if2 .taken))
 
--- src/lib.rt:53:13
 returns-3 : tie.Need-returns-3 Inv-loop μ-loop
 returns-3 c = sym (c .before .before .before .before .loop .inv .2 ∙ law.above-digits (now (c .before .before .before .before .before .before .before .args .text)) _ _ (c .before .before .before .loop-test .taken) (c .before .if2 .left) (c .if3 .taken))
 
--- src/lib.rt:55:9
 with-digit-requires : tie.Need-with-digit-requires Inv-loop μ-loop
 with-digit-requires c κs = (c .before .before .before .before .loop .inv .1, c .before .if2 .left)
 
--- src/lib.rt:56:9
 add-i : tie.Need-add-i Inv-loop μ-loop
 add-i c = omega arith
 
--- src/lib.rt:47:5
 loop-less : tie.Need-loop-less Inv-loop μ-loop
 loop-less c = omega arith
 
--- src/lib.rt:47:5
 loop-again : tie.Need-loop-again Inv-loop μ-loop
 loop-again c = (omega arith, c .with-digit .ensures .1, c .before .before .before .before .before .loop .inv .2 ∙ law.next-digit (now (c .before .before .before .before .before .before .before .before .args .text)) _ _ (c .before .before .before .before .loop-test .taken) (c .before .before .if2 .left) (c .before .if3 .left) ∙ ap (λ (x : ℕ). withDigits x (drop (c .before .before .before .before .before .loop .i + 1) (now (c .before .before .before .before .before .before .before .before .args .text)))) (sym (c .with-digit .ensures .0)))
 
--- src/lib.rt:39:1
 returns-4 : tie.Need-returns-4 Inv-loop μ-loop
 returns-4 c = sym (c .before .loop .inv .2 ∙ law.last-digit (now (c .before .before .before .before .args .text)) _ _ (c .loop-test .left))
 

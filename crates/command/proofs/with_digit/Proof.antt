@@ -9,31 +9,24 @@ use Rattle.command.proofs.with_digit.Reads as reads
 use Rattle.command.proofs.with_digit.Lts as lts
 use Rattle.fields.proofs.wide.Reads as wide-reads
 
--- src/lib.rt:27:16
 mul-next : tie.Need-mul-next
 mul-next c = search needs
 
--- src/lib.rt:27:26
 wide-requires : tie.Need-wide-requires
 wide-requires c κs = search needs
 
--- src/lib.rt:27:26
 cast-next : tie.Need-cast-next
 cast-next c = search needs
 
--- src/lib.rt:27:26
 sub-next : tie.Need-sub-next
 sub-next c = search needs
 
--- src/lib.rt:27:16
 add-next : tie.Need-add-next
 add-next c = search needs
 
--- src/lib.rt:23:1
 returns : tie.Need-returns
 returns c = (law.kept (c .before .before .args .n) (c .before .before .args .digit) (subst (λ (x : ℕ). 65536 < 10 * c .before .before .args .n + (x - 48)) (c .before .wide .ensures .0) (c .if1 .taken)), omega arith)
 
--- src/lib.rt:23:1
 returns-2 : tie.Need-returns-2
 returns-2 c = (ap (λ (x : ℕ). 10 * c .before .before .args .n + (x - 48)) (c .before .wide .ensures .0) ∙ law.added (c .before .before .args .n) (c .before .before .args .digit) (subst (λ (x : ℕ). 10 * c .before .before .args .n + (x - 48) ≤ 65536) (c .before .wide .ensures .0) (c .if1 .left)), c .if1 .left)
 

@@ -11,19 +11,15 @@ use Rattle.endless_run.proofs.endless_run_check.Lts as lts
 use Rattle.acceptance.proofs.check.Reads as check-reads
 use Rattle.endless_run.proofs.refusal_word.Reads as refusal-word-reads
 
--- src/lib.rt:38:11
 check-requires : tie.Need-check-requires
 check-requires c κs = search needs
 
--- src/lib.rt:39:27
 enum-known-holds : tie.Need-enum-known-holds
 enum-known-holds c = search needs
 
--- src/lib.rt:42:26
 enum-known-refusal : tie.Need-enum-known-refusal
 enum-known-refusal c = search needs
 
--- src/lib.rt:42:38
 refusal-word-requires : tie.Need-refusal-word-requires
 refusal-word-requires c κs =
     let start = c .before .before .before .before .before .before .before in
@@ -31,7 +27,6 @@ refusal-word-requires c κs =
     let refusal = c .before .refusal in
     check-names (now (start .args .rule)) (now (start .args .plan)) (now (start .args .marks)) (check .ensures .isCheck) _ (refusal .given .1)
 
--- src/lib.rt:34:1
 returns : tie.Need-returns
 unfolding checkWord
 returns c =
@@ -41,7 +36,6 @@ returns c =
     let if1 = c .if1 in
     check-word (now (start .args .rule)) (now (start .args .plan)) (now (start .args .marks)) (sym (ap checkWord (holds .given .1) ∙ ap verdictBit (if1 .taken))) (check .ensures)
 
--- src/lib.rt:34:1
 returns-2 : tie.Need-returns-2
 unfolding checkWord
 returns-2 c =
@@ -51,7 +45,6 @@ returns-2 c =
     let if1 = c .if1 in
     check-word (now (start .args .rule)) (now (start .args .plan)) (now (start .args .marks)) (sym (ap checkWord (holds .given .1) ∙ ap verdictBit (if1 .left))) (check .ensures)
 
--- src/lib.rt:34:1
 returns-3 : tie.Need-returns-3
 unfolding checkWord
 returns-3 c =

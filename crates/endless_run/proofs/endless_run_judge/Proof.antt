@@ -12,23 +12,18 @@ use Rattle.endless_run.proofs.refusal_word.Reads as refusal-word-reads
 use Rattle.endless_run.proofs.verdict_word.Reads as verdict-word-reads
 use Rattle.judge.proofs.judge.Reads as judge-reads
 
--- src/lib.rt:50:11
 judge-requires : tie.Need-judge-requires
 judge-requires c κs = search needs
 
--- src/lib.rt:51:25
 enum-known-verdict : tie.Need-enum-known-verdict
 enum-known-verdict c = search needs
 
--- src/lib.rt:51:37
 verdict-word-requires : tie.Need-verdict-word-requires
 verdict-word-requires c κs = search needs
 
--- src/lib.rt:52:25
 enum-known-refusal : tie.Need-enum-known-refusal
 enum-known-refusal c = search needs
 
--- src/lib.rt:52:37
 refusal-word-requires : tie.Need-refusal-word-requires
 refusal-word-requires c κs =
     let start = c .before .before .before .before .before .before in
@@ -36,7 +31,6 @@ refusal-word-requires c κs =
     let refusal = c .before .refusal in
     judge-names (now (start .args .rule)) (now (start .args .plan)) (start .args .part) (start .args .row) (judge .ensures .isJudge) _ (refusal .given .1)
 
--- src/lib.rt:46:1
 returns : tie.Need-returns
 unfolding judgeWord
 returns c =
@@ -46,7 +40,6 @@ returns c =
     let verdict-word = c .verdict-word in
     judge-word (now (start .args .rule)) (now (start .args .plan)) (start .args .part) (start .args .row) (verdict-word .ensures ∙ sym (ap judgeWord (verdict .given .1))) (judge .ensures)
 
--- src/lib.rt:46:1
 returns-2 : tie.Need-returns-2
 unfolding judgeWord
 returns-2 c =

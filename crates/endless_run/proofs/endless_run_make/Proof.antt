@@ -11,19 +11,15 @@ use Rattle.endless_run.proofs.endless_run_make.Lts as lts
 use Rattle.endless_run.proofs.refusal_word.Reads as refusal-word-reads
 use Rattle.maker.proofs.make.Reads as make-reads
 
--- src/lib.rt:61:11
 make-requires : tie.Need-make-requires
 make-requires c κs = search needs
 
--- src/lib.rt:62:21
 enum-known-holds : tie.Need-enum-known-holds
 enum-known-holds c = search needs
 
--- src/lib.rt:63:23
 enum-known-refusal : tie.Need-enum-known-refusal
 enum-known-refusal c = search needs
 
--- src/lib.rt:63:35
 refusal-word-requires : tie.Need-refusal-word-requires
 refusal-word-requires c κs =
     let start = c .before .before .before .before .before .before .before .before .before .before in
@@ -31,11 +27,9 @@ refusal-word-requires c κs =
     let refusal = c .before .refusal in
     make-names (now (start .args .rule)) (now (start .args .plan)) (now (start .args .marks)) (make .ensures .isMake) _ (refusal .given .1)
 
--- src/lib.rt:57:1
 same-length : tie.Need-same-length
 same-length c = search needs
 
--- src/lib.rt:57:1
 returns : tie.Need-returns
 unfolding makeWord
 returns c =
@@ -45,11 +39,9 @@ returns c =
     let if1 = c .if1 in
     make-word (now (start .args .rule)) (now (start .args .plan)) (now (start .args .marks)) _ (sym (ap makeWord (holds .given .1) ∙ ap verdictBit (if1 .taken))) (make .ensures)
 
--- src/lib.rt:57:1
 same-length-2 : tie.Need-same-length-2
 same-length-2 c = search needs
 
--- src/lib.rt:57:1
 returns-2 : tie.Need-returns-2
 unfolding makeWord
 returns-2 c =
@@ -59,11 +51,9 @@ returns-2 c =
     let if1 = c .if1 in
     make-word (now (start .args .rule)) (now (start .args .plan)) (now (start .args .marks)) _ (sym (ap makeWord (holds .given .1) ∙ ap verdictBit (if1 .left))) (make .ensures)
 
--- src/lib.rt:57:1
 same-length-3 : tie.Need-same-length-3
 same-length-3 c = search needs
 
--- src/lib.rt:57:1
 returns-3 : tie.Need-returns-3
 unfolding makeWord
 returns-3 c =

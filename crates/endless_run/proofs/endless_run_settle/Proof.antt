@@ -11,19 +11,15 @@ use Rattle.endless_run.proofs.endless_run_settle.Lts as lts
 use Rattle.endless_run.proofs.refusal_word.Reads as refusal-word-reads
 use Rattle.settling.proofs.settle.Reads as settle-reads
 
--- src/lib.rt:77:11
 settle-requires : tie.Need-settle-requires
 settle-requires c κs = search needs
 
--- src/lib.rt:78:22
 enum-known-n : tie.Need-enum-known-n
 enum-known-n c = search needs
 
--- src/lib.rt:79:23
 enum-known-refusal : tie.Need-enum-known-refusal
 enum-known-refusal c = search needs
 
--- src/lib.rt:79:35
 refusal-word-requires : tie.Need-refusal-word-requires
 refusal-word-requires c κs =
     let start = c .before .before .before .before .before .before .before .before .before .before .before .before .before .before in
@@ -31,15 +27,12 @@ refusal-word-requires c κs =
     let refusal = c .before .refusal in
     settle-names (now (start .args .rule)) (now (start .args .plan)) (now (start .args .laid)) (now (start .args .scratch)) (settle .ensures .isSettle) _ (refusal .given .1)
 
--- src/lib.rt:68:1
 same-length : tie.Need-same-length
 same-length c = search needs
 
--- src/lib.rt:68:1
 same-length-2 : tie.Need-same-length-2
 same-length-2 c = search needs
 
--- src/lib.rt:68:1
 returns : tie.Need-returns
 unfolding settleWord
 returns c =
@@ -48,15 +41,12 @@ returns c =
     let n = c .before .n in
     settle-word (now (start .args .rule)) (now (start .args .plan)) (now (start .args .laid)) (now (start .args .scratch)) _ _ (sym (ap settleWord (n .given .1))) (settle .ensures)
 
--- src/lib.rt:68:1
 same-length-3 : tie.Need-same-length-3
 same-length-3 c = search needs
 
--- src/lib.rt:68:1
 same-length-4 : tie.Need-same-length-4
 same-length-4 c = search needs
 
--- src/lib.rt:68:1
 returns-2 : tie.Need-returns-2
 unfolding settleWord
 returns-2 c =

@@ -11,22 +11,18 @@ use Rattle.endless_run.proofs.refusal_word.Reads as reads
 use Rattle.endless_run.proofs.refusal_word.Lts as lts
 use Rattle.refusal.proofs.report_of.Reads as report-of-reads
 
--- src/lib.rt:17:9
 report-of-requires : tie.Need-report-of-requires
 report-of-requires c κs = search needs
 
--- src/lib.rt:21:5
 mul-result : tie.Need-mul-result
 mul-result c = let e = ap (λ (x : Report). x .number) (c .report-of .ensures) in omega (arith, number-within (c .before .args .refusal), e)
 
--- src/lib.rt:21:36
 mul-result-2 : tie.Need-mul-result-2
 mul-result-2 c =
     let e = ap (λ (x : Report). x .part) (c .report-of .ensures) in
     let f = ap (λ (x : Report). x .row) (c .report-of .ensures) in
     omega (arith, c .before .pre, e, f)
 
--- src/lib.rt:21:5
 add-result : tie.Need-add-result
 add-result c =
     let e = ap (λ (x : Report). x .number) (c .report-of .ensures) in
@@ -34,7 +30,6 @@ add-result c =
     let g = ap (λ (x : Report). x .row) (c .report-of .ensures) in
     omega (arith, number-within (c .before .args .refusal), c .before .pre, e, f, g)
 
--- src/lib.rt:21:5
 add-result-2 : tie.Need-add-result-2
 add-result-2 c =
     let e = ap (λ (x : Report). x .number) (c .report-of .ensures) in
@@ -42,7 +37,6 @@ add-result-2 c =
     let g = ap (λ (x : Report). x .row) (c .report-of .ensures) in
     omega (arith, number-within (c .before .args .refusal), c .before .pre, e, f, g)
 
--- src/lib.rt:13:1
 returns : tie.Need-returns
 unfolding refusalWord
 returns c = ap (λ (x : Report). x .number * 4294967296 + x .part * 65536 + x .row) (c .report-of .ensures)

@@ -5,7 +5,6 @@ use Rattle.endless_run.proofs.report_in.Tie as tie
 use Rattle.endless_run.proofs.report_in.Reads as reads
 use Rattle.endless_run.proofs.report_in.Lts as lts
 
--- src/lib.rt:26:1
 returns : tie.Need-returns
 unfolding unpacked
 returns c = refl

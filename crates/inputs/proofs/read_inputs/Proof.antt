@@ -9,35 +9,27 @@ use Rattle.inputs.proofs.read_inputs.Lts as lts
 use Rattle.plan.proofs.check.check_plan.Reads as check-plan-reads
 use Rattle.rule.proofs.check_sheet.Reads as check-sheet-reads
 
--- src/lib.rt:19:11
 check-sheet-requires : tie.Need-check-sheet-requires
 check-sheet-requires c κs = search needs
 
--- src/lib.rt:20:28
 enum-known-refusal : tie.Need-enum-known-refusal
 enum-known-refusal c = search needs
 
--- src/lib.rt:21:29
 enum-known-parts : tie.Need-enum-known-parts
 enum-known-parts c = search needs
 
--- src/lib.rt:22:19
 check-plan-requires : tie.Need-check-plan-requires
 check-plan-requires c κs = search needs
 
--- src/lib.rt:23:35
 enum-known-refusal-2 : tie.Need-enum-known-refusal-2
 enum-known-refusal-2 c = search needs
 
--- src/lib.rt:24:32
 enum-known-sizes : tie.Need-enum-known-sizes
 enum-known-sizes c = search needs
 
--- src/lib.rt:16:1
 returns : tie.Need-returns
 returns c = law.sheet-refused (now (c .before .before .before .before .before .before .args .rule)) (now (c .before .before .before .before .before .before .args .plan)) (sym (c .before .before .before .check-sheet .ensures) ∙ c .before .refusal .given .1)
 
--- src/lib.rt:16:1
 returns-2 : tie.Need-returns-2
 returns-2 c =
     let start = c .before .before .before .before .before .before .before .before .before .before in
@@ -47,7 +39,6 @@ returns-2 c =
     let refusal2 = c .before .refusal2 in
     law.plan-refused (now (start .args .rule)) (now (start .args .plan)) (sym (check-sheet .ensures) ∙ parts .given .1) (sym (check-plan .ensures) ∙ refusal2 .given .1)
 
--- src/lib.rt:16:1
 returns-3 : tie.Need-returns-3
 returns-3 c =
     let start = c .before .before .before .before .before .before .before .before .before .before in

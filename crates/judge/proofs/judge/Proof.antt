@@ -7,23 +7,18 @@ use borrow.Author.Needs.{needs}
 use Rattle.judge.proofs.judge.Statement.{statement}
 use Rattle.judge.proofs.judge.Tie as tie
 
--- src/lib.rt:47:11
 read-inputs-requires : tie.Need-read-inputs-requires
 read-inputs-requires c κs = search needs
 
--- src/lib.rt:48:29
 enum-known-refusal : tie.Need-enum-known-refusal
 enum-known-refusal c = search needs
 
--- src/lib.rt:49:27
 enum-known-parts : tie.Need-enum-known-parts
 enum-known-parts c = search needs
 
--- src/lib.rt:49:45
 judge-part-requires : tie.Need-judge-part-requires
 judge-part-requires c κs = ways.ready (now (c .before .before .before .before .before .before .args .rule)) (now (c .before .before .before .before .before .before .args .plan)) (sym (c .before .before .before .read-inputs .ensures) ∙ c .before .parts .given .1) .1
 
--- src/lib.rt:44:1
 returns : tie.Need-returns
 returns c =
     let start = c .before .before .before .before .before .before in
@@ -31,7 +26,6 @@ returns c =
     let refusal = c .before .refusal in
     judge-promise (now (start .args .rule)) (now (start .args .plan)) (start .args .part) (start .args .row) (inputs-refused (now (start .args .rule)) (now (start .args .plan)) (start .args .part) (start .args .row) (ways.refused (now (start .args .rule)) (now (start .args .plan)) (sym (read-inputs .ensures) ∙ refusal .given .1)))
 
--- src/lib.rt:44:1
 returns-2 : tie.Need-returns-2
 returns-2 c =
     let start = c .before .before .before .before .before .before .before in

@@ -5,23 +5,18 @@ use borrow.Author.Needs.{needs}
 use Rattle.judge.proofs.judge_part.Statement.{statement}
 use Rattle.judge.proofs.judge_part.Tie as tie
 
--- src/lib.rt:30:9
 take-requires : tie.Need-take-requires
 take-requires c κs = search needs
 
--- src/lib.rt:31:21
 enum-known-taken : tie.Need-enum-known-taken
 enum-known-taken c = search needs
 
--- src/lib.rt:32:32
 enum-told : tie.Need-enum-told
 enum-told c = search needs
 
--- src/lib.rt:32:32
 refusal-of-requires : tie.Need-refusal-of-requires
 refusal-of-requires c κs = search needs
 
--- src/lib.rt:32:9
 returns : tie.Need-returns
 returns c =
     let start = c .before .before .before .before .before .before in
@@ -30,11 +25,9 @@ returns c =
     let refusal-of = c .refusal-of in
     law.part-absent (now (start .args .rule)) (now (start .args .plan)) (start .args .part) (start .args .row) (start .pre) (take .ensures .isTake) (enum-told .given .1) (refusal-of .ensures)
 
--- src/lib.rt:34:8
 add-if1 : tie.Need-add-if1
 add-if1 c = search needs
 
--- src/lib.rt:35:9
 returns-2 : tie.Need-returns-2
 returns-2 c =
     let start = c .before .before .before .before .before .before .before .before in
@@ -43,15 +36,12 @@ returns-2 c =
     let if1 = c .if1 in
     law.row-absent (now (start .args .rule)) (now (start .args .plan)) (start .args .part) (start .args .row) (start .pre) (take .ensures .isTake) (taken .given .1) (if1 .taken)
 
--- src/lib.rt:37:11
 view-of-requires : tie.Need-view-of-requires
 view-of-requires c κs = search needs
 
--- src/lib.rt:38:20
 enum-known-atom : tie.Need-enum-known-atom
 enum-known-atom c = search needs
 
--- src/lib.rt:38:45
 judge-row-requires : tie.Need-judge-row-requires
 judge-row-requires c κs =
     let start = c .before .before .before .before .before .before .before .before .before .before .before .before in
@@ -62,11 +52,9 @@ judge-row-requires c κs =
     let atom = c .before .atom in
     (start .pre .fits, law.atom-there (now (start .args .rule)) (now (start .args .plan)) (start .args .part) (start .args .row) (start .pre) (take .ensures .isTake) (taken .given .1) (if1 .left) (view-of .ensures) (atom .given .1), omega (arith, if1 .left, start .pre .fits .a-cycle))
 
--- src/lib.rt:39:46
 enum-told-2 : tie.Need-enum-told-2
 enum-told-2 c = search needs
 
--- src/lib.rt:19:1
 returns-3 : tie.Need-returns-3
 returns-3 c =
     let start = c .before .before .before .before .before .before .before .before .before .before .before .before .before in
@@ -78,7 +66,6 @@ returns-3 c =
     let judge-row = c .judge-row in
     law.judged-atom (now (start .args .rule)) (now (start .args .plan)) (start .args .part) (start .args .row) (start .pre) (take .ensures .isTake) (taken .given .1) (if1 .left) (view-of .ensures) (atom .given .1) (judge-row .ensures .answer)
 
--- src/lib.rt:19:1
 returns-4 : tie.Need-returns-4
 returns-4 c =
     let start = c .before .before .before .before .before .before .before .before .before .before .before in

@@ -11,29 +11,24 @@ use Rattle.labelling.proofs.operators.label_operator.Reads as label-ope
 use Rattle.marks.proofs.closing.closes_made.Reads as closes-made-reads
 use Rattle.marks.proofs.refusals.closing_outcome.Reads as closing-outcome-reads
 
--- src/lib.rt:37:20
 enum-known-view : tie.Need-enum-known-view
 enum-known-view c = search needs
 
--- src/lib.rt:37:29
 label-atom-requires : tie.Need-label-atom-requires
 label-atom-requires c κs =
     let start = c .before .before .before .before .before .before in
     let view = c .before .before .view in
     (start .pre .0, start .pre .1, start .pre .2, atom-there (now (start .args .plan)) (start .pre .0) (start .args .n) (start .args .i) (start .pre .3) _ (view .given .1))
 
--- src/lib.rt:38:24
 enum-known-view-2 : tie.Need-enum-known-view-2
 enum-known-view-2 c = search needs
 
--- src/lib.rt:39:13
 label-operator-requires : tie.Need-label-operator-requires
 label-operator-requires c κs =
     let start = c .before .before .before .before .before .before in
     let view2 = c .before .before .view2 in
     (start .pre .1, start .pre .0 .a-cycle, start .pre .2, operator-there (now (start .args .plan)) (start .pre .0) (start .args .n) (start .args .i) (start .pre .3) _ (view2 .given .1))
 
--- src/lib.rt:40:39
 closes-made-requires : tie.Need-closes-made-requires
 closes-made-requires c κs =
     let start = c .before .before .before .before .before .before .before .before .before .before in
@@ -41,15 +36,12 @@ closes-made-requires c κs =
     let label-operator = c .before .before .before .label-operator in
     operator-ready (now (start .args .plan)) (start .pre .0) (start .args .n) (start .args .i) (start .pre .3) _ (view2 .given .1) (label-operator .ensures) (start .pre .1) (start .pre .2)
 
--- src/lib.rt:40:13
 closing-outcome-requires : tie.Need-closing-outcome-requires
 closing-outcome-requires c κs = search needs
 
--- src/lib.rt:25:1
 same-length : tie.Need-same-length
 same-length c = search needs
 
--- src/lib.rt:25:1
 returns : tie.Need-returns
 returns c =
     let start = c .before .before .before .before .before .before .before .before .before in
@@ -57,11 +49,9 @@ returns c =
     let label-atom = c .before .before .label-atom in
     atom-made (now (start .args .plan)) (start .pre .0) (start .args .n) (start .args .i) (start .pre .3) _ (view .given .1) (label-atom .ensures .0) (label-atom .ensures .1)
 
--- src/lib.rt:25:1
 same-length-2 : tie.Need-same-length-2
 same-length-2 c = search needs
 
--- src/lib.rt:25:1
 returns-2 : tie.Need-returns-2
 returns-2 c =
     let start = c .before .before .before .before .before .before .before .before .before .before .before .before in

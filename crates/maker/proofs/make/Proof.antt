@@ -11,19 +11,15 @@ use Rattle.maker.proofs.make.Lts as lts
 use Rattle.inputs.proofs.read_inputs.Reads as read-inputs-reads
 use Rattle.maker.proofs.make_table.Reads as make-table-reads
 
--- src/lib.rt:97:11
 read-inputs-requires : tie.Need-read-inputs-requires
 read-inputs-requires c κs = search needs
 
--- src/lib.rt:98:29
 enum-known-refusal : tie.Need-enum-known-refusal
 enum-known-refusal c = search needs
 
--- src/lib.rt:99:27
 enum-known-parts : tie.Need-enum-known-parts
 enum-known-parts c = search needs
 
--- src/lib.rt:99:45
 make-table-requires : tie.Need-make-table-requires
 make-table-requires c κs =
     let start = c .before .before .before .before .before .before .before .before in
@@ -31,7 +27,6 @@ make-table-requires c κs =
     let parts = c .before .before .parts in
     ready (now (start .args .rule)) (now (start .args .plan)) (sym (read-inputs .ensures) ∙ parts .given .1) .1
 
--- src/lib.rt:94:1
 returns : tie.Need-returns
 returns c =
     let start = c .before .before .before .before .before .before .before in
@@ -40,11 +35,9 @@ returns c =
     let told = inputs-refused (now (start .args .rule)) (now (start .args .plan)) (now (start .args .marks)) (refused (now (start .args .rule)) (now (start .args .plan)) (sym (read-inputs .ensures) ∙ refusal .given .1)) in
     make-promise (now (start .args .rule)) (now (start .args .plan)) (now (start .args .marks)) (told .0) (told .1)
 
--- src/lib.rt:94:1
 same-length : tie.Need-same-length
 same-length c = search needs
 
--- src/lib.rt:94:1
 returns-2 : tie.Need-returns-2
 returns-2 c =
     let start = c .before .before .before .before .before .before .before .before .before .before .before in

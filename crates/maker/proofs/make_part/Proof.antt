@@ -19,27 +19,21 @@ use Rattle.rule.proofs.refusal_of.Reads as refusal-of-reads
 use Rattle.rule.proofs.take.Reads as take-reads
 use Rattle.table.proofs.fills.put_number.Reads as put-number-reads
 
--- src/lib.rt:39:13
 add-w : tie.Need-add-w
 add-w c = search needs
 
--- src/lib.rt:40:9
 take-requires : tie.Need-take-requires
 take-requires c κs = search needs
 
--- src/lib.rt:41:21
 enum-known-taken : tie.Need-enum-known-taken
 enum-known-taken c = search needs
 
--- src/lib.rt:42:33
 enum-told : tie.Need-enum-told
 enum-told c = search needs
 
--- src/lib.rt:42:33
 refusal-of-requires : tie.Need-refusal-of-requires
 refusal-of-requires c κs = search needs
 
--- src/lib.rt:42:9
 returns : tie.Need-returns
 returns c =
     let start = c .before .before .before .before .before .before .before .before in
@@ -47,11 +41,9 @@ returns c =
     let enum-told = c .before .enum-told in
     absurd (always-taken (now (start .args .rule)) (now (start .args .plan)) (start .pre .0) _ (start .pre .2) (take .ensures .isTake) (enum-told .given .1))
 
--- src/lib.rt:44:9
 view-of-requires : tie.Need-view-of-requires
 view-of-requires c κs = search needs
 
--- src/lib.rt:45:9
 label-part-requires : tie.Need-label-part-requires
 label-part-requires c κs =
     let start = c .before .before .before .before .before .before .before .before .before .before in
@@ -60,19 +52,15 @@ label-part-requires c κs =
     let view-of = c .before .view-of in
     (start .pre .0 .fits, start .pre .1 .sized, start .pre .2, taken-fitting (now (start .args .rule)) (now (start .args .plan)) (start .pre .0) _ (start .pre .2) (take .ensures .isTake) (taken .given .1) (view-of .ensures))
 
--- src/lib.rt:46:29
 enum-known-closing : tie.Need-enum-known-closing
 enum-known-closing c = search needs
 
--- src/lib.rt:47:13
 report-of-requires : tie.Need-report-of-requires
 report-of-requires c κs = search needs
 
--- src/lib.rt:48:9
 same-length : tie.Need-same-length
 same-length c = search needs
 
--- src/lib.rt:48:9
 returns-2 : tie.Need-returns-2
 returns-2 c =
     let start = c .before .before .before .before .before .before .before .before .before .before .before .before .before .before .before .before .before in
@@ -93,7 +81,6 @@ returns-2 c =
 enum-told-2 : tie.Need-enum-told-2
 enum-told-2 c = search needs
 
--- src/lib.rt:53:9
 lowest-witness-requires : tie.Need-lowest-witness-requires
 lowest-witness-requires c κs =
     let start = c .before .before .before .before .before .before .before .before .before .before .before .before .before .before .before .before in
@@ -105,23 +92,18 @@ lowest-witness-requires c κs =
     let sized = stored-sized _ _ (label-part .ensures .1 .made (enum-told2 .given .1)) (start .pre .1 .sized) in
     (start .pre .0 .fits, sized, start .pre .2, taken-fitting (now (start .args .rule)) (now (start .args .plan)) (start .pre .0) _ (start .pre .2) (take .ensures .isTake) (taken .given .1) (view-of .ensures))
 
--- src/lib.rt:54:27
 mul-put-number : tie.Need-mul-put-number
 mul-put-number c = search needs
 
--- src/lib.rt:54:23
 add-put-number : tie.Need-add-put-number
 add-put-number c = search needs
 
--- src/lib.rt:54:35
 mul-put-number-2 : tie.Need-mul-put-number-2
 mul-put-number-2 c = search needs
 
--- src/lib.rt:54:23
 add-put-number-2 : tie.Need-add-put-number-2
 add-put-number-2 c = search needs
 
--- src/lib.rt:54:5
 put-number-requires : tie.Need-put-number-requires
 put-number-requires c κs =
     let start = c .before .before .before .before .before .before .before .before .before .before .before .before .before .before .before .before .before .before in
@@ -131,11 +113,9 @@ put-number-requires c κs =
     let room = witness-room (start .args .n) _ (stored-sized _ _ (label-part .ensures .1 .made (enum-told2 .given .1)) (start .pre .1 .sized)) (start .args .i) (start .pre .2) in
     (room .0, room .1, lowest-witness .ensures .1)
 
--- src/lib.rt:28:1
 same-length-2 : tie.Need-same-length-2
 same-length-2 c = search needs
 
--- src/lib.rt:28:1
 returns-3 : tie.Need-returns-3
 returns-3 c =
     let start = c .before .before .before .before .before .before .before .before .before .before .before .before .before .before .before .before .before .before .before .before .before in

@@ -21,25 +21,20 @@ Inv-loop rule plan table₀ n sizes i₀ table i = (i ≤ n) × (closingsOutcome
 abbrev μ-loop : tie.MeasureT-loop
 μ-loop rule plan table₀ n sizes i₀ table i = n - i
 
--- src/lib.rt:64:5
 loop-holds : tie.Need-loop-holds Inv-loop μ-loop
 loop-holds c =
     let start = c .before .before .before in
     (omega arith, turns-first (now (start .args .rule)) (now (start .args .plan)) (start .pre .0), made-none (now (start .args .rule)) (now (start .args .plan)) (start .pre .0) (start .pre .1), refl)
 
--- src/lib.rt:65:13
 make-part-requires : tie.Need-make-part-requires Inv-loop μ-loop
 make-part-requires c κs = (c .before .before .before .before .before .before .pre .0, c .before .before .loop .inv .2, c .before .loop-test .taken)
 
--- src/lib.rt:66:33
 enum-known-made : tie.Need-enum-known-made Inv-loop μ-loop
 enum-known-made c = search needs
 
--- src/lib.rt:67:13
 same-length : tie.Need-same-length Inv-loop μ-loop
 same-length c = search needs
 
--- src/lib.rt:67:13
 returns : tie.Need-returns Inv-loop μ-loop
 returns c =
     let start = c .before .before .before .before .before .before .before .before .before .before .before .before in
@@ -52,15 +47,12 @@ returns c =
 enum-told : tie.Need-enum-told Inv-loop μ-loop
 enum-told c = search needs
 
--- src/lib.rt:69:9
 add-i : tie.Need-add-i Inv-loop μ-loop
 add-i c = omega (arith, c .before .before .before .before .before .before .before .before .before .before .before .pre .1 .few-parts)
 
--- src/lib.rt:64:5
 loop-less : tie.Need-loop-less Inv-loop μ-loop
 loop-less c = omega arith
 
--- src/lib.rt:64:5
 loop-again : tie.Need-loop-again Inv-loop μ-loop
 loop-again c =
     let start = c .before .before .before .before .before .before .before .before .before .before .before in
@@ -70,11 +62,9 @@ loop-again c =
     let enum-told = c .enum-told in
     (omega arith, turns-next (now (start .args .rule)) (now (start .args .plan)) (start .pre .0) (loop .i) (loop .inv .1) (loop-test .taken) (make-part .ensures .0) (enum-told .given .1), make-part .ensures .1 .made (enum-told .given .1), make-part .ensures .1 .long ∙ loop .inv .3)
 
--- src/lib.rt:59:1
 same-length-2 : tie.Need-same-length-2 Inv-loop μ-loop
 same-length-2 c = search needs
 
--- src/lib.rt:59:1
 returns-2 : tie.Need-returns-2 Inv-loop μ-loop
 returns-2 c =
     let start = c .before .before .before .before .before in

@@ -18,63 +18,53 @@ use Rattle.table.proofs.bytes.mark_at.Reads as mark-at-reads
 use Rattle.table.proofs.fills.clear.Reads as clear-reads
 use Rattle.table.proofs.fills.put_number.Reads as put-number-reads
 
--- src/lib.rt:83:13
 add-w : tie.Need-add-w
 add-w c =
     let start = c .before .before .before .before in
     omega (arith, start .pre .fits .few-rows)
 
--- src/lib.rt:84:27
 mul-if1 : tie.Need-mul-if1
 mul-if1 c =
     let start = c .before .before .before .before in
     let few = few-there (now (start .args .rule)) (now (start .args .plan)) (start .pre) in
     omega (arith, area _ _ (few .0) (few .1))
 
--- src/lib.rt:84:23
 add-if1 : tie.Need-add-if1
 add-if1 c =
     let start = c .before .before .before .before in
     let few = few-there (now (start .args .rule)) (now (start .args .plan)) (start .pre) in
     omega (arith, area _ _ (few .0) (few .1))
 
--- src/lib.rt:84:35
 mul-if1-2 : tie.Need-mul-if1-2
 mul-if1-2 c =
     let start = c .before .before .before .before in
     let few = few-there (now (start .args .rule)) (now (start .args .plan)) (start .pre) in
     omega arith
 
--- src/lib.rt:84:23
 add-if1-2 : tie.Need-add-if1-2
 add-if1-2 c =
     let start = c .before .before .before .before in
     let few = few-there (now (start .args .rule)) (now (start .args .plan)) (start .pre) in
     omega (arith, area _ _ (few .0) (few .1))
 
--- src/lib.rt:85:9
 returns : tie.Need-returns
 returns c =
     let start = c .before .before .before .before .before in
     let if1 = c .if1 in
     other-length (now (start .args .rule)) (now (start .args .plan)) (start .pre) (now (start .args .marks)) (if1 .taken)
 
--- src/lib.rt:87:9
 guess-table-requires : tie.Need-guess-table-requires
 guess-table-requires c κs =
     let start = c .before .before .before .before .before .before in
     let if1 = c .before .if1 in
     (start .pre, right-sized (now (start .args .rule)) (now (start .args .plan)) (start .pre) (now (start .args .marks)) (if1 .left))
 
--- src/lib.rt:88:30
 enum-known-guess : tie.Need-enum-known-guess
 enum-known-guess c = search needs
 
--- src/lib.rt:89:9
 same-length : tie.Need-same-length
 same-length c = search needs
 
--- src/lib.rt:89:9
 returns-2 : tie.Need-returns-2
 returns-2 c =
     let start = c .before .before .before .before .before .before .before .before .before .before .before .before in
@@ -86,7 +76,6 @@ returns-2 c =
 enum-told : tie.Need-enum-told
 enum-told c = search needs
 
--- src/lib.rt:91:9
 make-parts-requires : tie.Need-make-parts-requires
 make-parts-requires c κs =
     let start = c .before .before .before .before .before .before .before .before .before .before .before .before in
@@ -94,11 +83,9 @@ make-parts-requires c κs =
     let if1 = c .before .before .before .before .before .before .before .if1 in
     (start .pre, as-long (guess-table .ensures .long) (right-sized (now (start .args .rule)) (now (start .args .plan)) (start .pre) (now (start .args .marks)) (if1 .left)))
 
--- src/lib.rt:92:29
 enum-known-made : tie.Need-enum-known-made
 enum-known-made c = search needs
 
--- src/lib.rt:93:9
 clear-requires : tie.Need-clear-requires
 clear-requires c κs =
     let start = c .before .before .before .before .before .before .before .before .before .before .before .before .before .before .before .before .before .before .before in
@@ -110,11 +97,9 @@ clear-requires c κs =
     let guessed = guess-table .ensures .long in
     omega arith
 
--- src/lib.rt:94:9
 same-length-2 : tie.Need-same-length-2
 same-length-2 c = search needs
 
--- src/lib.rt:94:9
 returns-3 : tie.Need-returns-3
 returns-3 c =
     let start = c .before .before .before .before .before .before .before .before .before .before .before .before .before .before .before .before .before .before .before .before .before .before in
@@ -128,7 +113,6 @@ returns-3 c =
 enum-told-2 : tie.Need-enum-told-2
 enum-told-2 c = search needs
 
--- src/lib.rt:96:5
 put-number-requires : tie.Need-put-number-requires
 put-number-requires c κs =
     let make-parts = c .before .before .before .before .before .make-parts in
@@ -138,7 +122,6 @@ put-number-requires c κs =
     let whole = made .sized .whole in
     (omega arith, at-most _ _ (made .sized) .1, omega arith)
 
--- src/lib.rt:97:5
 put-number-requires-2 : tie.Need-put-number-requires-2
 put-number-requires-2 c κs =
     let make-parts = c .before .before .before .before .before .before .before .before .before .make-parts in
@@ -150,13 +133,11 @@ put-number-requires-2 c κs =
     let long = put-number .ensures .long in
     (omega arith, at-most _ _ (stored-sized _ _ (put-number .ensures) (made .sized)) .1, omega arith)
 
--- src/lib.rt:98:38
 sub-mark-at : tie.Need-sub-mark-at
 sub-mark-at c =
     let start = c .before .before .before .before .before .before .before .before .before .before .before .before .before .before .before .before .before .before .before .before .before .before .before .before .before .before in
     omega (arith, last-there (now (start .args .rule)) (now (start .args .plan)) (start .pre))
 
--- src/lib.rt:98:17
 mark-at-requires : tie.Need-mark-at-requires
 mark-at-requires c κs =
     let start = c .before .before .before .before .before .before .before .before .before .before .before .before .before .before .before .before .before .before .before .before .before .before .before .before .before .before in
@@ -167,11 +148,9 @@ mark-at-requires c κs =
     let there = last-there (now (start .args .rule)) (now (start .args .plan)) (start .pre) in
     (stored-sized _ _ (put-number2 .ensures) (stored-sized _ _ (put-number .ensures) (make-parts .ensures .1 .made (enum-told2 .given .1) .sized)), omega arith, omega arith)
 
--- src/lib.rt:79:1
 same-length-3 : tie.Need-same-length-3
 same-length-3 c = search needs
 
--- src/lib.rt:79:1
 returns-4 : tie.Need-returns-4
 returns-4 c =
     let start = c .before .before .before .before .before .before .before .before .before .before .before .before .before .before .before .before .before .before .before .before .before .before .before .before .before .before .before in

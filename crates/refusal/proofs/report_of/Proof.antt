@@ -6,123 +6,93 @@ use Rattle.refusal.proofs.report_of.Tie as tie
 use Rattle.refusal.proofs.report_of.Reads as reads
 use Rattle.refusal.proofs.report_of.Lts as lts
 
--- src/lib.rt:39:31
 enum-told : tie.Need-enum-told
 enum-told c = search needs
 
--- src/lib.rt:40:25
 enum-known-refusal : tie.Need-enum-known-refusal
 enum-known-refusal c = search needs
 
--- src/lib.rt:41:28
 enum-known-refusal-2 : tie.Need-enum-known-refusal-2
 enum-known-refusal-2 c = search needs
 
--- src/lib.rt:42:31
 enum-told-2 : tie.Need-enum-told-2
 enum-told-2 c = search needs
 
--- src/lib.rt:43:30
 enum-told-3 : tie.Need-enum-told-3
 enum-told-3 c = search needs
 
--- src/lib.rt:44:31
 enum-known-refusal-3 : tie.Need-enum-known-refusal-3
 enum-known-refusal-3 c = search needs
 
--- src/lib.rt:45:31
 enum-told-4 : tie.Need-enum-told-4
 enum-told-4 c = search needs
 
--- src/lib.rt:46:29
 enum-known-refusal-4 : tie.Need-enum-known-refusal-4
 enum-known-refusal-4 c = search needs
 
--- src/lib.rt:47:29
 enum-known-refusal-5 : tie.Need-enum-known-refusal-5
 enum-known-refusal-5 c = search needs
 
--- src/lib.rt:48:28
 enum-known-refusal-6 : tie.Need-enum-known-refusal-6
 enum-known-refusal-6 c = search needs
 
--- src/lib.rt:49:28
 enum-known-refusal-7 : tie.Need-enum-known-refusal-7
 enum-known-refusal-7 c = search needs
 
--- src/lib.rt:50:28
 enum-told-5 : tie.Need-enum-told-5
 enum-told-5 c = search needs
 
--- src/lib.rt:51:36
 enum-told-6 : tie.Need-enum-told-6
 enum-told-6 c = search needs
 
--- src/lib.rt:52:36
 enum-known-refusal-8 : tie.Need-enum-known-refusal-8
 enum-known-refusal-8 c = search needs
 
--- src/lib.rt:36:5
 enum-told-7 : tie.Need-enum-told-7
 enum-told-7 c = search needs
 
--- src/lib.rt:35:1
 returns : tie.Need-returns
 returns c = sym (ap reportOf (c .enum-told .given .1))
 
--- src/lib.rt:35:1
 returns-2 : tie.Need-returns-2
 returns-2 c = sym (ap reportOf (c .before .refusal .given .1))
 
--- src/lib.rt:35:1
 returns-3 : tie.Need-returns-3
 returns-3 c = sym (ap reportOf (c .before .refusal2 .given .1))
 
--- src/lib.rt:35:1
 returns-4 : tie.Need-returns-4
 returns-4 c = sym (ap reportOf (c .enum-told2 .given .1))
 
--- src/lib.rt:35:1
 returns-5 : tie.Need-returns-5
 returns-5 c = sym (ap reportOf (c .enum-told3 .given .1))
 
--- src/lib.rt:35:1
 returns-6 : tie.Need-returns-6
 returns-6 c = sym (ap reportOf (c .before .refusal3 .given .1))
 
--- src/lib.rt:35:1
 returns-7 : tie.Need-returns-7
 returns-7 c = sym (ap reportOf (c .enum-told4 .given .1))
 
--- src/lib.rt:35:1
 returns-8 : tie.Need-returns-8
 returns-8 c = sym (ap reportOf (c .before .refusal4 .given .1))
 
--- src/lib.rt:35:1
 returns-9 : tie.Need-returns-9
 returns-9 c = sym (ap reportOf (c .before .refusal5 .given .1))
 
--- src/lib.rt:35:1
 returns-10 : tie.Need-returns-10
 returns-10 c = sym (ap reportOf (c .before .refusal6 .given .1))
 
--- src/lib.rt:35:1
 returns-11 : tie.Need-returns-11
 returns-11 c = sym (ap reportOf (c .before .refusal7 .given .1))
 
--- src/lib.rt:35:1
 returns-12 : tie.Need-returns-12
 returns-12 c = sym (ap reportOf (c .enum-told5 .given .1))
 
--- src/lib.rt:35:1
 returns-13 : tie.Need-returns-13
 returns-13 c = sym (ap reportOf (c .enum-told6 .given .1))
 
--- src/lib.rt:35:1
 returns-14 : tie.Need-returns-14
 returns-14 c = sym (ap reportOf (c .before .refusal8 .given .1))
 
--- src/lib.rt:36:1
 returns-15 : tie.Need-returns-15
 returns-15 c = sym (ap reportOf (c .enum-told7 .given .1))
 

@@ -23,37 +23,29 @@ Inv-loop sheet parts n₀ n = (n ≤ parts) × (atLowest (kindUnknown sheet) par
 abbrev μ-loop : tie.MeasureT-loop
 μ-loop sheet parts n₀ n = parts - n
 
--- src/lib.rt:131:8
 kinds-known-requires : tie.Need-kinds-known-requires Inv-loop μ-loop
 kinds-known-requires c κs = c .before .pre
 
--- src/lib.rt:132:9
 returns : tie.Need-returns Inv-loop μ-loop
 returns c =
     let start = c .before .before .before in
     sym (atLowest-clear (kindUnknown (now (start .args .sheet))) (start .args .parts) Kind .1 (c .before .kinds-known .ensures (c .if1 .taken)))
 
--- src/lib.rt:135:5
 loop-holds : tie.Need-loop-holds Inv-loop μ-loop
 loop-holds c = (omega arith, search-starts _ _ _)
 
--- src/lib.rt:136:52
 add-shape-of : tie.Need-add-shape-of Inv-loop μ-loop
 add-shape-of c = omega arith
 
--- src/lib.rt:136:46
 shared-slice-read-shape-of : tie.Need-shared-slice-read-shape-of Inv-loop μ-loop
 shared-slice-read-shape-of c = omega arith
 
--- src/lib.rt:136:30
 shape-of-requires : tie.Need-shape-of-requires Inv-loop μ-loop
 shape-of-requires c κs = tt
 
--- src/lib.rt:136:12
 is-unknown-requires : tie.Need-is-unknown-requires Inv-loop μ-loop
 is-unknown-requires c κs = tt
 
--- src/lib.rt:137:13
 returns-2 : tie.Need-returns-2 Inv-loop μ-loop
 returns-2 c =
     let start = c .before .before .before .before .before .before .before .before .before in
@@ -62,15 +54,12 @@ returns-2 c =
     let shape-of = c .before .before .shape-of in
     search-stops (kindUnknown (now (start .args .sheet))) (start .args .parts) Kind (loop .n) (loop-test .taken) (kind-tested (now (start .args .sheet)) (loop .n) (c .before .is-unknown .ensures) (shape-of .ensures) (c .if2 .taken)) ∙ sym (loop .inv .1)
 
--- src/lib.rt:139:9
 add-n : tie.Need-add-n Inv-loop μ-loop
 add-n c = omega arith
 
--- src/lib.rt:135:5
 loop-less : tie.Need-loop-less Inv-loop μ-loop
 loop-less c = omega arith
 
--- src/lib.rt:135:5
 loop-again : tie.Need-loop-again Inv-loop μ-loop
 loop-again c =
     let start = c .before .before .before .before .before .before .before .before .before in
@@ -79,7 +68,6 @@ loop-again c =
     let shape-of = c .before .before .shape-of in
     (omega arith, loop .inv .1 ∙ search-on (kindUnknown (now (start .args .sheet))) (start .args .parts) Kind (loop .n) (loop-test .taken) (kind-tested (now (start .args .sheet)) (loop .n) (c .before .is-unknown .ensures) (shape-of .ensures) (c .if2 .left)))
 
--- src/lib.rt:127:1
 returns-3 : tie.Need-returns-3 Inv-loop μ-loop
 returns-3 c =
     let start = c .before .before .before .before .before in

@@ -21,35 +21,27 @@ Inv-loop sheet parts channels n₀ n = (n ≤ parts) × (atLowest (untakeable sh
 abbrev μ-loop : tie.MeasureT-loop
 μ-loop sheet parts channels n₀ n = parts - n
 
--- src/lib.rt:142:5
 loop-holds : tie.Need-loop-holds Inv-loop μ-loop
 loop-holds c = (omega arith, search-starts _ _ _)
 
--- src/lib.rt:143:43
 add-shape-of : tie.Need-add-shape-of Inv-loop μ-loop
 add-shape-of c = let start = c .before .before .before in omega (arith, law.known-length (now (start .args .sheet)) (start .args .parts) (start .pre .0))
 
--- src/lib.rt:143:37
 shared-slice-read-shape-of : tie.Need-shared-slice-read-shape-of Inv-loop μ-loop
 shared-slice-read-shape-of c = let start = c .before .before .before .before in omega (arith, law.known-length (now (start .args .sheet)) (start .args .parts) (start .pre .0))
 
--- src/lib.rt:143:13
 shape-of-requires : tie.Need-shape-of-requires Inv-loop μ-loop
 shape-of-requires c κs = search needs
 
--- src/lib.rt:144:18
 add-at : tie.Need-add-at Inv-loop μ-loop
 add-at c = let start = c .before .before .before .before .before in omega (arith, law.known-length (now (start .args .sheet)) (start .args .parts) (start .pre .0))
 
--- src/lib.rt:144:37
 mul-at : tie.Need-mul-at Inv-loop μ-loop
 mul-at c = let start = c .before .before .before .before .before in omega (arith, law.known-length (now (start .args .sheet)) (start .args .parts) (start .pre .0))
 
--- src/lib.rt:144:18
 add-at-2 : tie.Need-add-at-2 Inv-loop μ-loop
 add-at-2 c = let start = c .before .before .before .before .before in omega (arith, law.known-length (now (start .args .sheet)) (start .args .parts) (start .pre .0))
 
--- src/lib.rt:145:13
 operand-sound-requires : tie.Need-operand-sound-requires Inv-loop μ-loop
 operand-sound-requires c κs = let start = c .before .before .before .before .before in
     let sheet = now (start .args .sheet) in (
@@ -58,7 +50,6 @@ operand-sound-requires c κs = let start = c .before .before .before .before .be
       law.known-shape sheet (start .args .parts) (start .pre .0) (c .before .before .before .loop .n) (c .before .before .loop-test .taken) (c .shape-of .ensures),
     )
 
--- src/lib.rt:146:13
 returns : tie.Need-returns Inv-loop μ-loop
 returns c = let start = c .before .before .before .before .before .before .before in
     let loop = c .before .before .before .before .before .loop in
@@ -67,15 +58,12 @@ returns c = let start = c .before .before .before .before .before .before .befor
     (law.operand-tested (now (start .args .sheet)) (start .args .parts) (start .pre .0) (start .pre .1) (loop .n) low (c .before .before .shape-of .ensures) (c .before .operand-sound .ensures) (c .if1 .taken))
     ∙ sym (loop .inv .1)
 
--- src/lib.rt:148:9
 add-n : tie.Need-add-n Inv-loop μ-loop
 add-n c = omega arith
 
--- src/lib.rt:142:5
 loop-less : tie.Need-loop-less Inv-loop μ-loop
 loop-less c = omega arith
 
--- src/lib.rt:142:5
 loop-again : tie.Need-loop-again Inv-loop μ-loop
 loop-again c = let start = c .before .before .before .before .before .before .before in
     let loop = c .before .before .before .before .before .loop in
@@ -85,7 +73,6 @@ loop-again c = let start = c .before .before .before .before .before .before .be
           (law.operand-tested (now (start .args .sheet)) (start .args .parts) (start .pre .0) (start .pre .1) (loop .n) low (c .before .before .shape-of .ensures) (c .before .operand-sound .ensures) (c .if1 .left)),
     )
 
--- src/lib.rt:137:1
 returns-2 : tie.Need-returns-2 Inv-loop μ-loop
 returns-2 c = search-ends (untakeable (now (c .before .before .before .args .sheet))) (c .before .before .before .args .parts) Operand (c .before .loop .n) (c .loop-test .left) ∙ sym (c .before .loop .inv .1)
 

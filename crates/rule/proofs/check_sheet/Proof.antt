@@ -13,31 +13,24 @@ use Rattle.rule.proofs.check_kinds.Reads as check-kinds-reads
 use Rattle.rule.proofs.check_operands.Reads as check-operands-reads
 use Rattle.rule.proofs.sizes.read_sizes.Reads as read-sizes-reads
 
--- src/lib.rt:153:45
 read-sizes-requires : tie.Need-read-sizes-requires
 read-sizes-requires c κs = search needs
 
--- src/lib.rt:153:25
 enum-known-parts : tie.Need-enum-known-parts
 enum-known-parts c = search needs
 
--- src/lib.rt:154:35
 enum-told : tie.Need-enum-told
 enum-told c = search needs
 
--- src/lib.rt:154:9
 returns : tie.Need-returns
 returns c = law.read-refused (now (c .before .before .before .before .args .sheet)) (law.sheet-sizes (now (c .before .before .before .before .args .sheet)) (sym (c .before .before .read-sizes .ensures) ∙ c .enum-told .given .1)) refl
 
--- src/lib.rt:156:9
 check-kinds-requires : tie.Need-check-kinds-requires
 check-kinds-requires c κs = omega (arith, counts-known (now (c .before .before .before .before .before .args .sheet)) (sym (c .before .before .before .read-sizes .ensures) ∙ c .before .parts .given .1))
 
--- src/lib.rt:157:29
 enum-known-kinds : tie.Need-enum-known-kinds
 enum-known-kinds c = search needs
 
--- src/lib.rt:158:9
 returns-2 : tie.Need-returns-2
 returns-2 c = law.read-refused (now (c .before .before .before .before .before .before .before .before .before .args .sheet)) (law.sheet-kinds (now (c .before .before .before .before .before .before .before .before .before .args .sheet))
     (sym (c .before .before .before .before .before .before .before .read-sizes .ensures) ∙ c .before .before .before .before .before .parts .given .1)
@@ -46,18 +39,15 @@ returns-2 c = law.read-refused (now (c .before .before .before .before .before .
 enum-told-2 : tie.Need-enum-told-2
 enum-told-2 c = search needs
 
--- src/lib.rt:160:9
 check-operands-requires : tie.Need-check-operands-requires
 check-operands-requires c κs =
     let sheet = now (c .before .before .before .before .before .before .before .before .args .sheet) in
     let read = sym (c .before .before .before .before .before .before .read-sizes .ensures) ∙ c .before .before .before .before .parts .given .1 in
     (law.kinds-known sheet read (c .before .before .check-kinds .ensures) (c .enum-told2 .given .1), right-sizes sheet read .2)
 
--- src/lib.rt:161:29
 enum-known-operands : tie.Need-enum-known-operands
 enum-known-operands c = search needs
 
--- src/lib.rt:162:9
 returns-3 : tie.Need-returns-3
 returns-3 c = law.read-refused (now (c .before .before .before .before .before .before .before .before .before .before .before .before .args .sheet))
     (law.sheet-operands (now (c .before .before .before .before .before .before .before .before .before .before .before .before .args .sheet)) (sym (c .before .before .before .before .before .before .before .before .before .before .read-sizes .ensures) ∙ c .before .before .before .before .before .before .before .before .parts .given .1)
@@ -67,7 +57,6 @@ returns-3 c = law.read-refused (now (c .before .before .before .before .before .
 enum-told-3 : tie.Need-enum-told-3
 enum-told-3 c = search needs
 
--- src/lib.rt:150:1
 returns-4 : tie.Need-returns-4
 returns-4 c = law.read-counts (now (c .before .before .before .before .before .before .before .before .before .before .before .args .sheet))
     (law.sheet-operands (now (c .before .before .before .before .before .before .before .before .before .before .before .args .sheet)) (sym (c .before .before .before .before .before .before .before .before .before .read-sizes .ensures) ∙ c .before .before .before .before .before .before .before .parts .given .1)

@@ -15,42 +15,33 @@ Inv-loop sheet parts all₀ n₀ all n = (n ≤ parts) × ((all ≡ true) → Al
 abbrev μ-loop : tie.MeasureT-loop
 μ-loop sheet parts all₀ n₀ all n = parts - n
 
--- src/lib.rt:119:5
 loop-holds : tie.Need-loop-holds Inv-loop μ-loop
 loop-holds c = (omega arith, λ e i l. absurd (omega arith))
 
--- src/lib.rt:120:62
 add-shape-of : tie.Need-add-shape-of Inv-loop μ-loop
 add-shape-of c = omega arith
 
--- src/lib.rt:120:56
 shared-slice-read-shape-of : tie.Need-shared-slice-read-shape-of Inv-loop μ-loop
 shared-slice-read-shape-of c = omega arith
 
--- src/lib.rt:120:40
 shape-of-requires : tie.Need-shape-of-requires Inv-loop μ-loop
 shape-of-requires c κs = tt
 
--- src/lib.rt:120:22
 is-unknown-requires : tie.Need-is-unknown-requires Inv-loop μ-loop
 is-unknown-requires c κs = tt
 
--- src/lib.rt:121:9
 add-n : tie.Need-add-n Inv-loop μ-loop
 add-n c = omega arith
 
--- src/lib.rt:119:5
 loop-less : tie.Need-loop-less Inv-loop μ-loop
 loop-less c = omega arith
 
--- src/lib.rt:119:5
 loop-again : tie.Need-loop-again Inv-loop μ-loop
 loop-again c =
     let start = c .before .before .before .before .before .before in
     let loop = c .before .before .before .before .loop in
     (omega arith, known-next (now (start .args .sheet)) (loop .n) (loop .inv .1) (kind-tested (now (start .args .sheet)) (loop .n) (c .is-unknown .ensures) (c .before .shape-of .ensures) refl))
 
--- src/lib.rt:113:1
 returns : tie.Need-returns Inv-loop μ-loop
 returns c = λ e i l. c .before .loop .inv .1 e i (omega (arith, c .loop-test .left))
 

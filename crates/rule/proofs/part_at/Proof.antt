@@ -13,57 +13,45 @@ use Rattle.rule.proofs.kinds.part_on.Reads as part-on-reads
 use Rattle.rule.proofs.kinds.shape_of.Reads as shape-of-reads
 use Rattle.rule.proofs.operands.operand_sound.Reads as operand-sound-reads
 
--- src/lib.rt:55:22
 add-kind : tie.Need-add-kind
 add-kind c = let start = c .before in omega (arith, counts-known (now (start .args .sheet)) (start .pre .0), start .pre .1)
 
--- src/lib.rt:55:16
 shared-slice-read-kind : tie.Need-shared-slice-read-kind
 shared-slice-read-kind c = let start = c .before .before in omega (arith, counts-known (now (start .args .sheet)) (start .pre .0), start .pre .1)
 
--- src/lib.rt:56:9
 shape-of-requires : tie.Need-shape-of-requires
 shape-of-requires c κs = search needs
 
--- src/lib.rt:57:8
 is-unknown-requires : tie.Need-is-unknown-requires
 is-unknown-requires c κs = search needs
 
--- src/lib.rt:58:9
 returns : tie.Need-returns
 returns c = let start = c .before .before .before .before .before in
     law.take-unknown (now (start .args .sheet)) (start .args .n) (start .pre .0) (start .pre .1)
     (law.kind-tested (now (start .args .sheet)) (start .args .n) (c .before .is-unknown .ensures) (c .before .before .shape-of .ensures) (c .if1 .taken))
 
--- src/lib.rt:60:14
 add-at : tie.Need-add-at
 add-at c = let start = c .before .before .before .before .before in omega (arith, counts-known (now (start .args .sheet)) (start .pre .0), start .pre .1)
 
--- src/lib.rt:60:33
 mul-at : tie.Need-mul-at
 mul-at c = let start = c .before .before .before .before .before in omega (arith, counts-known (now (start .args .sheet)) (start .pre .0), start .pre .1)
 
--- src/lib.rt:60:14
 add-at-2 : tie.Need-add-at-2
 add-at-2 c = let start = c .before .before .before .before .before in omega (arith, counts-known (now (start .args .sheet)) (start .pre .0), start .pre .1)
 
--- src/lib.rt:61:8
 operand-sound-requires : tie.Need-operand-sound-requires
 operand-sound-requires c κs = let start = c .before .before .before .before .before in
     let known = counts-known (now (start .args .sheet)) (start .pre .0) in (omega (arith, known, start .pre .1), known .3, sym (c .before .is-unknown .ensures) ∙ c .if1 .left)
 
--- src/lib.rt:62:21
 part-on-requires : tie.Need-part-on-requires
 part-on-requires c κs = let start = c .before .before .before .before .before .before .before in omega (arith, counts-known (now (start .args .sheet)) (start .pre .0), start .pre .1)
 
--- src/lib.rt:51:1
 returns-2 : tie.Need-returns-2
 returns-2 c = let start = c .before .before .before .before .before .before .before .before in
     law.sound-operand _ _ _ _ (c .before .before .operand-sound .ensures) (c .before .if2 .taken) (c .part-on .ensures)
     ∙ law.take-known (now (start .args .sheet)) (start .args .n) (start .pre .0) (start .pre .1)
     (law.kind-tested (now (start .args .sheet)) (start .args .n) (c .before .before .before .before .is-unknown .ensures) (c .before .before .before .before .before .shape-of .ensures) (c .before .before .before .if1 .left)) (c .before .before .before .before .before .shape-of .ensures)
 
--- src/lib.rt:51:1
 returns-3 : tie.Need-returns-3
 returns-3 c = let start = c .before .before .before .before .before .before .before in
     law.unsound-operand _ _ _ _ (c .before .operand-sound .ensures) (c .if2 .left)

@@ -8,15 +8,12 @@ use Rattle.rule.proofs.part_fits.Lts as lts
 use Rattle.cltlb.proofs.view_fits.Reads as view-fits-reads
 use Rattle.cltlb.proofs.view_of.Reads as view-of-reads
 
--- src/lib.rt:46:22
 view-of-requires : tie.Need-view-of-requires
 view-of-requires c κs = search needs
 
--- src/lib.rt:46:5
 view-fits-requires : tie.Need-view-fits-requires
 view-fits-requires c κs = search needs
 
--- src/lib.rt:43:1
 returns : tie.Need-returns
 returns c = c .view-fits .ensures ∙ ap (viewFits (c .before .before .args .channels) (c .before .before .args .n)) (c .before .view-of .ensures)
 

@@ -10,31 +10,24 @@ use Rattle.rule.proofs.take.Lts as lts
 use Rattle.rule.proofs.part_at.Reads as part-at-reads
 use Rattle.rule.proofs.sizes.read_sizes.Reads as read-sizes-reads
 
--- src/lib.rt:72:45
 read-sizes-requires : tie.Need-read-sizes-requires
 read-sizes-requires c κs = search needs
 
--- src/lib.rt:72:25
 enum-known-parts : tie.Need-enum-known-parts
 enum-known-parts c = search needs
 
--- src/lib.rt:73:31
 enum-told : tie.Need-enum-told
 enum-told c = search needs
 
--- src/lib.rt:73:9
 returns : tie.Need-returns
 returns c = take-promise _ _ (λ i. omega (arith, c .before .before .before .shared-slice-known .given i)) (law.take-sizes _ _ (sym (c .before .before .read-sizes .ensures) ∙ c .enum-told .given .1))
 
--- src/lib.rt:76:9
 returns-2 : tie.Need-returns-2
 returns-2 c = take-promise _ _ (λ i. omega (arith, c .before .before .before .before .before .shared-slice-known .given i)) (law.take-absent _ _ (sym (c .before .before .before .before .read-sizes .ensures) ∙ c .before .before .parts .given .1) (c .if1 .taken))
 
--- src/lib.rt:78:5
 part-at-requires : tie.Need-part-at-requires
 part-at-requires c κs = (sym (c .before .before .before .before .read-sizes .ensures) ∙ c .before .before .parts .given .1, c .if1 .left)
 
--- src/lib.rt:69:1
 returns-3 : tie.Need-returns-3
 returns-3 c = take-promise _ _ (λ i. omega (arith, c .before .before .before .before .before .before .shared-slice-known .given i)) (c .part-at .ensures)
 

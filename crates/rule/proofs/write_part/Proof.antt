@@ -18,59 +18,46 @@ use Rattle.cltlb.proofs.view_of.Reads as view-of-reads
 use Rattle.rule.proofs.kinds.kind_of.Reads as kind-of-reads
 use Rattle.rule.proofs.operands.put_operand.Reads as put-operand-reads
 
--- src/lib.rt:86:20
 kind-of-requires : tie.Need-kind-of-requires
 kind-of-requires c κs = search needs
 
--- src/lib.rt:86:11
 add-sheet : tie.Need-add-sheet
 add-sheet c = omega (arith, law.writable (now (c .before .before .args .sheet)) (c .before .before .args .n) (c .before .before .args .part) (c .before .before .args .parts) (c .before .before .pre .0) (c .before .before .pre .1))
 
--- src/lib.rt:86:5
 slice-write-sheet : tie.Need-slice-write-sheet
 slice-write-sheet c = omega (arith, law.writable (now (c .before .before .args .sheet)) (c .before .before .args .n) (c .before .before .args .part) (c .before .before .args .parts) (c .before .before .pre .0) (c .before .before .pre .1))
 
--- src/lib.rt:87:38
 add-put-operand : tie.Need-add-put-operand
 add-put-operand c = omega (arith, law.writable (now (c .before .before .args .sheet)) (c .before .before .args .n) (c .before .before .args .part) (c .before .before .args .parts) (c .before .before .pre .0) (c .before .before .pre .1))
 
--- src/lib.rt:87:50
 mul-put-operand : tie.Need-mul-put-operand
 mul-put-operand c = omega (arith, law.writable (now (c .before .before .args .sheet)) (c .before .before .args .n) (c .before .before .args .part) (c .before .before .args .parts) (c .before .before .pre .0) (c .before .before .pre .1))
 
--- src/lib.rt:87:38
 add-put-operand-2 : tie.Need-add-put-operand-2
 add-put-operand-2 c = omega (arith, law.writable (now (c .before .before .args .sheet)) (c .before .before .args .n) (c .before .before .args .part) (c .before .before .args .parts) (c .before .before .pre .0) (c .before .before .pre .1))
 
--- src/lib.rt:87:27
 sub-put-operand : tie.Need-sub-put-operand
 sub-put-operand c = simp length-set (omega (arith, law.writable (now (c .before .before .args .sheet)) (c .before .before .args .n) (c .before .before .args .part) (c .before .before .args .parts) (c .before .before .pre .0) (c .before .before .pre .1)))
 
--- src/lib.rt:87:27
 part-put-operand-start : tie.Need-part-put-operand-start
 part-put-operand-start c = simp length-set (omega (arith, law.writable (now (c .before .before .args .sheet)) (c .before .before .args .n) (c .before .before .args .part) (c .before .before .args .parts) (c .before .before .pre .0) (c .before .before .pre .1)))
 
--- src/lib.rt:87:27
 part-put-operand-end : tie.Need-part-put-operand-end
 part-put-operand-end c = search needs
 
--- src/lib.rt:87:61
 view-of-requires : tie.Need-view-of-requires
 view-of-requires c κs = search needs
 
--- src/lib.rt:87:5
 put-operand-requires : tie.Need-put-operand-requires
 put-operand-requires c κs = let w = law.writable (now (c .before .before .before .before .args .sheet)) (c .before .before .before .before .args .n) (c .before .before .before .before .args .part) (c .before .before .before .before .args .parts) (c .before .before .before .before .pre .0) (c .before .before .before .before .pre .1) in
     (simp (length-take, length-drop, length-set) (omega (arith, w)), ap (viewFits 8 64) (c .view-of .ensures) ∙ w .3)
 
--- src/lib.rt:82:1
 same-length : tie.Need-same-length
 same-length c = same-len-mid (4 + c .before .before .before .before .before .before .before .args .parts + 12 * c .before .before .before .before .before .before .before .args .n)
     (length (set (now (c .before .before .before .before .before .before .before .args .sheet)) (4 + c .before .before .before .before .before .before .before .args .n) _) -
     (4 + c .before .before .before .before .before .before .before .args .parts + 12 * c .before .before .before .before .before .before .before .args .n))
     (set (now (c .before .before .before .before .before .before .before .args .sheet)) (4 + c .before .before .before .before .before .before .before .args .n) _) (c .before .before .put-operand .last .0) (c .before .before .put-operand .kept .0) ∙ simp length-set
 
--- src/lib.rt:82:1
 returns : tie.Need-returns
 returns c = let w = law.writable (now (c .before .before .before .before .before .before .before .args .sheet)) (c .before .before .before .before .before .before .before .args .n)
     (c .before .before .before .before .before .before .before .args .part) (c .before .before .before .before .before .before .before .args .parts) (c .before .before .before .before .before .before .before .pre .0)

@@ -8,27 +8,21 @@ use Rattle.runmake.proofs.make_in.Lts as lts
 use Rattle.runmake.proofs.make.Reads as make-reads
 use Rattle.runmake.proofs.table_length.Reads as table-length-reads
 
--- src/main.rt:53:9
 table-length-requires : tie.Need-table-length-requires
 table-length-requires c κs = search needs
 
--- src/main.rt:54:22
 slice-relend-prefix-make : tie.Need-slice-relend-prefix-make
 slice-relend-prefix-make c = search needs
 
--- src/main.rt:54:22
 slice-aggregate-make : tie.Need-slice-aggregate-make
 slice-aggregate-make c = let few = c .before .table-length .ensures .0 in let room = c .before .before .before .before .before .pre in simp length-take (omega arith)
 
--- src/main.rt:54:5
 make-requires : tie.Need-make-requires
 make-requires c κs = search needs
 
--- src/main.rt:50:1
 same-length : tie.Need-same-length
 same-length c = search needs
 
--- src/main.rt:50:1
 returns : tie.Need-returns
 returns c = search needs
 

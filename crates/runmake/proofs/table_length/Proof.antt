@@ -9,15 +9,12 @@ use Rattle.runmake.proofs.table_length.Reads as reads
 use Rattle.runmake.proofs.table_length.Lts as lts
 use Rattle.inputs.proofs.read_inputs.Reads as read-inputs-reads
 
--- src/main.rt:11:11
 read-inputs-requires : tie.Need-read-inputs-requires
 read-inputs-requires c κs = search needs
 
--- src/main.rt:12:27
 enum-known-parts : tie.Need-enum-known-parts
 enum-known-parts c = search needs
 
--- src/main.rt:12:58
 add-result : tie.Need-add-result
 add-result c =
     let start = c .before .before .before .before .before .before .before in
@@ -26,7 +23,6 @@ add-result c =
     let few = few-marks (now (start .args .rule)) (now (start .args .plan)) (sym (read-inputs .ensures) ∙ parts .given .1) in
     omega arith
 
--- src/main.rt:12:49
 mul-result : tie.Need-mul-result
 mul-result c =
     let start = c .before .before .before .before .before .before .before in
@@ -35,7 +31,6 @@ mul-result c =
     let few = few-marks (now (start .args .rule)) (now (start .args .plan)) (sym (read-inputs .ensures) ∙ parts .given .1) in
     omega arith
 
--- src/main.rt:12:45
 add-result-2 : tie.Need-add-result-2
 add-result-2 c =
     let start = c .before .before .before .before .before .before .before in
@@ -44,7 +39,6 @@ add-result-2 c =
     let few = few-marks (now (start .args .rule)) (now (start .args .plan)) (sym (read-inputs .ensures) ∙ parts .given .1) in
     omega arith
 
--- src/main.rt:12:87
 mul-result-2 : tie.Need-mul-result-2
 mul-result-2 c =
     let start = c .before .before .before .before .before .before .before in
@@ -53,7 +47,6 @@ mul-result-2 c =
     let few = few-marks (now (start .args .rule)) (now (start .args .plan)) (sym (read-inputs .ensures) ∙ parts .given .1) in
     omega arith
 
--- src/main.rt:12:45
 add-result-3 : tie.Need-add-result-3
 add-result-3 c =
     let start = c .before .before .before .before .before .before .before in
@@ -62,11 +55,9 @@ add-result-3 c =
     let few = few-marks (now (start .args .rule)) (now (start .args .plan)) (sym (read-inputs .ensures) ∙ parts .given .1) in
     omega arith
 
--- src/main.rt:13:35
 enum-told : tie.Need-enum-told
 enum-told c = search needs
 
--- src/main.rt:8:1
 returns : tie.Need-returns
 returns c =
     let start = c .before .before .before .before .before .before .before in
@@ -74,7 +65,6 @@ returns c =
     let parts = c .before .before .parts in
     length-read (now (start .args .rule)) (now (start .args .plan)) (sym (read-inputs .ensures) ∙ parts .given .1)
 
--- src/main.rt:8:1
 returns-2 : tie.Need-returns-2
 returns-2 c =
     let start = c .before .before .before .before .before in

@@ -11,39 +11,30 @@ use Rattle.runsettle.proofs.plan_length.Reads as reads
 use Rattle.runsettle.proofs.plan_length.Lts as lts
 use Rattle.fields.proofs.u16_at.Reads as u16-at-reads
 
--- src/main.rt:17:9
 u16-at-requires : tie.Need-u16-at-requires
 u16-at-requires c κs = search needs
 
--- src/main.rt:18:9
 u16-at-requires-2 : tie.Need-u16-at-requires-2
 u16-at-requires-2 c κs = search needs
 
--- src/main.rt:19:9
 u16-at-requires-3 : tie.Need-u16-at-requires-3
 u16-at-requires-3 c κs = search needs
 
--- src/main.rt:20:9
 u16-at-requires-4 : tie.Need-u16-at-requires-4
 u16-at-requires-4 c κs = search needs
 
--- src/main.rt:21:9
 mul-result : tie.Need-mul-result
 mul-result c = search needs
 
--- src/main.rt:21:5
 add-result : tie.Need-add-result
 add-result c = search needs
 
--- src/main.rt:21:32
 add-result-2 : tie.Need-add-result-2
 add-result-2 c = search needs
 
--- src/main.rt:21:27
 add-result-3 : tie.Need-add-result-3
 add-result-3 c = search needs
 
--- src/main.rt:21:22
 mul-result-2 : tie.Need-mul-result-2
 mul-result-2 c =
     let u16-at4 = c .u16-at4 in
@@ -53,7 +44,6 @@ mul-result-2 c =
     let small = product-small (u16-at .ensures .1) (u16-at2 .ensures .1) (u16-at3 .ensures .1) (u16-at4 .ensures .1) in
     omega (arith, u16-at .ensures .1)
 
--- src/main.rt:21:17
 mul-result-3 : tie.Need-mul-result-3
 mul-result-3 c =
     let u16-at4 = c .u16-at4 in
@@ -63,7 +53,6 @@ mul-result-3 c =
     let small = product-small (u16-at .ensures .1) (u16-at2 .ensures .1) (u16-at3 .ensures .1) (u16-at4 .ensures .1) in
     omega (arith, u16-at .ensures .1)
 
--- src/main.rt:21:5
 add-result-4 : tie.Need-add-result-4
 add-result-4 c =
     let u16-at4 = c .u16-at4 in
@@ -73,7 +62,6 @@ add-result-4 c =
     let small = product-small (u16-at .ensures .1) (u16-at2 .ensures .1) (u16-at3 .ensures .1) (u16-at4 .ensures .1) in
     omega (arith, u16-at .ensures .1)
 
--- src/main.rt:13:1
 returns : tie.Need-returns
 unfolding channels startRows cycleRows leadRows
 returns c =

@@ -11,18 +11,15 @@ use Rattle.endless_run.proofs.endless_run_settle.Reads as endless-run-settle-re
 use Rattle.runsettle.proofs.plan_length.Reads as plan-length-reads
 use Rattle.runsettle.proofs.report.Reads as report-reads
 
--- src/main.rt:48:9
 endless-run-settle-requires : tie.Need-endless-run-settle-requires
 endless-run-settle-requires c κs = search needs
 
--- src/main.rt:50:13
 plan-length-requires : tie.Need-plan-length-requires
 plan-length-requires c κs =
     let endless-run-settle = c .before .before .before .before .before .before .endless-run-settle in
     let if1 = c .before .if1 in
     let endless-run-settle = endless-run-settle in let if1 = if1 in let told = endless-run-settle .ensures in has-head _ _ _ (told .clears (if1 .taken)) (told .front (if1 .taken))
 
--- src/main.rt:51:24
 slice-reshare-prefix-report : tie.Need-slice-reshare-prefix-report
 slice-reshare-prefix-report c =
     let endless-run-settle = c .before .before .before .before .before .before .before .endless-run-settle in
@@ -30,7 +27,6 @@ slice-reshare-prefix-report c =
     let plan-length = c .plan-length in
     let endless-run-settle = endless-run-settle in let if1 = if1 in let plan-length = plan-length in let told = endless-run-settle .ensures in let inside = within _ _ _ (told .clears (if1 .taken)) (told .front (if1 .taken)) (plan-length .ensures) in inside
 
--- src/main.rt:51:24
 slice-aggregate-report : tie.Need-slice-aggregate-report
 slice-aggregate-report c =
     let endless-run-settle = c .before .before .before .before .before .before .before .before .endless-run-settle in
@@ -38,35 +34,27 @@ slice-aggregate-report c =
     let plan-length = c .before .plan-length in
     let endless-run-settle = endless-run-settle in let if1 = if1 in let plan-length = plan-length in let told = endless-run-settle .ensures in let inside = within _ _ _ (told .clears (if1 .taken)) (told .front (if1 .taken)) (plan-length .ensures) in simp length-take (omega arith)
 
--- src/main.rt:51:9
 report-requires : tie.Need-report-requires
 report-requires c κs = search needs
 
--- src/main.rt:53:9
 print-refused-requires : tie.Need-print-refused-requires
 print-refused-requires c κs = search needs
 
--- src/main.rt:47:1
 same-length : tie.Need-same-length
 same-length c = search needs
 
--- src/main.rt:47:1
 same-length-2 : tie.Need-same-length-2
 same-length-2 c = search needs
 
--- src/main.rt:47:1
 returns : tie.Need-returns
 returns c = search needs
 
--- src/main.rt:47:1
 same-length-3 : tie.Need-same-length-3
 same-length-3 c = search needs
 
--- src/main.rt:47:1
 same-length-4 : tie.Need-same-length-4
 same-length-4 c = search needs
 
--- src/main.rt:47:1
 returns-2 : tie.Need-returns-2
 returns-2 c = search needs
 

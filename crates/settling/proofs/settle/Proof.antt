@@ -14,19 +14,15 @@ use Rattle.settling.proofs.settle.Lts as lts
 use Rattle.inputs.proofs.read_inputs.Reads as read-inputs-reads
 use Rattle.settling.proofs.settle_plan.Reads as settle-plan-reads
 
--- src/lib.rt:60:11
 read-inputs-requires : tie.Need-read-inputs-requires
 read-inputs-requires c κs = search needs
 
--- src/lib.rt:61:29
 enum-known-refusal : tie.Need-enum-known-refusal
 enum-known-refusal c = search needs
 
--- src/lib.rt:62:27
 enum-known-parts : tie.Need-enum-known-parts
 enum-known-parts c = search needs
 
--- src/lib.rt:62:45
 settle-plan-requires : tie.Need-settle-plan-requires
 settle-plan-requires c κs =
     let start = c .before .before .before .before .before .before .before .before .before .before in
@@ -34,7 +30,6 @@ settle-plan-requires c κs =
     let parts = c .before .before .before .parts in
     ready (now (start .args .rule)) (now (start .args .plan)) (sym (read-inputs .ensures) ∙ parts .given .1) .1
 
--- src/lib.rt:57:1
 returns : tie.Need-returns
 returns c =
     let start = c .before .before .before .before .before .before .before .before in
@@ -45,15 +40,12 @@ returns c =
     let told = inputs-refused (now (start .args .rule)) (now (start .args .plan)) (now (start .args .laid)) (now (start .args .scratch)) (refused (now (start .args .rule)) (now (start .args .plan)) (sym (read-inputs .ensures) ∙ refusal .given .1)) in
     settle-promise (now (start .args .rule)) (now (start .args .plan)) (now (start .args .laid)) (now (start .args .scratch)) bytes (told .0) (told .1) (told .2)
 
--- src/lib.rt:57:1
 same-length : tie.Need-same-length
 same-length c = search needs
 
--- src/lib.rt:57:1
 same-length-2 : tie.Need-same-length-2
 same-length-2 c = search needs
 
--- src/lib.rt:57:1
 returns-2 : tie.Need-returns-2
 returns-2 c =
     let start = c .before .before .before .before .before .before .before .before .before .before .before .before .before .before .before in

@@ -10,14 +10,12 @@ use Rattle.laid_out.proofs.writing.put_layout.Reads as put-layout-reads
 use Rattle.settling.proofs.search.fewest_passes.Reads as fewest-passes-reads
 use Rattle.table.proofs.fills.clear.Reads as clear-reads
 
--- src/lib.rt:43:9
 returns : tie.Need-returns
 returns c =
     let start = c .before .before .before .before .before in
     let if1 = c .if1 in
     laid-short (now (start .args .rule)) (now (start .args .plan)) (now (start .args .laid)) (now (start .args .scratch)) (start .pre) (if1 .taken)
 
--- src/lib.rt:46:9
 returns-2 : tie.Need-returns-2
 returns-2 c =
     let start = c .before .before .before .before .before .before in
@@ -25,19 +23,15 @@ returns-2 c =
     let if2 = c .if2 in
     scratch-short (now (start .args .rule)) (now (start .args .plan)) (now (start .args .laid)) (now (start .args .scratch)) (start .pre) (if1 .left) (if2 .taken)
 
--- src/lib.rt:48:9
 fewest-passes-requires : tie.Need-fewest-passes-requires
 fewest-passes-requires c κs = search needs
 
--- src/lib.rt:49:5
 clear-requires : tie.Need-clear-requires
 clear-requires c κs = search needs
 
--- src/lib.rt:50:25
 enum-known-found : tie.Need-enum-known-found
 enum-known-found c = search needs
 
--- src/lib.rt:51:9
 put-layout-requires : tie.Need-put-layout-requires
 put-layout-requires c κs =
     let start = c .before .before .before .before .before .before .before .before .before .before .before .before .before .before .before .before .before .before in
@@ -49,15 +43,12 @@ put-layout-requires c κs =
 enum-told : tie.Need-enum-told
 enum-told c = search needs
 
--- src/lib.rt:31:1
 same-length : tie.Need-same-length
 same-length c = search needs
 
--- src/lib.rt:31:1
 same-length-2 : tie.Need-same-length-2
 same-length-2 c = search needs
 
--- src/lib.rt:31:1
 returns-3 : tie.Need-returns-3
 returns-3 c =
     let start = c .before .before .before .before .before .before .before .before .before .before .before .before .before .before .before .before .before .before .before .before .before in
@@ -69,11 +60,9 @@ returns-3 c =
     let put-layout = c .before .before .put-layout in
     found (now (start .args .rule)) (now (start .args .plan)) (now (start .args .laid)) (now (start .args .scratch)) (start .pre) (if1 .left) (if2 .left) (fewest-passes .ensures) _ (fewest-passes .kept .1 .1 .0) (clear .ensures) (passes .given .1) (put-layout .ensures)
 
--- src/lib.rt:31:1
 same-length-3 : tie.Need-same-length-3
 same-length-3 c = search needs
 
--- src/lib.rt:31:1
 returns-4 : tie.Need-returns-4
 returns-4 c =
     let start = c .before .before .before .before .before .before .before .before .before .before .before .before .before .before .before .before in

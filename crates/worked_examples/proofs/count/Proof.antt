@@ -5,7 +5,6 @@ use Rattle.worked_examples.proofs.count.Tie as tie
 use Rattle.worked_examples.proofs.count.Reads as reads
 use Rattle.worked_examples.proofs.count.Lts as lts
 
--- src/lib.rt:9:1
 returns : tie.Need-returns
 returns c lo hi = (counted lo hi, all-said lo hi)
 

@@ -5,7 +5,6 @@ use Rattle.worked_examples.proofs.count_more.Tie as tie
 use Rattle.worked_examples.proofs.count_more.Reads as reads
 use Rattle.worked_examples.proofs.count_more.Lts as lts
 
--- src/lib.rt:19:1
 returns : tie.Need-returns
 returns c = (counted-more, more-said)
 

@@ -21,33 +21,26 @@ Inv-loop plan table₀ n sizes i comparison w own row₀ table row = law.Labelli
 abbrev μ-loop : tie.MeasureT-loop
 μ-loop plan table₀ n sizes i comparison w own row₀ table row = w - row
 
--- src/atoms.rt:47:13
 add-w : tie.Need-add-w Inv-loop μ-loop
 add-w c = search needs
 
--- src/atoms.rt:48:9
 place-requires : tie.Need-place-requires Inv-loop μ-loop
 place-requires c κs = search needs
 
--- src/atoms.rt:50:5
 loop-holds : tie.Need-loop-holds Inv-loop μ-loop
 loop-holds c = law.label-first _ _ _ _ _ _
 
--- src/atoms.rt:51:13
 judge-comparison-requires : tie.Need-judge-comparison-requires Inv-loop μ-loop
 judge-comparison-requires c κs =
     let start = c .before .before .before .before .before .before in
     (start .pre .0, atom-fit (start .args .sizes) _ (start .pre .3) (start .pre .4), c .loop-test .taken)
 
--- src/atoms.rt:52:12
 is-changes-requires : tie.Need-is-changes-requires Inv-loop μ-loop
 is-changes-requires c κs = search needs
 
--- src/atoms.rt:53:13
 same-length : tie.Need-same-length Inv-loop μ-loop
 same-length c = c .before .before .before .before .loop .inv .2 .long
 
--- src/atoms.rt:53:13
 returns : tie.Need-returns Inv-loop μ-loop
 returns c =
     let start = c .before .before .before .before .before .before .before .before .before in
@@ -57,7 +50,6 @@ returns c =
     let judge-comparison = c .before .before .judge-comparison in
     law.label-stops _ _ (start .pre .0) _ _ (place .ensures) _ (start .pre .4) (loop .inv) (loop-test .taken) (judge-comparison .ensures) (c .before .is-changes .ensures) (c .if1 .taken)
 
--- src/atoms.rt:55:25
 add-put-mark : tie.Need-add-put-mark Inv-loop μ-loop
 add-put-mark c =
     let start = c .before .before .before .before .before .before .before .before .before .before in
@@ -65,11 +57,9 @@ add-put-mark c =
     let loop-test = c .before .before .before .before .loop-test in
     omega (arith, law.label-small (now (start .args .plan)) (now (start .args .table)) (start .args .comparison) (start .args .i) _ _ (start .pre .1) (start .pre .2) (place .ensures) (loop-test .taken))
 
--- src/atoms.rt:55:36
 is-true-requires : tie.Need-is-true-requires Inv-loop μ-loop
 is-true-requires c κs = search needs
 
--- src/atoms.rt:55:9
 put-mark-requires : tie.Need-put-mark-requires Inv-loop μ-loop
 put-mark-requires c κs =
     let start = c .before .before .before .before .before .before .before .before .before .before .before in
@@ -78,17 +68,14 @@ put-mark-requires c κs =
     let loop-test = c .before .before .before .before .before .loop-test in
     law.label-room _ _ _ _ _ _ (start .pre .1) (start .pre .2) (place .ensures) (loop .inv) (loop-test .taken)
 
--- src/atoms.rt:56:9
 add-row : tie.Need-add-row Inv-loop μ-loop
 add-row c =
     let start = c .before .before .before .before .before .before .before .before .before .before .before .before .before .before in
     omega (arith, start .pre .0 .few-rows)
 
--- src/atoms.rt:50:5
 loop-less : tie.Need-loop-less Inv-loop μ-loop
 loop-less c = omega arith
 
--- src/atoms.rt:50:5
 loop-again : tie.Need-loop-again Inv-loop μ-loop
 loop-again c =
     let loop = c .before .before .before .before .before .before .before .before .before .loop in
@@ -100,11 +87,9 @@ loop-again c =
     let put-mark = c .before .before .put-mark in
     law.label-next _ _ _ _ _ _ (loop .inv) (loop-test .taken) (judge-comparison .ensures) (is-changes .ensures) (if1 .left) (is-true .ensures) (put-mark .ensures)
 
--- src/atoms.rt:35:1
 same-length-2 : tie.Need-same-length-2 Inv-loop μ-loop
 same-length-2 c = c .before .loop .inv .2 .long
 
--- src/atoms.rt:35:1
 returns-2 : tie.Need-returns-2 Inv-loop μ-loop
 returns-2 c =
     let start = c .before .before .before .before .before .before in

@@ -24,35 +24,28 @@ use Rattle.table.proofs.bytes.place.Reads as place-reads
 use Rattle.verdict.proofs.bounds.larger.Reads as larger-reads
 use Rattle.verdict.proofs.terms.reach_of.Reads as reach-of-reads
 
--- src/guesses.rt:161:13
 add-w : tie.Need-add-w
 add-w c = search needs
 
--- src/guesses.rt:164:9
 side-of-requires : tie.Need-side-of-requires
 side-of-requires c κs =
     let start = c .before .before .before .before .before .before in
     (start .pre .0, start .pre .4 .0)
 
--- src/guesses.rt:165:9
 side-of-requires-2 : tie.Need-side-of-requires-2
 side-of-requires-2 c κs =
     let start = c .before .before .before .before .before .before .before in
     (start .pre .0, start .pre .4 .1)
 
--- src/guesses.rt:166:23
 reach-of-requires : tie.Need-reach-of-requires
 reach-of-requires c κs = search needs
 
--- src/guesses.rt:166:36
 reach-of-requires-2 : tie.Need-reach-of-requires-2
 reach-of-requires-2 c κs = search needs
 
--- src/guesses.rt:166:9
 larger-requires : tie.Need-larger-requires
 larger-requires c κs = search needs
 
--- src/guesses.rt:167:41
 larger-requires-2 : tie.Need-larger-requires-2
 larger-requires-2 c κs = search needs
 
@@ -95,7 +88,6 @@ ranged c sized =
       divided = c .ranges-of .ensures;
     }
 
--- src/guesses.rt:167:9
 ranges-of-requires : tie.Need-ranges-of-requires
 ranges-of-requires c κs =
     let start = c .before .before .before .before .before .before .before .before .before .before .before .before in
@@ -104,11 +96,9 @@ ranges-of-requires c κs =
     let side-of2 = c .before .before .before .before .side-of2 in
     (start .pre .0 .few-rows, few-back (c .before), omega (arith, larger2 .ensures, side-of .ensures .few, side-of2 .ensures .few))
 
--- src/guesses.rt:168:9
 place-requires : tie.Need-place-requires
 place-requires c κs = search needs
 
--- src/guesses.rt:169:5
 guess-rows-requires : tie.Need-guess-rows-requires
 guess-rows-requires c κs =
     let ranges-of = c .before .before .ranges-of in
@@ -117,14 +107,12 @@ guess-rows-requires c κs =
     let order = ranges-of .ensures .in-order in
     (start .pre .0, start .pre .4, law.marks-from-first _ _ _ (start .pre .2) (start .args .part .i) (ranges-of .result .before) _ (start .pre .3) (omega arith) (place .ensures), omega arith)
 
--- src/guesses.rt:170:5
 guess-direct-requires : tie.Need-guess-direct-requires
 guess-direct-requires c κs =
     let guess-rows = c .before .before .before .guess-rows in
     let start = c .before .before .before .before .before .before .before .before .before .before .before .before .before .before .before .before .before .before .before in
     (law.numbers-stretch (ranged (c .before .before .before .before .before .before) (as-long (guess-rows .ensures) (start .pre .2))), start .pre .1)
 
--- src/guesses.rt:182:5
 guess-rows-requires-2 : tie.Need-guess-rows-requires-2
 guess-rows-requires-2 c κs =
     let start = c .before .before .before .before .before .before .before .before .before .before .before .before .before .before .before .before .before .before .before .before .before .before .before in
@@ -133,11 +121,9 @@ guess-rows-requires-2 c κs =
     let place = c .before .before .before .before .before .before .before .before .before .place in
     (start .pre .0, start .pre .4, law.marks-from-first _ _ _ (as-long (guess-direct .ensures ∙ guess-rows .ensures) (start .pre .2)) (start .args .part .i) _ _ (start .pre .3) (omega arith) (place .ensures), omega arith)
 
--- src/guesses.rt:150:1
 same-length : tie.Need-same-length
 same-length c = search needs
 
--- src/guesses.rt:150:1
 returns : tie.Need-returns
 returns c = search needs
 

@@ -11,60 +11,50 @@ use Rattle.labelling.proofs.guesses.guess_values.Reads as guess-values-
 use Rattle.lanes.proofs.columns.column_of.Reads as column-of-reads
 use Rattle.table.proofs.bytes.place.Reads as place-reads
 
--- src/guesses.rt:112:9
 returns : tie.Need-returns
 returns c = search needs
 
--- src/guesses.rt:114:13
 add-w : tie.Need-add-w
 add-w c =
     let start = c .before .before .before .before .before .before in
     omega (arith, law.few-all (start .pre .0))
 
--- src/guesses.rt:115:16
 add-lane : tie.Need-add-lane
 add-lane c =
     let start = c .before .before .before .before .before .before .before in
     omega (arith, law.few-all (start .pre .0))
 
--- src/guesses.rt:116:17
 add-first : tie.Need-add-first
 add-first c =
     let start = c .before .before .before .before .before .before .before .before in
     omega (arith, law.few-all (start .pre .0), start .pre .0 .few-rows)
 
--- src/guesses.rt:120:9
 column-of-requires : tie.Need-column-of-requires
 column-of-requires c κs =
     let start = c .before .before .before .before .before .before .before .before .before .before in
     let if1 = c .before .before .before .before .before .before .before .if1 in
     law.left-column (start .pre .0) (if1 .left)
 
--- src/guesses.rt:121:9
 column-of-requires-2 : tie.Need-column-of-requires-2
 column-of-requires-2 c κs =
     let start = c .before .before .before .before .before .before .before .before .before .before .before in
     let if1 = c .before .before .before .before .before .before .before .before .if1 in
     law.right-column (start .pre .0) (if1 .left)
 
--- src/guesses.rt:122:9
 place-requires : tie.Need-place-requires
 place-requires c κs =
     let start = c .before .before .before .before .before .before .before .before .before .before .before .before in
     let if1 = c .before .before .before .before .before .before .before .before .before .if1 in
     (law.at-place (start .pre .0) .0, law.at-place (start .pre .0) .1, law.at-place (start .pre .0) .2 (if1 .left))
 
--- src/guesses.rt:123:8
 add-if2 : tie.Need-add-if2
 add-if2 c =
     let start = c .before .before .before .before .before .before .before .before .before .before .before .before .before .before .before in
     omega (arith, start .pre .0 .of-part .small)
 
--- src/guesses.rt:124:56
 sub-guess-values : tie.Need-sub-guess-values
 sub-guess-values c = search needs
 
--- src/guesses.rt:124:9
 guess-values-requires : tie.Need-guess-values-requires
 guess-values-requires c κs =
     let start = c .before .before .before .before .before .before .before .before .before .before .before .before .before .before .before .before .before in
@@ -74,19 +64,15 @@ guess-values-requires c κs =
     let place = c .before .before .before .before .place in
     (law.in-lanes (start .pre .0) (if1 .left) (column-of .result) (column-of2 .result) (column-of .ensures) (column-of2 .ensures) (start .pre .1), law.in-marks (start .pre .0) (if1 .left) _ (place .ensures), law.small-tops (start .pre .0) (if1 .left) (column-of .result) (column-of2 .result) (column-of .ensures) (column-of2 .ensures) .0, law.small-tops (start .pre .0) (if1 .left) (column-of .result) (column-of2 .result) (column-of .ensures) (column-of2 .ensures) .1)
 
--- src/guesses.rt:125:9
 same-length : tie.Need-same-length
 same-length c = search needs
 
--- src/guesses.rt:125:9
 returns-2 : tie.Need-returns-2
 returns-2 c = search needs
 
--- src/guesses.rt:127:50
 sub-guess-seen : tie.Need-sub-guess-seen
 sub-guess-seen c = search needs
 
--- src/guesses.rt:127:5
 guess-seen-requires : tie.Need-guess-seen-requires
 guess-seen-requires c κs =
     let start = c .before .before .before .before .before .before .before .before .before .before .before .before .before .before .before .before .before in
@@ -96,11 +82,9 @@ guess-seen-requires c κs =
     let place = c .before .before .before .before .place in
     (law.in-lanes (start .pre .0) (if1 .left) (column-of .result) (column-of2 .result) (column-of .ensures) (column-of2 .ensures) (start .pre .1), law.in-marks (start .pre .0) (if1 .left) _ (place .ensures), law.small-tops (start .pre .0) (if1 .left) (column-of .result) (column-of2 .result) (column-of .ensures) (column-of2 .ensures) .0, law.small-tops (start .pre .0) (if1 .left) (column-of .result) (column-of2 .result) (column-of .ensures) (column-of2 .ensures) .1)
 
--- src/guesses.rt:97:1
 same-length-2 : tie.Need-same-length-2
 same-length-2 c = search needs
 
--- src/guesses.rt:97:1
 returns-3 : tie.Need-returns-3
 returns-3 c = search needs
 

@@ -12,18 +12,15 @@ use Rattle.labelling.proofs.guesses.guess_comparison.Reads as guess-com
 use Rattle.labelling.proofs.operators.label_operator.Reads as label-operator-reads
 use Rattle.verdict.proofs.atoms.comparison_of.Reads as comparison-of-reads
 
--- src/guesses.rt:198:20
 enum-known-view : tie.Need-enum-known-view
 enum-known-view c = search needs
 
--- src/guesses.rt:199:64
 comparison-of-requires : tie.Need-comparison-of-requires
 comparison-of-requires c κs =
     let start = c .before .before .before .before .before .before in
     let view = c .before .view in
     (start .args .sizes .channels, atom-there (now (start .args .plan)) (start .pre .0) (start .args .n) (start .args .i) (start .pre .4) _ (view .given .1))
 
--- src/guesses.rt:199:13
 guess-comparison-requires : tie.Need-guess-comparison-requires
 guess-comparison-requires c κs =
     let start = c .before .before .before .before .before .before .before .before in
@@ -32,30 +29,24 @@ guess-comparison-requires c κs =
     let fits = atom-there (now (start .args .plan)) (start .pre .0) (start .args .n) (start .args .i) (start .pre .4) _ (view .given .1) in
     (start .pre .0, start .pre .1, start .pre .2, start .pre .3, atom-fit (start .args .sizes) _ fits (comparison-of .ensures), asked (start .args .sizes .channels) _ fits (comparison-of .ensures))
 
--- src/guesses.rt:201:24
 enum-known-view-2 : tie.Need-enum-known-view-2
 enum-known-view-2 c = search needs
 
--- src/guesses.rt:201:37
 label-operator-requires : tie.Need-label-operator-requires
 label-operator-requires c κs =
     let start = c .before .before .before .before .before .before .before in
     let view2 = c .before .before .view2 in
     (start .pre .2, start .pre .0 .a-cycle, start .pre .3, operator-there (now (start .args .plan)) (start .pre .0) (start .args .n) (start .args .i) (start .pre .4) _ (view2 .given .1))
 
--- src/guesses.rt:186:1
 same-length : tie.Need-same-length
 same-length c = search needs
 
--- src/guesses.rt:186:1
 returns : tie.Need-returns
 returns c = search needs
 
--- src/guesses.rt:186:1
 same-length-2 : tie.Need-same-length-2
 same-length-2 c = search needs
 
--- src/guesses.rt:186:1
 returns-2 : tie.Need-returns-2
 returns-2 c = search needs
 

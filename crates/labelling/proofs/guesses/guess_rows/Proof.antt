@@ -17,11 +17,9 @@ Inv-loop plan table₀ sizes m comparison from to row₀ table row = length tabl
 abbrev μ-loop : tie.MeasureT-loop
 μ-loop plan table₀ sizes m comparison from to row₀ table row = to - row
 
--- src/guesses.rt:143:5
 loop-holds : tie.Need-loop-holds Inv-loop μ-loop
 loop-holds c = refl
 
--- src/guesses.rt:144:25
 add-put-mark : tie.Need-add-put-mark Inv-loop μ-loop
 add-put-mark c =
     let start = c .before .before .before .before .before in
@@ -29,13 +27,11 @@ add-put-mark c =
     let few = start .pre .2 .few in
     omega (arith, c .before .loop-test .taken)
 
--- src/guesses.rt:144:34
 test-at-requires : tie.Need-test-at-requires Inv-loop μ-loop
 test-at-requires c κs =
     let start = c .before .before .before .before .before in
     (start .pre .0, start .pre .1, omega (arith, c .before .loop-test .taken, start .pre .3, start .pre .0 .a-cycle))
 
--- src/guesses.rt:144:9
 put-mark-requires : tie.Need-put-mark-requires Inv-loop μ-loop
 put-mark-requires c κs =
     let start = c .before .before .before .before .before .before in
@@ -43,25 +39,20 @@ put-mark-requires c κs =
     let long = c .before .before .before .loop .inv in
     omega (arith, c .before .before .loop-test .taken)
 
--- src/guesses.rt:145:9
 add-row : tie.Need-add-row Inv-loop μ-loop
 add-row c =
     let start = c .before .before .before .before .before .before .before .before .before in
     omega (arith, c .before .before .before .before .before .loop-test .taken, start .pre .3, start .pre .0 .few-rows)
 
--- src/guesses.rt:143:5
 loop-less : tie.Need-loop-less Inv-loop μ-loop
 loop-less c = omega arith
 
--- src/guesses.rt:143:5
 loop-again : tie.Need-loop-again Inv-loop μ-loop
 loop-again c = c .before .before .put-mark .ensures .long ∙ c .before .before .before .before .before .before .loop .inv
 
--- src/guesses.rt:131:1
 same-length : tie.Need-same-length Inv-loop μ-loop
 same-length c = c .before .loop .inv
 
--- src/guesses.rt:131:1
 returns : tie.Need-returns Inv-loop μ-loop
 returns c = c .before .loop .inv
 

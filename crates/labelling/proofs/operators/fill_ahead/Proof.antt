@@ -8,23 +8,18 @@ use Rattle.labelling.proofs.operators.fill_ahead.Lts as lts
 use Rattle.table.proofs.fills.fill_back.Reads as fill-back-reads
 use Rattle.table.proofs.fills.swept_back.Reads as swept-back-reads
 
--- src/operators.rt:54:13
 add-w : tie.Need-add-w
 add-w c = search needs
 
--- src/operators.rt:55:9
 swept-back-requires : tie.Need-swept-back-requires
 swept-back-requires c κs = search needs
 
--- src/operators.rt:56:5
 fill-back-requires : tie.Need-fill-back-requires
 fill-back-requires c κs = search needs
 
--- src/operators.rt:50:1
 same-length : tie.Need-same-length
 same-length c = search needs
 
--- src/operators.rt:50:1
 returns : tie.Need-returns
 returns c =
     let start = c .before .before .before .before .before .before .before .before in

@@ -8,67 +8,51 @@ use Rattle.labelling.proofs.operators.fill_beside.Lts as lts
 use Rattle.table.proofs.fills.fill_copied.Reads as fill-copied-reads
 use Rattle.table.proofs.fills.put_mark.Reads as put-mark-reads
 
--- src/operators.rt:35:13
 add-w : tie.Need-add-w
 add-w c = search needs
 
--- src/operators.rt:38:25
 enum-told : tie.Need-enum-told
 enum-told c = search needs
 
--- src/operators.rt:38:37
 add-fill-copied : tie.Need-add-fill-copied
 add-fill-copied c = search needs
 
--- src/operators.rt:38:48
 sub-fill-copied : tie.Need-sub-fill-copied
 sub-fill-copied c = search needs
 
--- src/operators.rt:38:13
 fill-copied-requires : tie.Need-fill-copied-requires
 fill-copied-requires c κs = search needs
 
--- src/operators.rt:39:39
 sub-fill-copied-2 : tie.Need-sub-fill-copied-2
 sub-fill-copied-2 c = search needs
 
--- src/operators.rt:39:32
 add-fill-copied-2 : tie.Need-add-fill-copied-2
 add-fill-copied-2 c = search needs
 
--- src/operators.rt:39:47
 add-fill-copied-3 : tie.Need-add-fill-copied-3
 add-fill-copied-3 c = search needs
 
--- src/operators.rt:39:13
 fill-copied-requires-2 : tie.Need-fill-copied-requires-2
 fill-copied-requires-2 c κs = search needs
 
--- src/operators.rt:41:24
 enum-known-side : tie.Need-enum-known-side
 enum-known-side c = search needs
 
--- src/operators.rt:42:13
 put-mark-requires : tie.Need-put-mark-requires
 put-mark-requires c κs = search needs
 
--- src/operators.rt:43:32
 add-fill-copied-4 : tie.Need-add-fill-copied-4
 add-fill-copied-4 c = search needs
 
--- src/operators.rt:43:48
 sub-fill-copied-3 : tie.Need-sub-fill-copied-3
 sub-fill-copied-3 c = search needs
 
--- src/operators.rt:43:13
 fill-copied-requires-3 : tie.Need-fill-copied-requires-3
 fill-copied-requires-3 c κs = search needs
 
--- src/operators.rt:31:1
 same-length : tie.Need-same-length
 same-length c = search needs
 
--- src/operators.rt:31:1
 returns : tie.Need-returns
 returns c =
     let start = c .before .before .before .before .before .before .before .before .before .before .before .before .before in
@@ -77,11 +61,9 @@ returns c =
     let fill-copied2 = c .before .before .fill-copied2 in
     after-done _ _ (start .pre .0) (now (start .args .table)) _ _ _ (start .args .other) (start .pre .3) (fill-copied .ensures) (fill-copied2 .ensures) (enum-told .given .1)
 
--- src/operators.rt:31:1
 same-length-2 : tie.Need-same-length-2
 same-length-2 c = search needs
 
--- src/operators.rt:31:1
 returns-2 : tie.Need-returns-2
 returns-2 c =
     let start = c .before .before .before .before .before .before .before .before .before .before .before .before .before in

@@ -9,23 +9,18 @@ use Rattle.labelling.proofs.operators.fill_beside.Reads as fill-beside-
 use Rattle.table.proofs.bytes.place.Reads as place-reads
 use Rattle.table.proofs.fills.fill_copied.Reads as fill-copied-reads
 
--- src/operators.rt:64:13
 add-w : tie.Need-add-w
 add-w c = search needs
 
--- src/operators.rt:65:9
 place-requires : tie.Need-place-requires
 place-requires c κs = search needs
 
--- src/operators.rt:66:9
 place-requires-2 : tie.Need-place-requires-2
 place-requires-2 c κs = search needs
 
--- src/operators.rt:68:35
 enum-told : tie.Need-enum-told
 enum-told c = search needs
 
--- src/operators.rt:68:23
 fill-copied-requires : tie.Need-fill-copied-requires
 fill-copied-requires c κs =
     let start = c .before .before .before .before .before .before .before in
@@ -33,11 +28,9 @@ fill-copied-requires c κs =
     let place2 = c .before .before .before .place2 in
     (there (start .pre .0) _ (start .pre .2) (place .ensures) .0, lower _ _ _ (start .pre .3) (place .ensures) (place2 .ensures), there (start .pre .0) _ (start .pre .2) (place .ensures) .1)
 
--- src/operators.rt:69:36
 enum-told-2 : tie.Need-enum-told-2
 enum-told-2 c = search needs
 
--- src/operators.rt:69:24
 fill-beside-requires : tie.Need-fill-beside-requires
 fill-beside-requires c κs =
     let start = c .before .before .before .before .before .before .before in
@@ -45,11 +38,9 @@ fill-beside-requires c κs =
     let place2 = c .before .before .before .place2 in
     (start .pre .1, start .pre .0 .few-rows, there (start .pre .0) _ (start .pre .2) (place .ensures) .0, lower _ _ _ (start .pre .3) (place .ensures) (place2 .ensures), there (start .pre .0) _ (start .pre .2) (place .ensures) .1)
 
--- src/operators.rt:70:41
 enum-told-3 : tie.Need-enum-told-3
 enum-told-3 c = search needs
 
--- src/operators.rt:70:29
 fill-beside-requires-2 : tie.Need-fill-beside-requires-2
 fill-beside-requires-2 c κs =
     let start = c .before .before .before .before .before .before .before in
@@ -57,11 +48,9 @@ fill-beside-requires-2 c κs =
     let place2 = c .before .before .before .place2 in
     (start .pre .1, start .pre .0 .few-rows, there (start .pre .0) _ (start .pre .2) (place .ensures) .0, lower _ _ _ (start .pre .3) (place .ensures) (place2 .ensures), there (start .pre .0) _ (start .pre .2) (place .ensures) .1)
 
--- src/operators.rt:71:45
 enum-told-4 : tie.Need-enum-told-4
 enum-told-4 c = search needs
 
--- src/operators.rt:71:33
 fill-beside-requires-3 : tie.Need-fill-beside-requires-3
 fill-beside-requires-3 c κs =
     let start = c .before .before .before .before .before .before .before in
@@ -69,11 +58,9 @@ fill-beside-requires-3 c κs =
     let place2 = c .before .before .before .place2 in
     (start .pre .1, start .pre .0 .few-rows, there (start .pre .0) _ (start .pre .2) (place .ensures) .0, lower _ _ _ (start .pre .3) (place .ensures) (place2 .ensures), there (start .pre .0) _ (start .pre .2) (place .ensures) .1)
 
--- src/operators.rt:60:1
 same-length : tie.Need-same-length
 same-length c = search needs
 
--- src/operators.rt:60:1
 returns : tie.Need-returns
 returns c =
     let start = c .before .before .before .before .before .before .before .before .before .before in
@@ -83,11 +70,9 @@ returns c =
     let fill-copied = c .before .before .fill-copied in
     not-done _ _ (start .pre .1) (now (start .args .table)) _ _ (place .ensures) _ (place2 .ensures) (fill-copied .ensures) (enum-told .given .1)
 
--- src/operators.rt:60:1
 same-length-2 : tie.Need-same-length-2
 same-length-2 c = search needs
 
--- src/operators.rt:60:1
 returns-2 : tie.Need-returns-2
 returns-2 c =
     let start = c .before .before .before .before .before .before .before .before .before .before in
@@ -97,11 +82,9 @@ returns-2 c =
     let fill-beside = c .before .before .fill-beside in
     next-done _ _ (start .pre .1) (now (start .args .table)) _ _ (place .ensures) _ (place2 .ensures) (fill-beside .ensures) (enum-told2 .given .1)
 
--- src/operators.rt:60:1
 same-length-3 : tie.Need-same-length-3
 same-length-3 c = search needs
 
--- src/operators.rt:60:1
 returns-3 : tie.Need-returns-3
 returns-3 c =
     let start = c .before .before .before .before .before .before .before .before .before .before in
@@ -111,11 +94,9 @@ returns-3 c =
     let fill-beside2 = c .before .before .fill-beside2 in
     yesterday-done _ _ (start .pre .1) (now (start .args .table)) _ _ (place .ensures) _ (place2 .ensures) (fill-beside2 .ensures) (enum-told3 .given .1)
 
--- src/operators.rt:60:1
 same-length-4 : tie.Need-same-length-4
 same-length-4 c = search needs
 
--- src/operators.rt:60:1
 returns-4 : tie.Need-returns-4
 returns-4 c =
     let start = c .before .before .before .before .before .before .before .before .before .before in

@@ -12,22 +12,18 @@ use Rattle.labelling.proofs.operators.label_operator.Lts as lts
 use Rattle.labelling.proofs.operators.label_one.Reads as label-one-reads
 use Rattle.labelling.proofs.operators.label_two.Reads as label-two-reads
 
--- src/operators.rt:108:23
 enum-known-operator : tie.Need-enum-known-operator
 enum-known-operator c = search needs
 
--- src/operators.rt:108:35
 label-one-requires : tie.Need-label-one-requires
 label-one-requires c κs =
     let start = c .before .before .before .before .before in
     let operator = c .before .before .operator in
     (start .pre .0, start .pre .1, start .pre .2, one-lower _ _ _ (subst (λ (o : Operator). namesLower (start .args .i) o ≡ true) (operator .given .1) (start .pre .3)))
 
--- src/operators.rt:109:23
 enum-known-operator-2 : tie.Need-enum-known-operator-2
 enum-known-operator-2 c = search needs
 
--- src/operators.rt:109:38
 label-two-requires : tie.Need-label-two-requires
 label-two-requires c κs =
     let start = c .before .before .before .before .before in
@@ -35,19 +31,15 @@ label-two-requires c κs =
     let names = two-lower _ _ _ _ (subst (λ (o : Operator). namesLower (start .args .i) o ≡ true) (operator2 .given .1) (start .pre .3)) in
     (start .pre .0, start .pre .1, start .pre .2, names .0, names .1)
 
--- src/operators.rt:103:1
 same-length : tie.Need-same-length
 same-length c = search needs
 
--- src/operators.rt:103:1
 returns : tie.Need-returns
 returns c = said-of _ _ _ _ _ (c .before .before .before .before .before .operator .given .1) (c .before .before .label-one .ensures)
 
--- src/operators.rt:103:1
 same-length-2 : tie.Need-same-length-2
 same-length-2 c = search needs
 
--- src/operators.rt:103:1
 returns-2 : tie.Need-returns-2
 returns-2 c = said-of _ _ _ _ _ (c .before .before .before .before .before .operator2 .given .1) (c .before .before .label-two .ensures)
 

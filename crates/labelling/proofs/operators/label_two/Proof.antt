@@ -14,27 +14,21 @@ use Rattle.table.proofs.bytes.place.Reads as place-reads
 use Rattle.table.proofs.fills.fill_joined.Reads as fill-joined-reads
 use Rattle.table.proofs.fills.fill_on.Reads as fill-on-reads
 
--- src/operators.rt:88:13
 add-w : tie.Need-add-w
 add-w c = search needs
 
--- src/operators.rt:89:9
 place-requires : tie.Need-place-requires
 place-requires c κs = search needs
 
--- src/operators.rt:90:9
 place-requires-2 : tie.Need-place-requires-2
 place-requires-2 c κs = search needs
 
--- src/operators.rt:91:9
 place-requires-3 : tie.Need-place-requires-3
 place-requires-3 c κs = search needs
 
--- src/operators.rt:93:36
 enum-told : tie.Need-enum-told
 enum-told c = search needs
 
--- src/operators.rt:93:24
 fill-joined-requires : tie.Need-fill-joined-requires
 fill-joined-requires c κs =
     let start = c .before .before .before .before .before .before .before .before in
@@ -43,11 +37,9 @@ fill-joined-requires c κs =
     let place3 = c .before .before .before .place3 in
     (there (start .pre .0) _ (start .pre .2) (place .ensures) .0, lower _ _ _ (start .pre .3) (place .ensures) (place2 .ensures), lower _ _ _ (start .pre .4) (place .ensures) (place3 .ensures), there (start .pre .0) _ (start .pre .2) (place .ensures) .1)
 
--- src/operators.rt:94:35
 enum-told-2 : tie.Need-enum-told-2
 enum-told-2 c = search needs
 
--- src/operators.rt:94:23
 fill-joined-requires-2 : tie.Need-fill-joined-requires-2
 fill-joined-requires-2 c κs =
     let start = c .before .before .before .before .before .before .before .before in
@@ -56,11 +48,9 @@ fill-joined-requires-2 c κs =
     let place3 = c .before .before .before .place3 in
     (there (start .pre .0) _ (start .pre .2) (place .ensures) .0, lower _ _ _ (start .pre .3) (place .ensures) (place2 .ensures), lower _ _ _ (start .pre .4) (place .ensures) (place3 .ensures), there (start .pre .0) _ (start .pre .2) (place .ensures) .1)
 
--- src/operators.rt:95:37
 enum-told-3 : tie.Need-enum-told-3
 enum-told-3 c = search needs
 
--- src/operators.rt:95:26
 fill-ahead-requires : tie.Need-fill-ahead-requires
 fill-ahead-requires c κs =
     let start = c .before .before .before .before .before .before .before .before in
@@ -69,11 +59,9 @@ fill-ahead-requires c κs =
     let place3 = c .before .before .before .place3 in
     (start .pre .0 .few-rows, there (start .pre .0) _ (start .pre .2) (place .ensures) .0, lower _ _ _ (start .pre .3) (place .ensures) (place2 .ensures), lower _ _ _ (start .pre .4) (place .ensures) (place3 .ensures), there (start .pre .0) _ (start .pre .2) (place .ensures) .1)
 
--- src/operators.rt:96:39
 enum-told-4 : tie.Need-enum-told-4
 enum-told-4 c = search needs
 
--- src/operators.rt:96:28
 fill-ahead-requires-2 : tie.Need-fill-ahead-requires-2
 fill-ahead-requires-2 c κs =
     let start = c .before .before .before .before .before .before .before .before in
@@ -82,11 +70,9 @@ fill-ahead-requires-2 c κs =
     let place3 = c .before .before .before .place3 in
     (start .pre .0 .few-rows, there (start .pre .0) _ (start .pre .2) (place .ensures) .0, lower _ _ _ (start .pre .3) (place .ensures) (place2 .ensures), lower _ _ _ (start .pre .4) (place .ensures) (place3 .ensures), there (start .pre .0) _ (start .pre .2) (place .ensures) .1)
 
--- src/operators.rt:97:34
 enum-told-5 : tie.Need-enum-told-5
 enum-told-5 c = search needs
 
--- src/operators.rt:97:26
 fill-on-requires : tie.Need-fill-on-requires
 fill-on-requires c κs =
     let start = c .before .before .before .before .before .before .before .before in
@@ -95,11 +81,9 @@ fill-on-requires c κs =
     let place3 = c .before .before .before .place3 in
     (there (start .pre .0) _ (start .pre .2) (place .ensures) .0, lower _ _ _ (start .pre .3) (place .ensures) (place2 .ensures), lower _ _ _ (start .pre .4) (place .ensures) (place3 .ensures), there (start .pre .0) _ (start .pre .2) (place .ensures) .1)
 
--- src/operators.rt:98:36
 enum-told-6 : tie.Need-enum-told-6
 enum-told-6 c = search needs
 
--- src/operators.rt:98:28
 fill-on-requires-2 : tie.Need-fill-on-requires-2
 fill-on-requires-2 c κs =
     let start = c .before .before .before .before .before .before .before .before in
@@ -108,11 +92,9 @@ fill-on-requires-2 c κs =
     let place3 = c .before .before .before .place3 in
     (there (start .pre .0) _ (start .pre .2) (place .ensures) .0, lower _ _ _ (start .pre .3) (place .ensures) (place2 .ensures), lower _ _ _ (start .pre .4) (place .ensures) (place3 .ensures), there (start .pre .0) _ (start .pre .2) (place .ensures) .1)
 
--- src/operators.rt:76:1
 same-length : tie.Need-same-length
 same-length c = search needs
 
--- src/operators.rt:76:1
 returns : tie.Need-returns
 returns c =
     let start = c .before .before .before .before .before .before .before .before .before .before .before in
@@ -123,11 +105,9 @@ returns c =
     let fill-joined = c .before .before .fill-joined in
     and-done _ _ (start .pre .1) (now (start .args .table)) _ _ (place .ensures) _ (place2 .ensures) _ (place3 .ensures) (fill-joined .ensures) (enum-told .given .1)
 
--- src/operators.rt:76:1
 same-length-2 : tie.Need-same-length-2
 same-length-2 c = search needs
 
--- src/operators.rt:76:1
 returns-2 : tie.Need-returns-2
 returns-2 c =
     let start = c .before .before .before .before .before .before .before .before .before .before .before in
@@ -138,11 +118,9 @@ returns-2 c =
     let fill-joined2 = c .before .before .fill-joined2 in
     or-done _ _ (start .pre .1) (now (start .args .table)) _ _ (place .ensures) _ (place2 .ensures) _ (place3 .ensures) (fill-joined2 .ensures) (enum-told2 .given .1)
 
--- src/operators.rt:76:1
 same-length-3 : tie.Need-same-length-3
 same-length-3 c = search needs
 
--- src/operators.rt:76:1
 returns-3 : tie.Need-returns-3
 returns-3 c =
     let start = c .before .before .before .before .before .before .before .before .before .before .before in
@@ -153,11 +131,9 @@ returns-3 c =
     let fill-ahead = c .before .before .fill-ahead in
     ahead-done _ _ (start .pre .1) (now (start .args .table)) _ _ (place .ensures) _ (place2 .ensures) _ (place3 .ensures) binary.Until false until-steps (enum-told3 .given .1) refl refl (fill-ahead .ensures)
 
--- src/operators.rt:76:1
 same-length-4 : tie.Need-same-length-4
 same-length-4 c = search needs
 
--- src/operators.rt:76:1
 returns-4 : tie.Need-returns-4
 returns-4 c =
     let start = c .before .before .before .before .before .before .before .before .before .before .before in
@@ -168,11 +144,9 @@ returns-4 c =
     let fill-ahead2 = c .before .before .fill-ahead2 in
     ahead-done _ _ (start .pre .1) (now (start .args .table)) _ _ (place .ensures) _ (place2 .ensures) _ (place3 .ensures) binary.Release true release-steps (enum-told4 .given .1) refl refl (fill-ahead2 .ensures)
 
--- src/operators.rt:76:1
 same-length-5 : tie.Need-same-length-5
 same-length-5 c = search needs
 
--- src/operators.rt:76:1
 returns-5 : tie.Need-returns-5
 returns-5 c =
     let start = c .before .before .before .before .before .before .before .before .before .before .before in
@@ -183,11 +157,9 @@ returns-5 c =
     let fill-on = c .before .before .fill-on in
     past-done _ _ (start .pre .1) (now (start .args .table)) _ _ (place .ensures) _ (place2 .ensures) _ (place3 .ensures) binary.Since false since-steps (enum-told5 .given .1) refl (fill-on .ensures)
 
--- src/operators.rt:76:1
 same-length-6 : tie.Need-same-length-6
 same-length-6 c = search needs
 
--- src/operators.rt:76:1
 returns-6 : tie.Need-returns-6
 returns-6 c =
     let start = c .before .before .before .before .before .before .before .before .before .before .before in

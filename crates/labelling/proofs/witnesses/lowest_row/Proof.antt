@@ -18,37 +18,29 @@ Inv-loop table n b opposite w row₀ row = Looking (marked w table b) opposite r
 abbrev μ-loop : tie.MeasureT-loop
 μ-loop table n b opposite w row₀ row = w - row
 
--- src/witnesses.rt:26:13
 add-w : tie.Need-add-w Inv-loop μ-loop
 add-w c = search needs
 
--- src/witnesses.rt:28:5
 loop-holds : tie.Need-loop-holds Inv-loop μ-loop
 loop-holds c =
     let args = c .before .before .args in
     look-first (marked (allRows (args .sizes)) (now (args .table)) (args .b)) (args .opposite) _ _ (omega arith)
 
--- src/witnesses.rt:29:12
 mark-at-requires : tie.Need-mark-at-requires Inv-loop μ-loop
 mark-at-requires c κs = search needs
 
--- src/witnesses.rt:30:13
 returns : tie.Need-returns Inv-loop μ-loop
 returns c = over-cycle _ _ _ (look-stops _ _ _ _ (c .before .before .before .loop .inv) (c .before .before .loop-test .taken) (c .before .mark-at .ensures) (c .if1 .taken))
 
--- src/witnesses.rt:32:9
 add-row : tie.Need-add-row Inv-loop μ-loop
 add-row c = omega (arith, c .before .before .before .before .before .before .pre .0 .few-rows)
 
--- src/witnesses.rt:28:5
 loop-less : tie.Need-loop-less Inv-loop μ-loop
 loop-less c = omega arith
 
--- src/witnesses.rt:28:5
 loop-again : tie.Need-loop-again Inv-loop μ-loop
 loop-again c = look-next _ _ _ _ (c .before .before .before .loop .inv) (c .before .before .loop-test .taken) (c .before .mark-at .ensures) (c .if1 .left)
 
--- src/witnesses.rt:22:1
 returns-2 : tie.Need-returns-2 Inv-loop μ-loop
 returns-2 c =
     let args = c .before .before .before .before .args in

@@ -10,73 +10,57 @@ use Rattle.labelling.proofs.witnesses.lowest_two.Reads as reads
 use Rattle.labelling.proofs.witnesses.lowest_two.Lts as lts
 use Rattle.labelling.proofs.witnesses.lowest_row.Reads as lowest-row-reads
 
--- src/witnesses.rt:44:16
 enum-told : tie.Need-enum-told
 enum-told c = search needs
 
--- src/witnesses.rt:45:17
 lowest-row-requires : tie.Need-lowest-row-requires
 lowest-row-requires c κs = search needs
 
--- src/witnesses.rt:51:16
 enum-told-2 : tie.Need-enum-told-2
 enum-told-2 c = search needs
 
--- src/witnesses.rt:54:17
 lowest-row-requires-2 : tie.Need-lowest-row-requires-2
 lowest-row-requires-2 c κs = search needs
 
--- src/witnesses.rt:57:24
 enum-told-3 : tie.Need-enum-told-3
 enum-told-3 c = search needs
 
--- src/witnesses.rt:58:23
 enum-told-4 : tie.Need-enum-told-4
 enum-told-4 c = search needs
 
--- src/witnesses.rt:59:26
 enum-told-5 : tie.Need-enum-told-5
 enum-told-5 c = search needs
 
--- src/witnesses.rt:60:28
 enum-told-6 : tie.Need-enum-told-6
 enum-told-6 c = search needs
 
--- src/witnesses.rt:38:1
 returns : tie.Need-returns
 returns c =
     let args = c .before .before .before .before .before .args in
     let b = marked (allRows (args .sizes)) (now (args .table)) (args .b) in
     until-row (args .sizes .start) (args .sizes .cycle) b (args .last) (c .before .before .enum-told .given .1) (c .before .if1 .taken) (c .lowest-row .ensures)
 
--- src/witnesses.rt:38:1
 returns-2 : tie.Need-returns-2
 returns-2 c = search needs
 
--- src/witnesses.rt:38:1
 returns-3 : tie.Need-returns-3
 returns-3 c = search needs
 
--- src/witnesses.rt:38:1
 returns-4 : tie.Need-returns-4
 returns-4 c =
     let args = c .before .before .before .before .before .args in
     let b = marked (allRows (args .sizes)) (now (args .table)) (args .b) in
     release-row (args .sizes .start) (args .sizes .cycle) b (args .last) (c .before .before .enum-told2 .given .1) (c .before .if2 .left) (c .lowest-row2 .ensures)
 
--- src/witnesses.rt:38:1
 returns-5 : tie.Need-returns-5
 returns-5 c = search needs
 
--- src/witnesses.rt:38:1
 returns-6 : tie.Need-returns-6
 returns-6 c = search needs
 
--- src/witnesses.rt:38:1
 returns-7 : tie.Need-returns-7
 returns-7 c = search needs
 
--- src/witnesses.rt:38:1
 returns-8 : tie.Need-returns-8
 returns-8 c = search needs
 

@@ -11,35 +11,27 @@ use Rattle.labelling.proofs.witnesses.lowest_witness.Lts as lts
 use Rattle.labelling.proofs.witnesses.lowest_two.Reads as lowest-two-reads
 use Rattle.table.proofs.bytes.mark_at.Reads as mark-at-reads
 
--- src/witnesses.rt:76:13
 add-w : tie.Need-add-w
 add-w c = search needs
 
--- src/witnesses.rt:78:26
 enum-told : tie.Need-enum-told
 enum-told c = search needs
 
--- src/witnesses.rt:79:24
 enum-known-view : tie.Need-enum-known-view
 enum-known-view c = search needs
 
--- src/witnesses.rt:81:40
 enum-told-2 : tie.Need-enum-told-2
 enum-told-2 c = search needs
 
--- src/witnesses.rt:82:31
 enum-known-operator : tie.Need-enum-known-operator
 enum-known-operator c = search needs
 
--- src/witnesses.rt:83:79
 sub-mark-at : tie.Need-sub-mark-at
 sub-mark-at c = search needs
 
--- src/witnesses.rt:83:55
 mark-at-requires : tie.Need-mark-at-requires
 mark-at-requires c κs = search needs
 
--- src/witnesses.rt:83:21
 lowest-two-requires : tie.Need-lowest-two-requires
 lowest-two-requires c κs =
     let args = c .before .before .before .before .before .before .before .before .before .before .args in
@@ -48,21 +40,18 @@ lowest-two-requires c κs =
     let operator = c .before .before .operator in
     (pre .1, law.second-there (now (args .plan)) (pre .0) (marked (allRows (args .sizes)) (now (args .table))) (args .i) (view .given .1) (operator .given .1) (args .n) (pre .2) (pre .3))
 
--- src/witnesses.rt:65:1
 returns : tie.Need-returns
 returns c =
     let args = c .before .before .before .before .before .args in
     let pre = c .before .before .before .before .before .pre in
     law.atom-lowest (now (args .plan)) (pre .0) (marked (allRows (args .sizes)) (now (args .table))) (args .i) (c .enum-told .given .1)
 
--- src/witnesses.rt:65:1
 returns-2 : tie.Need-returns-2
 returns-2 c =
     let args = c .before .before .before .before .before .before .before .before .args in
     let pre = c .before .before .before .before .before .before .before .before .pre in
     law.one-lowest (now (args .plan)) (pre .0) (marked (allRows (args .sizes)) (now (args .table))) (args .i) (c .before .before .before .view .given .1) (c .enum-told2 .given .1)
 
--- src/witnesses.rt:65:1
 returns-3 : tie.Need-returns-3
 returns-3 c =
     let args = c .before .before .before .before .before .before .before .before .before .before .before .args in

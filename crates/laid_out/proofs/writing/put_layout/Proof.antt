@@ -16,96 +16,77 @@ use Rattle.plan.proofs.layout.drifts_start.Reads as drifts-start-reads
 use Rattle.plan.proofs.layout.head_length.Reads as head-length-reads
 use Rattle.plan.proofs.layout.sizes_length.Reads as sizes-length-reads
 
--- src/writing.rt:91:9
 laid-sizes-requires : tie.Need-laid-sizes-requires
 laid-sizes-requires c κs =
     let start = c .before .before in
     (few-passes (start .pre .0) (start .args .n) (start .pre .1), start .pre .0 .few-rows)
 
--- src/writing.rt:92:31
 add-stored : tie.Need-add-stored
 add-stored c =
     let start = c .before .before .before .before in
     let laid-sizes = c .before .laid-sizes in
     omega (arith, laid-small (start .pre .0) (start .args .n) (start .pre .1) (laid-sizes .ensures))
 
--- src/writing.rt:92:18
 add-stored-2 : tie.Need-add-stored-2
 add-stored-2 c =
     let start = c .before .before .before .before .before in
     let laid-sizes = c .before .before .laid-sizes in
     omega (arith, laid-small (start .pre .0) (start .args .n) (start .pre .1) (laid-sizes .ensures))
 
--- src/writing.rt:93:5
 put-head-requires : tie.Need-put-head-requires
 put-head-requires c κs =
     let start = c .before .before .before .before .before .before in
     let laid-sizes = c .before .before .before .laid-sizes in
     omega (arith, laid-small (start .pre .0) (start .args .n) (start .pre .1) (laid-sizes .ensures), start .pre .2)
 
--- src/writing.rt:94:26
 sizes-length-requires : tie.Need-sizes-length-requires
 sizes-length-requires c κs = search needs
 
--- src/writing.rt:94:14
 sub-put-tops : tie.Need-sub-put-tops
 sub-put-tops c = search needs
 
--- src/writing.rt:94:14
 part-put-tops-start : tie.Need-part-put-tops-start
 part-put-tops-start c = search needs
 
--- src/writing.rt:94:14
 part-put-tops-end : tie.Need-part-put-tops-end
 part-put-tops-end c = search needs
 
--- src/writing.rt:94:5
 put-tops-requires : tie.Need-put-tops-requires
 put-tops-requires c κs = search needs
 
--- src/writing.rt:96:21
 head-length-requires : tie.Need-head-length-requires
 head-length-requires c κs = search needs
 
--- src/writing.rt:96:9
 sub-put-array : tie.Need-sub-put-array
 sub-put-array c = search needs
 
--- src/writing.rt:96:9
 part-put-array-start : tie.Need-part-put-array-start
 part-put-array-start c = search needs
 
--- src/writing.rt:96:9
 part-put-array-end : tie.Need-part-put-array-end
 part-put-array-end c = search needs
 
--- src/writing.rt:95:5
 put-array-requires : tie.Need-put-array-requires
 put-array-requires c κs =
     let start = c .before .before .before .before .before .before .before .before .before .before .before .before .before .before .before .before in
     let laid-sizes = c .before .before .before .before .before .before .before .before .before .before .before .before .before .laid-sizes in
     (start .pre .0, start .pre .1, stored-is (start .pre .0) (start .args .n) (start .pre .1) (laid-sizes .ensures), omega (arith, array-few (start .pre .0) (start .args .n) (start .pre .1) (laid-sizes .ensures), start .pre .2, start .pre .0 .few-channels), omega (arith, start .pre .2))
 
--- src/writing.rt:104:21
 drifts-start-requires : tie.Need-drifts-start-requires
 drifts-start-requires c κs =
     let start = c .before .before .before .before .before .before .before .before .before .before .before .before .before .before .before .before .before .before .before in
     let laid-sizes = c .before .before .before .before .before .before .before .before .before .before .before .before .before .before .before .before .laid-sizes in
     omega (arith, laid-small (start .pre .0) (start .args .n) (start .pre .1) (laid-sizes .ensures))
 
--- src/writing.rt:104:9
 sub-put-array-2 : tie.Need-sub-put-array-2
 sub-put-array-2 c = search needs
 
--- src/writing.rt:104:9
 part-put-array-start-2 : tie.Need-part-put-array-start-2
 part-put-array-start-2 c = search needs
 
--- src/writing.rt:104:9
 part-put-array-end-2 : tie.Need-part-put-array-end-2
 part-put-array-end-2 c = search needs
 
--- src/writing.rt:103:5
 put-array-requires-2 : tie.Need-put-array-requires-2
 put-array-requires-2 c κs =
     let start = c .before .before .before .before .before .before .before .before .before .before .before .before .before .before .before .before .before .before .before .before .before in
@@ -113,11 +94,9 @@ put-array-requires-2 c κs =
     let drifts-start = c .before .drifts-start in
     (start .pre .0, start .pre .1, stored-is (start .pre .0) (start .args .n) (start .pre .1) (laid-sizes .ensures), omega (arith, array-few (start .pre .0) (start .args .n) (start .pre .1) (laid-sizes .ensures), start .pre .2, drifts-start .ensures .1), omega (arith, start .pre .2))
 
--- src/writing.rt:87:1
 same-length : tie.Need-same-length
 same-length c = search needs
 
--- src/writing.rt:87:1
 returns : tie.Need-returns
 returns c =
     let start = c .before .before .before .before .before .before .before .before .before .before .before .before .before .before .before .before .before .before .before .before .before .before .before .before in

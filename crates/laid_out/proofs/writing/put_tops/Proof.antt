@@ -18,26 +18,22 @@ Inv-loop t₀ plan sizes channel₀ t channel = Put t₀ 4 (sizes .channels) (wo
 abbrev μ-loop : tie.MeasureT-loop
 μ-loop t₀ plan sizes channel₀ t channel = sizes .channels - channel
 
--- src/writing.rt:47:5
 loop-holds : tie.Need-loop-holds Inv-loop μ-loop
 loop-holds c =
     let start = c .before .before in
     put-none (now (start .args .t)) 4 (start .args .sizes .channels) (words (λ k. topOf (now (start .args .plan))) 0)
 
--- src/writing.rt:48:13
 top-of-requires : tie.Need-top-of-requires Inv-loop μ-loop
 top-of-requires c κs =
     let start = c .before .before .before .before .before in
     (start .pre .0, c .if1 .taken)
 
--- src/writing.rt:49:24
 mul-put-u32 : tie.Need-mul-put-u32 Inv-loop μ-loop
 mul-put-u32 c =
     let start = c .before .before .before .before .before .before in
     let if1 = c .before .if1 in
     omega (arith, start .pre .1, start .pre .2, if1 .taken)
 
--- src/writing.rt:49:17
 sub-put-u32 : tie.Need-sub-put-u32 Inv-loop μ-loop
 sub-put-u32 c =
     let start = c .before .before .before .before .before .before in
@@ -45,7 +41,6 @@ sub-put-u32 c =
     let if1 = c .before .if1 in
     let long = put-long (now (start .args .t)) 4 (start .args .sizes .channels) (words (λ k. topOf (now (start .args .plan))) 0) (each-word (λ k. topOf (now (start .args .plan))) 0) (omega (arith, start .pre .1)) (loop .inv) in omega (arith, start .pre .1, if1 .taken)
 
--- src/writing.rt:49:17
 part-put-u32-start : tie.Need-part-put-u32-start Inv-loop μ-loop
 part-put-u32-start c =
     let start = c .before .before .before .before .before .before in
@@ -53,17 +48,14 @@ part-put-u32-start c =
     let if1 = c .before .if1 in
     let long = put-long (now (start .args .t)) 4 (start .args .sizes .channels) (words (λ k. topOf (now (start .args .plan))) 0) (each-word (λ k. topOf (now (start .args .plan))) 0) (omega (arith, start .pre .1)) (loop .inv) in omega (arith, start .pre .1, if1 .taken)
 
--- src/writing.rt:49:17
 part-put-u32-end : tie.Need-part-put-u32-end Inv-loop μ-loop
 part-put-u32-end c = omega arith
 
--- src/writing.rt:49:40
 cast-put-u32 : tie.Need-cast-put-u32 Inv-loop μ-loop
 cast-put-u32 c =
     let top-of = c .before .top-of in
     omega (arith, top-of .ensures .1)
 
--- src/writing.rt:49:9
 put-u32-requires : tie.Need-put-u32-requires Inv-loop μ-loop
 put-u32-requires c κs =
     let start = c .before .before .before .before .before .before .before in
@@ -71,17 +63,14 @@ put-u32-requires c κs =
     let if1 = c .before .before .if1 in
     let long = put-long (now (start .args .t)) 4 (start .args .sizes .channels) (words (λ k. topOf (now (start .args .plan))) 0) (each-word (λ k. topOf (now (start .args .plan))) 0) (omega (arith, start .pre .1)) (loop .inv) in lent-long (loop .t) (4 * loop .channel) 4 (omega (arith, start .pre .1, if1 .taken)) .0
 
--- src/writing.rt:50:9
 add-channel : tie.Need-add-channel Inv-loop μ-loop
 add-channel c =
     let start = c .before .before .before .before .before .before .before .before .before .before in
     omega (arith, start .pre .1, start .pre .2)
 
--- src/writing.rt:47:5
 loop-less : tie.Need-loop-less Inv-loop μ-loop
 loop-less c = omega arith
 
--- src/writing.rt:47:5
 loop-again : tie.Need-loop-again Inv-loop μ-loop
 loop-again c =
     let start = c .before .before .before .before .before .before .before .before .before .before in
@@ -91,14 +80,12 @@ loop-again c =
     let put-u32 = c .before .before .put-u32 in
     put-more (now (start .args .t)) 4 (start .args .sizes .channels) (words (λ k. topOf (now (start .args .plan))) 0) (each-word (λ k. topOf (now (start .args .plan))) 0) (omega (arith, start .pre .1)) (if1 .taken) (omega arith) (loop .inv) (as-word _ _ {z = topOf (now (start .args .plan)) (loop .channel)} (top-pattern _ (top-of .ensures .1)) (top-of .ensures .0) (put-u32 .ensures))
 
--- src/writing.rt:42:1
 same-length : tie.Need-same-length Inv-loop μ-loop
 same-length c =
     let start = c .before .before .before .before .before in
     let loop = c .before .before .loop in
     put-long (now (start .args .t)) 4 (start .args .sizes .channels) (words (λ k. topOf (now (start .args .plan))) 0) (each-word (λ k. topOf (now (start .args .plan))) 0) (omega (arith, start .pre .1)) (loop .inv)
 
--- src/writing.rt:42:1
 returns : tie.Need-returns Inv-loop μ-loop
 returns c =
     let start = c .before .before .before .before .before in

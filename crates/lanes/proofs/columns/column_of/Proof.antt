@@ -15,48 +15,39 @@ use Rattle.lanes.proofs.columns.column_of.Reads as reads
 use Rattle.lanes.proofs.columns.column_of.Lts as lts
 use Rattle.fields.proofs.pattern.Reads as pattern-reads
 
--- src/columns.rt:80:24
 enum-known-term : tie.Need-enum-known-term
 enum-known-term c = search needs
 
--- src/columns.rt:83:22
 pattern-requires : tie.Need-pattern-requires
 pattern-requires c κs = search needs
 
--- src/columns.rt:86:25
 enum-known-term-2 : tie.Need-enum-known-term-2
 enum-known-term-2 c = search needs
 
--- src/columns.rt:88:19
 mul-t9 : tie.Need-mul-t9
 mul-t9 c =
     let term2 = c .before .term2 in
     let start = c .before .before .before in
     let few = reading-few _ _ _ (term2 .given .1) (start .pre .4) in let most = array-le (term2 .given .0 .0) (start .args .w) (omega arith) (start .pre .0) in omega arith
 
--- src/columns.rt:88:34
 add-t10 : tie.Need-add-t10
 add-t10 c = search needs
 
--- src/columns.rt:88:34
 sub-t11 : tie.Need-sub-t11
 sub-t11 c = search needs
 
--- src/columns.rt:88:19
 add-t12 : tie.Need-add-t12
 add-t12 c =
     let term2 = c .before .before .term2 in
     let start = c .before .before .before .before in
     let few = reading-few _ _ _ (term2 .given .1) (start .pre .4) in let most = array-le (term2 .given .0 .0) (start .args .w) (omega arith) (start .pre .0) in omega arith
 
--- src/columns.rt:75:1
 returns : tie.Need-returns
 returns c =
     let term = c .before .before .term in
     let known-told = c .before .known-told in
     let fits : SFits w32 (term .given .0 .0) = record { sfits = known-told .given .0 .1 } in (constant-stands _ _ _ _ _ _ _ (term .given .1) (ap (signedOf 4) (c .pattern .ensures ∙ ap (patternOf 4) (toZ-ofZ w32 _ fits)) ∙ signed-pattern 4 _ (fits-w32 _ fits)), refl)
 
--- src/columns.rt:75:1
 returns-2 : tie.Need-returns-2
 returns-2 c =
     let term2 = c .before .before .term2 in

@@ -14,28 +14,24 @@ use Rattle.lanes.proofs.columns.drift.Reads as reads
 use Rattle.lanes.proofs.columns.drift.Lts as lts
 use Rattle.plan.proofs.lookup.entry_at.Reads as entry-at-reads
 
--- src/columns.rt:37:33
 add-entry-at : tie.Need-add-entry-at
 add-entry-at c =
     let start = c .before .before .before in
     let if1 = c .before .if1 in
     omega (arith, in-reach _ (start .args .column) _ (start .pre .0) (if1 .taken), start .pre .1)
 
--- src/columns.rt:37:9
 entry-at-requires : tie.Need-entry-at-requires
 entry-at-requires c κs =
     let start = c .before .before .before in
     let if1 = c .before .if1 in
     in-reach _ (start .args .column) _ (start .pre .0) (if1 .taken)
 
--- src/columns.rt:37:9
 returns : tie.Need-returns
 returns c =
     let start = c .before .before .before .before in
     let if1 = c .before .before .if1 in
     c .entry-at .ensures .0 ∙ sym (ap (λ (b : Bool). cond b (entry (now (start .args .drifts)) (start .args .column .from + start .args .k)) (pos 0)) (if1 .taken))
 
--- src/columns.rt:32:1
 returns-2 : tie.Need-returns-2
 returns-2 c = search needs
 

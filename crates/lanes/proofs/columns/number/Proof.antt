@@ -15,32 +15,27 @@ use Rattle.lanes.proofs.columns.number.Lts as lts
 use Rattle.fields.proofs.biased.Reads as biased-reads
 use Rattle.plan.proofs.lookup.entry_at.Reads as entry-at-reads
 
--- src/columns.rt:26:33
 add-entry-at : tie.Need-add-entry-at
 add-entry-at c =
     let start = c .before .before .before in
     let if1 = c .before .if1 in
     omega (arith, in-reach _ (start .args .column) _ (start .pre .0) (if1 .taken), start .pre .1)
 
--- src/columns.rt:26:9
 entry-at-requires : tie.Need-entry-at-requires
 entry-at-requires c κs =
     let start = c .before .before .before in
     let if1 = c .before .if1 in
     in-reach _ (start .args .column) _ (start .pre .0) (if1 .taken)
 
--- src/columns.rt:26:9
 returns : tie.Need-returns
 returns c =
     let start = c .before .before .before .before in
     let if1 = c .before .before .if1 in
     (c .entry-at .ensures .0 ∙ sym (ap (λ (b : Bool). cond b (entry (now (start .args .values)) (start .args .column .from + start .args .k)) (signedOf 4 (start .args .column .pattern))) (if1 .taken)), c .entry-at .ensures .1)
 
--- src/columns.rt:28:5
 biased-requires : tie.Need-biased-requires
 biased-requires c κs = search needs
 
--- src/columns.rt:21:1
 returns-2 : tie.Need-returns-2
 returns-2 c =
     let start = c .before .before .before in

@@ -8,17 +8,14 @@ use Rattle.lanes.proofs.columns.side_of.Lts as lts
 use Rattle.verdict.proofs.terms.code_in.Reads as code-in-reads
 use Rattle.verdict.proofs.terms.top_in.Reads as top-in-reads
 
--- src/columns.rt:39:15
 code-in-requires : tie.Need-code-in-requires
 code-in-requires c κs =
     let start = c .before in
     shift-fits _ _ (start .pre .1)
 
--- src/columns.rt:40:14
 top-in-requires : tie.Need-top-in-requires
 top-in-requires c κs = search needs
 
--- src/columns.rt:34:1
 returns : tie.Need-returns
 returns c =
     let code-in = c .before .code-in in

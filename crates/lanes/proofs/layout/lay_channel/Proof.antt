@@ -24,53 +24,45 @@ Inv-loop array sizes channel lanes₀ stored k₀ lanes k = (k ≤ stored) × (l
 abbrev μ-loop : tie.MeasureT-loop
 μ-loop array sizes channel lanes₀ stored k₀ lanes k = stored - k
 
--- src/layout.rt:24:27
 add-stored : tie.Need-add-stored Inv-loop μ-loop
 add-stored c =
     let start = c .before .before .before in
     omega (arith, start .pre .0 .few-rows)
 
--- src/layout.rt:24:13
 add-stored-2 : tie.Need-add-stored-2 Inv-loop μ-loop
 add-stored-2 c =
     let start = c .before .before .before .before in
     omega (arith, start .pre .0 .few-rows)
 
--- src/layout.rt:26:5
 loop-holds : tie.Need-loop-holds Inv-loop μ-loop
 loop-holds c =
     let start = c .before .before .before .before in
     (omega arith, refl, law.laid-same _ _ _ _ _ _ (omega arith) (start .pre .2))
 
--- src/layout.rt:27:23
 mul-to : tie.Need-mul-to Inv-loop μ-loop
 mul-to c =
     let start = c .before .before .before .before .before .before in
     let few = law.few-places _ _ _ (start .pre .0) (start .args .channel) (start .pre .1) in
     omega arith
 
--- src/layout.rt:27:23
 add-to : tie.Need-add-to Inv-loop μ-loop
 add-to c =
     let start = c .before .before .before .before .before .before in
     let few = law.few-places _ _ _ (start .pre .0) (start .args .channel) (start .pre .1) in
     omega arith
 
--- src/layout.rt:27:18
 mul-to-2 : tie.Need-mul-to-2 Inv-loop μ-loop
 mul-to-2 c =
     let start = c .before .before .before .before .before .before in
     let few = law.few-places _ _ _ (start .pre .0) (start .args .channel) (start .pre .1) in
     omega arith
 
--- src/layout.rt:28:35
 cell-of-requires : tie.Need-cell-of-requires Inv-loop μ-loop
 cell-of-requires c κs =
     let start = c .before .before .before .before .before .before in
     let rows = start .pre .0 .few-rows in
     (start .pre .0 .few-channels, omega arith, omega (arith, start .pre .1))
 
--- src/layout.rt:28:31
 mul-u32-at : tie.Need-mul-u32-at Inv-loop μ-loop
 mul-u32-at c =
     let start = c .before .before .before .before .before .before .before in
@@ -79,7 +71,6 @@ mul-u32-at c =
     let there = law.number-there _ _ _ (start .pre .0) (start .args .channel) (loop .k) (start .pre .1) (loop-test .taken) in
     omega arith
 
--- src/layout.rt:28:13
 u32-at-requires : tie.Need-u32-at-requires Inv-loop μ-loop
 u32-at-requires c κs =
     let start = c .before .before .before .before .before .before .before in
@@ -88,7 +79,6 @@ u32-at-requires c κs =
     let there = law.number-there _ _ _ (start .pre .0) (start .args .channel) (loop .k) (start .pre .1) (loop-test .taken) in
     omega arith
 
--- src/layout.rt:29:17
 sub-put-u32 : tie.Need-sub-put-u32 Inv-loop μ-loop
 sub-put-u32 c =
     let start = c .before .before .before .before .before .before .before .before in
@@ -98,7 +88,6 @@ sub-put-u32 c =
     let long = loop .inv .1 in
     omega arith
 
--- src/layout.rt:29:17
 part-put-u32-start : tie.Need-part-put-u32-start Inv-loop μ-loop
 part-put-u32-start c =
     let start = c .before .before .before .before .before .before .before .before in
@@ -108,7 +97,6 @@ part-put-u32-start c =
     let long = loop .inv .1 in
     omega arith
 
--- src/layout.rt:29:17
 part-put-u32-end : tie.Need-part-put-u32-end Inv-loop μ-loop
 part-put-u32-end c =
     let start = c .before .before .before .before .before .before .before .before in
@@ -118,7 +106,6 @@ part-put-u32-end c =
     let long = loop .inv .1 in
     omega arith
 
--- src/layout.rt:29:9
 put-u32-requires : tie.Need-put-u32-requires Inv-loop μ-loop
 put-u32-requires c κs =
     let start = c .before .before .before .before .before .before .before .before .before in
@@ -128,18 +115,15 @@ put-u32-requires c κs =
     let long = loop .inv .1 in
     omega arith
 
--- src/layout.rt:30:9
 add-k : tie.Need-add-k Inv-loop μ-loop
 add-k c =
     let start = c .before .before .before .before .before .before .before .before .before .before .before .before in
     let rows = start .pre .0 .few-rows in
     omega arith
 
--- src/layout.rt:26:5
 loop-less : tie.Need-loop-less Inv-loop μ-loop
 loop-less c = omega arith
 
--- src/layout.rt:26:5
 loop-again : tie.Need-loop-again Inv-loop μ-loop
 loop-again c =
     let start = c .before .before .before .before .before .before .before .before .before .before .before .before in
@@ -153,13 +137,11 @@ loop-again c =
     let stored = stored-lent (loop .lanes) (bytesOf 4 (u32-at .result)) (4 * (start .args .channel * allStored (start .args .sizes) + loop .k)) 4 (length-bytes 4 (u32-at .result)) (omega arith) _ (put-u32 .ensures) in
     (omega arith, stored .long ∙ long, law.laid-more (now (start .args .array)) (start .args .sizes .channels) (allStored (start .args .sizes)) (start .args .channel) (loop .k) (u32-at .result) (loop-test .taken) (loop .inv .2) (law.cell-number (now (start .args .array)) _ _ (u32-at .ensures) (cell-of .ensures)) (u32-at .ok) stored)
 
--- src/layout.rt:20:1
 same-length : tie.Need-same-length Inv-loop μ-loop
 same-length c =
     let loop = c .before .loop in
     loop .inv .1
 
--- src/layout.rt:20:1
 returns : tie.Need-returns Inv-loop μ-loop
 returns c =
     let loop = c .before .loop in

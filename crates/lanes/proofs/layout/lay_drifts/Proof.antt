@@ -12,31 +12,24 @@ use Rattle.lanes.proofs.layout.lay_out.Reads as lay-out-reads
 use Rattle.plan.proofs.layout.array_length.Reads as array-length-reads
 use Rattle.plan.proofs.layout.drifts_start.Reads as drifts-start-reads
 
--- src/layout.rt:61:9
 drifts-start-requires : tie.Need-drifts-start-requires
 drifts-start-requires c κs = search needs
 
--- src/layout.rt:62:17
 array-length-requires : tie.Need-array-length-requires
 array-length-requires c κs = search needs
 
--- src/layout.rt:62:13
 add-e : tie.Need-add-e
 add-e c = search needs
 
--- src/layout.rt:63:13
 sub-lay-out : tie.Need-sub-lay-out
 sub-lay-out c = search needs
 
--- src/layout.rt:63:13
 part-lay-out-start : tie.Need-part-lay-out-start
 part-lay-out-start c = search needs
 
--- src/layout.rt:63:13
 part-lay-out-end : tie.Need-part-lay-out-end
 part-lay-out-end c = search needs
 
--- src/layout.rt:63:5
 lay-out-requires : tie.Need-lay-out-requires
 lay-out-requires c κs =
     let start = c .before .before .before .before .before .before in
@@ -44,11 +37,9 @@ lay-out-requires c κs =
     let array-length = c .before .before .array-length in
     law.drifts-room (start .pre .0) (start .pre .1) (drifts-start .result) (drifts-start .result + array-length .result) (drifts-start .ensures .0) (omega arith)
 
--- src/layout.rt:57:1
 same-length : tie.Need-same-length
 same-length c = search needs
 
--- src/layout.rt:57:1
 returns : tie.Need-returns
 returns c =
     let start = c .before .before .before .before .before .before .before .before .before in

@@ -18,11 +18,9 @@ Inv-loop array sizes lanes₀ channel₀ lanes channel = (channel ≤ sizes .cha
 abbrev μ-loop : tie.MeasureT-loop
 μ-loop array sizes lanes₀ channel₀ lanes channel = sizes .channels - channel
 
--- src/layout.rt:40:5
 loop-holds : tie.Need-loop-holds Inv-loop μ-loop
 loop-holds c = (omega arith, refl, law.laid-none _ _ _ _)
 
--- src/layout.rt:41:9
 lay-channel-requires : tie.Need-lay-channel-requires Inv-loop μ-loop
 lay-channel-requires c κs =
     let start = c .before .before .before .before .before .before in
@@ -30,31 +28,26 @@ lay-channel-requires c κs =
     let if1 = c .before .if1 in
     (law.room-on _ _ _ (start .pre) (loop .inv .1), if1 .taken, loop .inv .2)
 
--- src/layout.rt:42:9
 add-channel : tie.Need-add-channel Inv-loop μ-loop
 add-channel c =
     let start = c .before .before .before .before .before .before .before .before .before in
     let few = start .pre .few-channels in
     omega arith
 
--- src/layout.rt:40:5
 loop-less : tie.Need-loop-less Inv-loop μ-loop
 loop-less c = omega arith
 
--- src/layout.rt:40:5
 loop-again : tie.Need-loop-again Inv-loop μ-loop
 loop-again c =
     let lay-channel = c .before .before .lay-channel in
     let loop = c .before .before .before .before .before .before .loop in
     (omega arith, lay-channel .ensures .0 ∙ loop .inv .1, law.laid-same _ _ _ _ _ _ (omega arith) (lay-channel .ensures .1))
 
--- src/layout.rt:35:1
 same-length : tie.Need-same-length Inv-loop μ-loop
 same-length c =
     let loop = c .before .before .loop in
     loop .inv .1
 
--- src/layout.rt:35:1
 returns : tie.Need-returns Inv-loop μ-loop
 returns c =
     let start = c .before .before .before .before .before in

@@ -10,27 +10,21 @@ use Rattle.lanes.proofs.layout.lay_out.Reads as lay-out-reads
 use Rattle.plan.proofs.layout.drifts_start.Reads as drifts-start-reads
 use Rattle.plan.proofs.layout.head_length.Reads as head-length-reads
 
--- src/layout.rt:51:9
 head-length-requires : tie.Need-head-length-requires
 head-length-requires c κs = search needs
 
--- src/layout.rt:52:9
 drifts-start-requires : tie.Need-drifts-start-requires
 drifts-start-requires c κs = search needs
 
--- src/layout.rt:53:13
 sub-lay-out : tie.Need-sub-lay-out
 sub-lay-out c = search needs
 
--- src/layout.rt:53:13
 part-lay-out-start : tie.Need-part-lay-out-start
 part-lay-out-start c = search needs
 
--- src/layout.rt:53:13
 part-lay-out-end : tie.Need-part-lay-out-end
 part-lay-out-end c = search needs
 
--- src/layout.rt:53:5
 lay-out-requires : tie.Need-lay-out-requires
 lay-out-requires c κs =
     let start = c .before .before .before .before .before .before in
@@ -38,11 +32,9 @@ lay-out-requires c κs =
     let drifts-start = c .before .before .drifts-start in
     law.readings-room (start .pre .0) (start .pre .1) _ _ (head-length .ensures) (drifts-start .ensures .0)
 
--- src/layout.rt:47:1
 same-length : tie.Need-same-length
 same-length c = search needs
 
--- src/layout.rt:47:1
 returns : tie.Need-returns
 returns c =
     let start = c .before .before .before .before .before .before .before .before .before in

@@ -12,43 +12,33 @@ use Rattle.verdict.proofs.bounds.larger.Reads as larger-reads
 use Rattle.verdict.proofs.bounds.less_by.Reads as less-by-reads
 use Rattle.verdict.proofs.bounds.smaller.Reads as smaller-reads
 
--- src/ranges.rt:35:13
 add-w : tie.Need-add-w
 add-w c = search needs
 
--- src/ranges.rt:36:29
 less-by-requires : tie.Need-less-by-requires
 less-by-requires c κs = search needs
 
--- src/ranges.rt:36:9
 less-by-requires-2 : tie.Need-less-by-requires-2
 less-by-requires-2 c κs = search needs
 
--- src/ranges.rt:37:26
 less-by-requires-3 : tie.Need-less-by-requires-3
 less-by-requires-3 c κs = search needs
 
--- src/ranges.rt:37:9
 smaller-requires : tie.Need-smaller-requires
 smaller-requires c κs = search needs
 
--- src/ranges.rt:38:57
 add-told-by-numbers : tie.Need-add-told-by-numbers
 add-told-by-numbers c = search needs
 
--- src/ranges.rt:38:34
 told-by-numbers-requires : tie.Need-told-by-numbers-requires
 told-by-numbers-requires c κs = search needs
 
--- src/ranges.rt:38:9
 larger-requires : tie.Need-larger-requires
 larger-requires c κs = search needs
 
--- src/ranges.rt:39:9
 larger-requires-2 : tie.Need-larger-requires-2
 larger-requires-2 c κs = search needs
 
--- src/ranges.rt:31:1
 returns : tie.Need-returns
 returns c =
     let start = c .before .before .before .before .before .before .before .before .before in

@@ -7,15 +7,12 @@ use Rattle.lanes.proofs.ranges.told_by_numbers.Reads as reads
 use Rattle.lanes.proofs.ranges.told_by_numbers.Lts as lts
 use Rattle.verdict.proofs.bounds.smaller.Reads as smaller-reads
 
--- src/ranges.rt:38:9
 returns : tie.Need-returns
 returns c = search needs
 
--- src/ranges.rt:40:5
 smaller-requires : tie.Need-smaller-requires
 smaller-requires c κs = search needs
 
--- src/ranges.rt:34:1
 returns-2 : tie.Need-returns-2
 returns-2 c = told-drifting _ _ _ (c .before .if1 .left) (c .smaller .ensures)
 

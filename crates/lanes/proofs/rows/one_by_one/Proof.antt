@@ -22,55 +22,45 @@ Inv-loop plan table part lines from to sizes comparison w count all₀ k₀ all 
 abbrev μ-loop : tie.MeasureT-loop
 μ-loop plan table part lines from to sizes comparison w count all₀ k₀ all k = count - k
 
--- src/rows.rt:77:13
 add-w : tie.Need-add-w Inv-loop μ-loop
 add-w c =
     let start = c .before .before .before .before .before in
     omega (arith, start .pre .0 .few-rows)
 
--- src/rows.rt:78:17
 sub-count : tie.Need-sub-count Inv-loop μ-loop
 sub-count c = omega arith
 
--- src/rows.rt:81:5
 loop-holds : tie.Need-loop-holds Inv-loop μ-loop
 loop-holds c = (omega arith, sweep-first _)
 
--- src/rows.rt:82:17
 add-t : tie.Need-add-t Inv-loop μ-loop
 add-t c =
     let start = c .before .before .before .before .before .before .before in
     omega (arith, start .pre .0 .few-rows)
 
--- src/rows.rt:83:44
 row-of-requires : tie.Need-row-of-requires Inv-loop μ-loop
 row-of-requires c κs =
     let start = c .before .before .before .before .before .before .before in
     (start .pre .0 .a-cycle, start .pre .0 .few-rows)
 
--- src/rows.rt:83:13
 mark-at-requires : tie.Need-mark-at-requires Inv-loop μ-loop
 mark-at-requires c κs =
     let start = c .before .before .before .before .before .before .before .before in
     (start .pre .1, start .pre .2, rw (c .row-of .ensures) (row-lt (start .args .part .sizes .start) (start .args .part .sizes .cycle) (start .pre .0 .a-cycle) _))
 
--- src/rows.rt:84:21
 position-agrees-requires : tie.Need-position-agrees-requires Inv-loop μ-loop
 position-agrees-requires c κs =
     let start = c .before .before .before .before .before .before .before .before .before in
     (start .pre .0, start .pre .3, start .pre .4, start .pre .5, omega (arith, start .pre .0 .a-cycle))
 
--- src/rows.rt:85:9
 add-k : tie.Need-add-k Inv-loop μ-loop
 add-k c =
     let start = c .before .before .before .before .before .before .before .before .before .before in
     omega (arith, start .pre .0 .few-rows)
 
--- src/rows.rt:81:5
 loop-less : tie.Need-loop-less Inv-loop μ-loop
 loop-less c = omega arith
 
--- src/rows.rt:81:5
 loop-again : tie.Need-loop-again Inv-loop μ-loop
 loop-again c =
     let start = c .before .before .before .before .before .before .before .before .before .before in
@@ -79,7 +69,6 @@ loop-again c =
     let mark-at = c .before .mark-at in
     (omega arith, sweep-next _ _ (loop .inv .1) (by-its-mark (now (start .args .plan)) (now (start .args .table)) (start .args .part) (start .args .lines) _ (row-of .ensures) (mark-at .ensures) (c .position-agrees .ensures)))
 
--- src/rows.rt:63:1
 returns : tie.Need-returns Inv-loop μ-loop
 returns c =
     let loop = c .before .loop in

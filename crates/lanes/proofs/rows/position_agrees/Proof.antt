@@ -11,29 +11,23 @@ use Rattle.table.proofs.sweeps.agree.Reads as agree-reads
 use Rattle.verdict.proofs.rows.judge_from.Reads as judge-from-reads
 use Rattle.verdict.proofs.rows.test_at.Reads as test-at-reads
 
--- src/rows.rt:57:28
 test-at-requires : tie.Need-test-at-requires
 test-at-requires c κs = search needs
 
--- src/rows.rt:57:9
 agree-requires : tie.Need-agree-requires
 agree-requires c κs = search needs
 
--- src/rows.rt:57:9
 returns : tie.Need-returns
 returns c =
     let start = c .before .before .before .before in
     says-alone (now (start .args .plan)) (start .args .comparison) (start .args .lines) (start .args .mark) (start .args .t) (c .before .before .if1 .taken) (c .before .test-at .ensures) (c .agree .ensures)
 
--- src/rows.rt:59:20
 judge-from-requires : tie.Need-judge-from-requires
 judge-from-requires c κs = search needs
 
--- src/rows.rt:59:5
 verdict-agrees-requires : tie.Need-verdict-agrees-requires
 verdict-agrees-requires c κs = search needs
 
--- src/rows.rt:45:1
 returns-2 : tie.Need-returns-2
 returns-2 c =
     let start = c .before .before .before .before in

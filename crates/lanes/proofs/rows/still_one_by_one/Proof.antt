@@ -25,72 +25,60 @@ Inv-loop values table part from to sizes w lane relation left right x y count al
 abbrev μ-loop : tie.MeasureT-loop
 μ-loop values table part from to sizes w lane relation left right x y count all₀ k₀ all k = count - k
 
--- src/rows.rt:175:13
 add-w : tie.Need-add-w Inv-loop μ-loop
 add-w c =
     let start = c .before .before .before .before .before in
     omega (arith, law.few-rows (start .pre .0))
 
--- src/rows.rt:176:16
 add-lane : tie.Need-add-lane Inv-loop μ-loop
 add-lane c =
     let start = c .before .before .before .before .before .before in
     omega (arith, law.few-rows (start .pre .0))
 
--- src/rows.rt:180:9
 lane-of-requires : tie.Need-lane-of-requires Inv-loop μ-loop
 lane-of-requires c κs =
     let start = c .before .before .before .before .before .before .before .before in
     (law.few-rows (start .pre .0) .0, law.few-rows (start .pre .0) .1, law.left-few (start .pre .0))
 
--- src/rows.rt:181:9
 lane-of-requires-2 : tie.Need-lane-of-requires-2 Inv-loop μ-loop
 lane-of-requires-2 c κs =
     let start = c .before .before .before .before .before .before .before .before .before in
     (law.few-rows (start .pre .0) .0, law.few-rows (start .pre .0) .1, law.right-few (start .pre .0))
 
--- src/rows.rt:182:17
 sub-count : tie.Need-sub-count Inv-loop μ-loop
 sub-count c =
     let start = c .before .before .before .before .before .before .before .before .before .before in
     omega (arith, start .pre .0 .in-order)
 
--- src/rows.rt:185:5
 loop-holds : tie.Need-loop-holds Inv-loop μ-loop
 loop-holds c = (omega arith, sweep-first _)
 
--- src/rows.rt:186:17
 add-t : tie.Need-add-t Inv-loop μ-loop
 add-t c =
     let start = c .before .before .before .before .before .before .before .before .before .before .before .before in
     omega (arith, start .pre .0 .few, law.few-rows (start .pre .0))
 
--- src/rows.rt:187:62
 add-row-of : tie.Need-add-row-of Inv-loop μ-loop
 add-row-of c =
     let start = c .before .before .before .before .before .before .before .before .before .before .before .before .before in
     omega (arith, start .pre .0 .few, law.few-rows (start .pre .0), start .pre .0 .of-part .few-codes)
 
--- src/rows.rt:187:62
 sub-row-of : tie.Need-sub-row-of Inv-loop μ-loop
 sub-row-of c =
     let start = c .before .before .before .before .before .before .before .before .before .before .before .before .before in
     omega (arith, start .pre .0 .in-run)
 
--- src/rows.rt:187:48
 row-of-requires : tie.Need-row-of-requires Inv-loop μ-loop
 row-of-requires c κs =
     let start = c .before .before .before .before .before .before .before .before .before .before .before .before .before in
     (start .pre .0 .of-part .a-cycle, law.few-rows (start .pre .0) .2)
 
--- src/rows.rt:187:35
 add-number : tie.Need-add-number Inv-loop μ-loop
 add-number c =
     let start = c .before .before .before .before .before .before .before .before .before .before .before .before .before .before .before in
     let row-of = c .before .row-of in
     omega (arith, law.few-rows (start .pre .0), law.row-stored (start .pre .0) _ (row-of .ensures))
 
--- src/rows.rt:187:13
 number-requires : tie.Need-number-requires Inv-loop μ-loop
 number-requires c κs =
     let start = c .before .before .before .before .before .before .before .before .before .before .before .before .before .before .before in
@@ -98,32 +86,27 @@ number-requires c κs =
     let row-of = c .before .row-of in
     law.lane-reaches (start .pre .0) (now (start .args .values)) (start .pre .1) _ (start .pre .0 .of-part .terms-fit .0) _ (lane-of .ensures .0) _ (row-of .ensures)
 
--- src/rows.rt:188:62
 add-row-of-2 : tie.Need-add-row-of-2 Inv-loop μ-loop
 add-row-of-2 c =
     let start = c .before .before .before .before .before .before .before .before .before .before .before .before .before .before .before .before .before in
     omega (arith, start .pre .0 .few, law.few-rows (start .pre .0), start .pre .0 .of-part .few-codes)
 
--- src/rows.rt:188:62
 sub-row-of-2 : tie.Need-sub-row-of-2 Inv-loop μ-loop
 sub-row-of-2 c =
     let start = c .before .before .before .before .before .before .before .before .before .before .before .before .before .before .before .before .before in
     omega (arith, start .pre .0 .in-run)
 
--- src/rows.rt:188:48
 row-of-requires-2 : tie.Need-row-of-requires-2 Inv-loop μ-loop
 row-of-requires-2 c κs =
     let start = c .before .before .before .before .before .before .before .before .before .before .before .before .before .before .before .before .before in
     (start .pre .0 .of-part .a-cycle, law.few-rows (start .pre .0) .2)
 
--- src/rows.rt:188:35
 add-number-2 : tie.Need-add-number-2 Inv-loop μ-loop
 add-number-2 c =
     let start = c .before .before .before .before .before .before .before .before .before .before .before .before .before .before .before .before .before .before .before in
     let row-of2 = c .before .row-of2 in
     omega (arith, law.few-rows (start .pre .0), law.row-stored (start .pre .0) _ (row-of2 .ensures))
 
--- src/rows.rt:188:13
 number-requires-2 : tie.Need-number-requires-2 Inv-loop μ-loop
 number-requires-2 c κs =
     let start = c .before .before .before .before .before .before .before .before .before .before .before .before .before .before .before .before .before .before .before in
@@ -131,40 +114,33 @@ number-requires-2 c κs =
     let row-of2 = c .before .row-of2 in
     law.lane-reaches (start .pre .0) (now (start .args .values)) (start .pre .1) _ (start .pre .0 .of-part .terms-fit .1) _ (lane-of2 .ensures .0) _ (row-of2 .ensures)
 
--- src/rows.rt:189:44
 row-of-requires-3 : tie.Need-row-of-requires-3 Inv-loop μ-loop
 row-of-requires-3 c κs =
     let start = c .before .before .before .before .before .before .before .before .before .before .before .before .before .before .before .before .before .before .before .before in
     (start .pre .0 .of-part .a-cycle, law.few-rows (start .pre .0) .2)
 
--- src/rows.rt:189:13
 mark-at-requires : tie.Need-mark-at-requires Inv-loop μ-loop
 mark-at-requires c κs =
     let start = c .before .before .before .before .before .before .before .before .before .before .before .before .before .before .before .before .before .before .before .before .before in
     (start .pre .0 .of-part .sized, start .pre .0 .of-part .present, rw (c .row-of3 .ensures) (row-lt (start .args .part .sizes .start) (start .args .part .sizes .cycle) (start .pre .0 .of-part .a-cycle) _))
 
--- src/rows.rt:190:33
 seen-compare-requires : tie.Need-seen-compare-requires Inv-loop μ-loop
 seen-compare-requires c κs =
     let start = c .before .before .before .before .before .before .before .before .before .before .before .before .before .before .before .before .before .before .before .before .before .before in
     start .pre .0 .of-part .small
 
--- src/rows.rt:190:21
 agree-requires : tie.Need-agree-requires Inv-loop μ-loop
 agree-requires c κs = tt
 
--- src/rows.rt:191:9
 add-k : tie.Need-add-k Inv-loop μ-loop
 add-k c =
     let start = c .before .before .before .before .before .before .before .before .before .before .before .before .before .before .before .before .before .before .before .before .before .before .before .before in
     let loop-test = c .before .before .before .before .before .before .before .before .before .before .before .before .loop-test in
     omega (arith, start .pre .0 .few, law.few-rows (start .pre .0), loop-test .taken)
 
--- src/rows.rt:185:5
 loop-less : tie.Need-loop-less Inv-loop μ-loop
 loop-less c = omega arith
 
--- src/rows.rt:185:5
 loop-again : tie.Need-loop-again Inv-loop μ-loop
 loop-again c =
     let loop = c .before .before .before .before .before .before .before .before .before .before .before .before .before .loop in
@@ -181,7 +157,6 @@ loop-again c =
     let loop-test = c .before .before .before .before .before .before .before .before .before .before .before .before .loop-test in
     (omega (arith, loop-test .taken), sweep-next _ _ (loop .inv .1) (law.landed-step (start .args .part .comparison .relation) (now (start .args .values)) (now (start .args .table)) (start .args .part .sizes) (start .args .part .i) (lane-of .result) (lane-of2 .result) (start .args .sides .left .code) (start .args .sides .right .code) _ (start .args .sides .left .top) (number .result) (start .args .sides .right .top) (number2 .result) (row-of .ensures) (number .ensures .0) (row-of2 .ensures) (number2 .ensures .0) (row-of3 .ensures) (mark-at .ensures) (seen-compare .ensures) (lane-of .ensures .1) (lane-of2 .ensures .1) (c .agree .ensures)))
 
--- src/rows.rt:160:1
 returns : tie.Need-returns Inv-loop μ-loop
 returns c =
     let loop = c .before .loop in

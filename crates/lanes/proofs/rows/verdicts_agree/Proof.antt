@@ -23,35 +23,28 @@ use Rattle.verdict.proofs.bounds.larger.Reads as larger-reads
 use Rattle.lanes.proofs.columns.side_of.Reads as side-of-reads
 use Rattle.verdict.proofs.terms.reach_of.Reads as reach-of-reads
 
--- src/rows.rt:177:13
 add-w : tie.Need-add-w
 add-w c = search needs
 
--- src/rows.rt:180:9
 side-of-requires : tie.Need-side-of-requires
 side-of-requires c κs =
     let start = c .before .before .before .before .before .before .before in
     (start .pre .0, start .pre .4 .0)
 
--- src/rows.rt:181:9
 side-of-requires-2 : tie.Need-side-of-requires-2
 side-of-requires-2 c κs =
     let start = c .before .before .before .before .before .before .before .before in
     (start .pre .0, start .pre .4 .1)
 
--- src/rows.rt:182:23
 reach-of-requires : tie.Need-reach-of-requires
 reach-of-requires c κs = search needs
 
--- src/rows.rt:182:36
 reach-of-requires-2 : tie.Need-reach-of-requires-2
 reach-of-requires-2 c κs = search needs
 
--- src/rows.rt:182:9
 larger-requires : tie.Need-larger-requires
 larger-requires c κs = search needs
 
--- src/rows.rt:183:41
 larger-requires-2 : tie.Need-larger-requires-2
 larger-requires-2 c κs = search needs
 
@@ -69,7 +62,6 @@ few-back c =
     let start = c .before .before .before .before .before .before .before .before .before .before .before .before in
     farther-le (start .args .part .sizes) (start .args .part .comparison) _ (farther c) (start .pre .4)
 
--- src/rows.rt:183:9
 ranges-of-requires : tie.Need-ranges-of-requires
 ranges-of-requires c κs =
     let sides = c .before .before .before .before in
@@ -100,11 +92,9 @@ ranged c =
       divided = c .ranges-of .ensures;
     }
 
--- src/rows.rt:184:37
 place-requires : tie.Need-place-requires
 place-requires c κs = search needs
 
--- src/rows.rt:184:9
 none-marked-requires : tie.Need-none-marked-requires
 none-marked-requires c κs =
     let ranges = c .before in
@@ -113,7 +103,6 @@ none-marked-requires c κs =
     let marks = law.marks-from-first _ _ _ (start .pre .2) (start .args .part .i) (ranges .ranges-of .result .before) _ (start .pre .3) (omega arith) (c .place .ensures) in
     (marks .there, marks .few)
 
--- src/rows.rt:185:9
 direct-numbers-requires : tie.Need-direct-numbers-requires
 direct-numbers-requires c κs =
     let ranges = c .before .before in

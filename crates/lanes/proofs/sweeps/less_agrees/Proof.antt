@@ -11,11 +11,9 @@ use Rattle.lanes.proofs.sweeps.less_agrees.Reads as reads
 use Rattle.lanes.proofs.sweeps.less_agrees.Lts as lts
 use Rattle.table.proofs.sweeps.agree.Reads as agree-reads
 
--- src/sweeps.rt:84:5
 agree-requires : tie.Need-agree-requires
 agree-requires c κs = search needs
 
--- src/sweeps.rt:80:1
 returns : tie.Need-returns
 returns c =
     let start = c .before in

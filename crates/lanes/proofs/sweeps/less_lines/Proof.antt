@@ -24,11 +24,9 @@ Inv-loop values drifts x y table m count all₀ k₀ all k = (k ≤ count) × (a
 abbrev μ-loop : tie.MeasureT-loop
 μ-loop values drifts x y table m count all₀ k₀ all k = count - k
 
--- src/sweeps.rt:102:5
 loop-holds : tie.Need-loop-holds Inv-loop μ-loop
 loop-holds c = (omega arith, sweep-first _)
 
--- src/sweeps.rt:104:19
 add-less-agrees : tie.Need-add-less-agrees Inv-loop μ-loop
 add-less-agrees c =
     let start = c .before .before .before .before .before in
@@ -36,46 +34,39 @@ add-less-agrees c =
     let few = start .pre .2 .few in
     omega arith
 
--- src/sweeps.rt:104:13
 shared-slice-read-less-agrees : tie.Need-shared-slice-read-less-agrees Inv-loop μ-loop
 shared-slice-read-less-agrees c =
     let start = c .before .before .before .before .before .before in
     let there = start .pre .2 .there in
     omega arith
 
--- src/sweeps.rt:105:13
 number-requires : tie.Need-number-requires Inv-loop μ-loop
 number-requires c κs =
     let start = c .before .before .before .before .before .before in
     let loop-test = c .before .loop-test in
     (reaches-row _ (start .args .x) _ _ (start .pre .0 .left) (loop-test .taken), start .pre .0 .few)
 
--- src/sweeps.rt:106:13
 drift-requires : tie.Need-drift-requires Inv-loop μ-loop
 drift-requires c κs =
     let start = c .before .before .before .before .before .before .before in
     let loop-test = c .before .before .loop-test in
     (reaches-row _ (start .args .x) _ _ (start .pre .1 .left) (loop-test .taken), start .pre .1 .few)
 
--- src/sweeps.rt:107:13
 number-requires-2 : tie.Need-number-requires-2 Inv-loop μ-loop
 number-requires-2 c κs =
     let start = c .before .before .before .before .before .before .before .before in
     let loop-test = c .before .before .before .loop-test in
     (reaches-row _ (start .args .y) _ _ (start .pre .0 .right) (loop-test .taken), start .pre .0 .few)
 
--- src/sweeps.rt:108:13
 drift-requires-2 : tie.Need-drift-requires-2 Inv-loop μ-loop
 drift-requires-2 c κs =
     let start = c .before .before .before .before .before .before .before .before .before in
     let loop-test = c .before .before .before .before .loop-test in
     (reaches-row _ (start .args .y) _ _ (start .pre .1 .right) (loop-test .taken), start .pre .1 .few)
 
--- src/sweeps.rt:103:21
 less-agrees-requires : tie.Need-less-agrees-requires Inv-loop μ-loop
 less-agrees-requires c κs = tt
 
--- src/sweeps.rt:110:9
 add-k : tie.Need-add-k Inv-loop μ-loop
 add-k c =
     let start = c .before .before .before .before .before .before .before .before .before .before .before in
@@ -83,11 +74,9 @@ add-k c =
     let few = start .pre .2 .few in
     omega arith
 
--- src/sweeps.rt:102:5
 loop-less : tie.Need-loop-less Inv-loop μ-loop
 loop-less c = omega arith
 
--- src/sweeps.rt:102:5
 loop-again : tie.Need-loop-again Inv-loop μ-loop
 loop-again c =
     let start = c .before .before .before .before .before .before .before .before .before .before .before in
@@ -98,7 +87,6 @@ loop-again c =
     let drift2 = c .before .drift2 in
     (omega arith, sweep-next _ _ (loop .inv .1) (c .less-agrees .ensures ∙ ap₂ (λ (p q : Line). verdictAgrees (judgeLess p q) (markIn (now (start .args .table)) (start .args .m + loop .k))) (line-is (number .result) (drift .result) (number .ensures .0) (drift .ensures)) (line-is (number2 .result) (drift2 .result) (number2 .ensures .0) (drift2 .ensures))))
 
--- src/sweeps.rt:88:1
 returns : tie.Need-returns Inv-loop μ-loop
 returns c =
     let loop = c .before .loop in

@@ -23,11 +23,9 @@ Inv-loop values x y table m count all₀ k₀ all k = (k ≤ count) × (all ≡ 
 abbrev μ-loop : tie.MeasureT-loop
 μ-loop values x y table m count all₀ k₀ all k = count - k
 
--- src/sweeps.rt:45:5
 loop-holds : tie.Need-loop-holds Inv-loop μ-loop
 loop-holds c = (omega arith, sweep-first _)
 
--- src/sweeps.rt:47:19
 add-agree : tie.Need-add-agree Inv-loop μ-loop
 add-agree c =
     let start = c .before .before .before .before in
@@ -35,32 +33,27 @@ add-agree c =
     let few = start .pre .1 .few in
     omega arith
 
--- src/sweeps.rt:47:13
 shared-slice-read-agree : tie.Need-shared-slice-read-agree Inv-loop μ-loop
 shared-slice-read-agree c =
     let start = c .before .before .before .before .before in
     let there = start .pre .1 .there in
     omega arith
 
--- src/sweeps.rt:48:13
 number-requires : tie.Need-number-requires Inv-loop μ-loop
 number-requires c κs =
     let start = c .before .before .before .before .before in
     let loop-test = c .before .loop-test in
     (reaches-row _ (start .args .x) _ _ (start .pre .0 .left) (loop-test .taken), start .pre .0 .few)
 
--- src/sweeps.rt:48:36
 number-requires-2 : tie.Need-number-requires-2 Inv-loop μ-loop
 number-requires-2 c κs =
     let start = c .before .before .before .before .before .before in
     let loop-test = c .before .before .loop-test in
     (reaches-row _ (start .args .y) _ _ (start .pre .0 .right) (loop-test .taken), start .pre .0 .few)
 
--- src/sweeps.rt:46:21
 agree-requires : tie.Need-agree-requires Inv-loop μ-loop
 agree-requires c κs = tt
 
--- src/sweeps.rt:50:9
 add-k : tie.Need-add-k Inv-loop μ-loop
 add-k c =
     let start = c .before .before .before .before .before .before .before .before in
@@ -68,11 +61,9 @@ add-k c =
     let few = start .pre .1 .few in
     omega arith
 
--- src/sweeps.rt:45:5
 loop-less : tie.Need-loop-less Inv-loop μ-loop
 loop-less c = omega arith
 
--- src/sweeps.rt:45:5
 loop-again : tie.Need-loop-again Inv-loop μ-loop
 loop-again c =
     let start = c .before .before .before .before .before .before .before .before in
@@ -81,7 +72,6 @@ loop-again c =
     let number2 = c .before .number2 in
     (omega arith, sweep-next _ _ (loop .inv .1) (c .agree .ensures ∙ ap (λ (b : Bool). Bool·beq (markIn (now (start .args .table)) (start .args .m + loop .k)) b) (numbers-below (number .result) (number2 .result) (number .ensures .0) (number2 .ensures .0))))
 
--- src/sweeps.rt:32:1
 returns : tie.Need-returns Inv-loop μ-loop
 returns c =
     let loop = c .before .loop in

@@ -14,31 +14,24 @@ use Rattle.lanes.proofs.sweeps.same_values.Reads as same-values-reads
 use Rattle.lanes.proofs.weeks.within_lines.Reads as within-lines-reads
 use Rattle.table.proofs.sweeps.none_marked.Reads as none-marked-reads
 
--- src/sweeps.rt:182:28
 enum-told : tie.Need-enum-told
 enum-told c = search needs
 
--- src/sweeps.rt:182:28
 less-lines-requires : tie.Need-less-lines-requires
 less-lines-requires c κs = search needs
 
--- src/sweeps.rt:184:16
 enum-told-2 : tie.Need-enum-told-2
 enum-told-2 c = search needs
 
--- src/sweeps.rt:184:16
 same-values-requires : tie.Need-same-values-requires
 same-values-requires c κs = search needs
 
--- src/sweeps.rt:185:17
 same-stay-requires : tie.Need-same-stay-requires
 same-stay-requires c κs = search needs
 
--- src/sweeps.rt:190:26
 enum-known-relation : tie.Need-enum-known-relation
 enum-known-relation c = search needs
 
--- src/sweeps.rt:191:13
 within-lines-requires : tie.Need-within-lines-requires
 within-lines-requires c κs = search needs
 
@@ -50,13 +43,11 @@ none-marked-requires c κs =
     let start = c .before .before .before .before .before in
     (start .pre .2 .there, start .pre .2 .few)
 
--- src/sweeps.rt:168:1
 returns : tie.Need-returns
 returns c =
     let start = c .before .before .before .before .before .before in
     law.lines-by (now (start .args .values)) (start .args .x) (start .args .y) (λ (k : ℕ). markIn (now (start .args .table)) (start .args .m + k)) (start .args .count) (c .before .enum-told .given .1) (now (start .args .drifts)) (c .less-lines .ensures)
 
--- src/sweeps.rt:168:1
 returns-2 : tie.Need-returns-2
 returns-2 c =
     let start = c .before .before .before .before .before .before .before .before in
@@ -64,14 +55,12 @@ returns-2 c =
     let same-values = c .before .before .same-values in
     law.same-then (now (start .args .values)) (now (start .args .drifts)) (start .args .x) (start .args .y) (λ (k : ℕ). markIn (now (start .args .table)) (start .args .m + k)) (start .args .count) (enum-told2 .given .1) (same-values .ensures) (c .before .if1 .taken) (c .same-stay .ensures)
 
--- src/sweeps.rt:168:1
 returns-3 : tie.Need-returns-3
 returns-3 c =
     let start = c .before .before .before .before .before .before .before in
     let enum-told2 = c .before .before .enum-told2 in
     law.same-not (now (start .args .values)) (now (start .args .drifts)) (start .args .x) (start .args .y) (λ (k : ℕ). markIn (now (start .args .table)) (start .args .m + k)) (start .args .count) (enum-told2 .given .1) (c .before .same-values .ensures) (c .if1 .left)
 
--- src/sweeps.rt:168:1
 returns-4 : tie.Need-returns-4
 returns-4 c =
     let start = c .before .before .before .before .before .before .before in

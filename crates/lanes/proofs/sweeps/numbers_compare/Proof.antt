@@ -7,38 +7,31 @@ use Rattle.lanes.proofs.sweeps.numbers_compare.Reads as reads
 use Rattle.lanes.proofs.sweeps.numbers_compare.Lts as lts
 use Rattle.verdict.proofs.weeks.minutes_after.Reads as minutes-after-reads
 
--- src/sweeps.rt:26:28
 enum-told : tie.Need-enum-told
 enum-told c = search needs
 
--- src/sweeps.rt:27:27
 enum-told-2 : tie.Need-enum-told-2
 enum-told-2 c = search needs
 
--- src/sweeps.rt:28:26
 enum-known-relation : tie.Need-enum-known-relation
 enum-known-relation c = search needs
 
--- src/sweeps.rt:28:38
 minutes-after-requires : tie.Need-minutes-after-requires
 minutes-after-requires c κs = search needs
 
 enum-told-3 : tie.Need-enum-told-3
 enum-told-3 c = search needs
 
--- src/sweeps.rt:22:1
 returns : tie.Need-returns
 returns c =
     let start = c .before .before in
     compare-below (start .args .a) (start .args .b) (c .enum-told .given .1)
 
--- src/sweeps.rt:22:1
 returns-2 : tie.Need-returns-2
 returns-2 c =
     let start = c .before .before in
     compare-same (start .args .a) (start .args .b) (c .enum-told2 .given .1)
 
--- src/sweeps.rt:22:1
 returns-3 : tie.Need-returns-3
 returns-3 c =
     let start = c .before .before .before .before in

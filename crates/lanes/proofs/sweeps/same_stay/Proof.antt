@@ -24,42 +24,35 @@ Inv-loop values drifts x y count k₀ k = (k ≤ count) × (true ≡ allBelow (�
 abbrev μ-loop : tie.MeasureT-loop
 μ-loop values drifts x y count k₀ k = count - k
 
--- src/sweeps.rt:143:5
 loop-holds : tie.Need-loop-holds Inv-loop μ-loop
 loop-holds c = (omega arith, sweep-first _)
 
--- src/sweeps.rt:145:13
 number-requires : tie.Need-number-requires Inv-loop μ-loop
 number-requires c κs =
     let start = c .before .before .before .before in
     (reaches-row _ (start .args .x) _ _ (start .pre .0 .left) (c .loop-test .taken), start .pre .0 .few)
 
--- src/sweeps.rt:146:13
 drift-requires : tie.Need-drift-requires Inv-loop μ-loop
 drift-requires c κs =
     let start = c .before .before .before .before .before in
     let loop-test = c .before .loop-test in
     (reaches-row _ (start .args .x) _ _ (start .pre .1 .left) (loop-test .taken), start .pre .1 .few)
 
--- src/sweeps.rt:147:13
 number-requires-2 : tie.Need-number-requires-2 Inv-loop μ-loop
 number-requires-2 c κs =
     let start = c .before .before .before .before .before .before in
     let loop-test = c .before .before .loop-test in
     (reaches-row _ (start .args .y) _ _ (start .pre .0 .right) (loop-test .taken), start .pre .0 .few)
 
--- src/sweeps.rt:148:13
 drift-requires-2 : tie.Need-drift-requires-2 Inv-loop μ-loop
 drift-requires-2 c κs =
     let start = c .before .before .before .before .before .before .before in
     let loop-test = c .before .before .before .loop-test in
     (reaches-row _ (start .args .y) _ _ (start .pre .1 .right) (loop-test .taken), start .pre .1 .few)
 
--- src/sweeps.rt:144:13
 same-stays-requires : tie.Need-same-stays-requires Inv-loop μ-loop
 same-stays-requires c κs = tt
 
--- src/sweeps.rt:150:13
 returns : tie.Need-returns Inv-loop μ-loop
 returns c =
     let loop-test = c .before .before .before .before .before .before .loop-test in
@@ -70,15 +63,12 @@ returns c =
     let same-stays = c .before .same-stays in
     sweep-stops _ _ _ (loop-test .taken) (same-stays .ensures ∙ ap₂ (λ (p q : Line). stays (judgeEqual p q)) (line-is (number .result) (drift .result) (number .ensures .0) (drift .ensures)) (line-is (number2 .result) (drift2 .result) (number2 .ensures .0) (drift2 .ensures))) (c .if1 .taken)
 
--- src/sweeps.rt:152:9
 add-k : tie.Need-add-k Inv-loop μ-loop
 add-k c = omega arith
 
--- src/sweeps.rt:143:5
 loop-less : tie.Need-loop-less Inv-loop μ-loop
 loop-less c = omega arith
 
--- src/sweeps.rt:143:5
 loop-again : tie.Need-loop-again Inv-loop μ-loop
 loop-again c =
     let loop = c .before .before .before .before .before .before .before .loop in
@@ -89,7 +79,6 @@ loop-again c =
     let same-stays = c .before .same-stays in
     (omega arith, sweep-passes _ _ (loop .inv .1) (same-stays .ensures ∙ ap₂ (λ (p q : Line). stays (judgeEqual p q)) (line-is (number .result) (drift .result) (number .ensures .0) (drift .ensures)) (line-is (number2 .result) (drift2 .result) (number2 .ensures .0) (drift2 .ensures))) (c .if1 .left))
 
--- src/sweeps.rt:138:1
 returns-2 : tie.Need-returns-2 Inv-loop μ-loop
 returns-2 c =
     let loop = c .before .loop in

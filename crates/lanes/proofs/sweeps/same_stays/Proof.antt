@@ -7,61 +7,50 @@ use Rattle.lanes.proofs.sweeps.same_stays.Tie as tie
 use Rattle.lanes.proofs.sweeps.same_stays.Reads as reads
 use Rattle.lanes.proofs.sweeps.same_stays.Lts as lts
 
--- src/sweeps.rt:120:9
 returns : tie.Need-returns
 returns c =
     let start = c .before in
     law.stays-steady (start .args .a) (start .args .d) (start .args .b) (start .args .e) (c .if1 .taken)
 
--- src/sweeps.rt:124:21
 sub-result : tie.Need-sub-result
 sub-result c = search needs
 
--- src/sweeps.rt:124:31
 sub-result-2 : tie.Need-sub-result-2
 sub-result-2 c = search needs
 
--- src/sweeps.rt:124:20
 rem-result : tie.Need-rem-result
 rem-result c = search needs
 
--- src/sweeps.rt:124:13
 returns-2 : tie.Need-returns-2
 returns-2 c =
     let start = c .before .before .before in
     let if2 = c .before .if2 in
     law.stays-stepped-over (start .args .a) (start .args .d) (start .args .b) (start .args .e) (if2 .taken) (c .if3 .taken)
 
--- src/sweeps.rt:126:9
 returns-3 : tie.Need-returns-3
 returns-3 c =
     let start = c .before .before .before in
     let if2 = c .before .if2 in
     law.stays-never-met (start .args .a) (start .args .d) (start .args .b) (start .args .e) (if2 .taken) (c .if3 .left)
 
--- src/sweeps.rt:130:31
 sub-result-3 : tie.Need-sub-result-3
 sub-result-3 c = search needs
 
--- src/sweeps.rt:130:20
 rem-result-2 : tie.Need-rem-result-2
 rem-result-2 c = search needs
 
--- src/sweeps.rt:130:13
 returns-4 : tie.Need-returns-4
 returns-4 c =
     let start = c .before .before .before .before in
     let if4 = c .before .if4 in
     law.stays-stepped-over-above (start .args .a) (start .args .d) (start .args .b) (start .args .e) (if4 .taken) (c .if5 .taken)
 
--- src/sweeps.rt:132:9
 returns-5 : tie.Need-returns-5
 returns-5 c =
     let start = c .before .before .before .before in
     let if4 = c .before .if4 in
     law.stays-never-met-above (start .args .a) (start .args .d) (start .args .b) (start .args .e) (if4 .taken) (c .if5 .left)
 
--- src/sweeps.rt:116:1
 returns-6 : tie.Need-returns-6
 returns-6 c =
     let start = c .before .before .before in

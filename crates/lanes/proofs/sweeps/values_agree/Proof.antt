@@ -13,27 +13,21 @@ use Rattle.lanes.proofs.sweeps.same_values.Reads as same-values-reads
 use Rattle.lanes.proofs.weeks.within_values.Reads as within-values-reads
 use Rattle.table.proofs.sweeps.none_marked.Reads as none-marked-reads
 
--- src/sweeps.rt:161:28
 enum-told : tie.Need-enum-told
 enum-told c = search needs
 
--- src/sweeps.rt:161:28
 less-values-requires : tie.Need-less-values-requires
 less-values-requires c κs = search needs
 
--- src/sweeps.rt:162:27
 enum-told-2 : tie.Need-enum-told-2
 enum-told-2 c = search needs
 
--- src/sweeps.rt:162:27
 same-values-requires : tie.Need-same-values-requires
 same-values-requires c κs = search needs
 
--- src/sweeps.rt:163:26
 enum-known-relation : tie.Need-enum-known-relation
 enum-known-relation c = search needs
 
--- src/sweeps.rt:163:38
 within-values-requires : tie.Need-within-values-requires
 within-values-requires c κs = search needs
 
@@ -45,19 +39,16 @@ none-marked-requires c κs =
     let start = c .before .before .before .before in
     (start .pre .1 .there, start .pre .1 .few)
 
--- src/sweeps.rt:148:1
 returns : tie.Need-returns
 returns c =
     let start = c .before .before .before .before .before in
     law.values-by (now (start .args .values)) (start .args .x) (start .args .y) (λ (k : ℕ). markIn (now (start .args .table)) (start .args .m + k)) (start .args .count) (c .before .enum-told .given .1) (c .less-values .ensures)
 
--- src/sweeps.rt:148:1
 returns-2 : tie.Need-returns-2
 returns-2 c =
     let start = c .before .before .before .before .before in
     law.values-by (now (start .args .values)) (start .args .x) (start .args .y) (λ (k : ℕ). markIn (now (start .args .table)) (start .args .m + k)) (start .args .count) (c .before .enum-told2 .given .1) (c .same-values .ensures)
 
--- src/sweeps.rt:148:1
 returns-3 : tie.Need-returns-3
 returns-3 c =
     let start = c .before .before .before .before .before .before in

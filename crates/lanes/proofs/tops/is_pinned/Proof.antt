@@ -6,11 +6,9 @@ use Rattle.lanes.proofs.tops.is_pinned.Tie as tie
 use Rattle.lanes.proofs.tops.is_pinned.Reads as reads
 use Rattle.lanes.proofs.tops.is_pinned.Lts as lts
 
--- src/tops.rt:36:20
 add-result : tie.Need-add-result
 add-result c = search needs
 
--- src/tops.rt:32:1
 returns : tie.Need-returns
 returns c = is-pinned (c .args .top) (c .args .a)
 

@@ -11,11 +11,9 @@ use Rattle.lanes.proofs.tops.seen_agree.Lts as lts
 use Rattle.lanes.proofs.sweeps.values_agree.Reads as values-agree-reads
 use Rattle.lanes.proofs.tops.topped_values.Reads as topped-values-reads
 
--- src/tops.rt:145:13
 values-agree-requires : tie.Need-values-agree-requires
 values-agree-requires c κs = search needs
 
--- src/tops.rt:145:13
 returns : tie.Need-returns
 returns c =
     let start = c .before .before .before .before .before .before .before in
@@ -23,11 +21,9 @@ returns c =
     let if2 = c .before .if2 in
     as-numbers (start .args .relation) (now (start .args .values)) (start .args .x) (start .args .y) (λ (k : ℕ). markIn (now (start .args .table)) (start .args .m + k)) (start .args .count) (if1 .taken) (if2 .taken) (c .values-agree .ensures)
 
--- src/tops.rt:148:5
 topped-values-requires : tie.Need-topped-values-requires
 topped-values-requires c κs = search needs
 
--- src/tops.rt:131:1
 returns-2 : tie.Need-returns-2
 returns-2 c = search needs
 

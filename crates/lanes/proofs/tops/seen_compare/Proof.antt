@@ -9,23 +9,18 @@ use Rattle.lanes.proofs.sweeps.numbers_compare.Reads as numbers-compare
 use Rattle.lanes.proofs.tops.is_pinned.Reads as is-pinned-reads
 use Rattle.verdict.proofs.rows.compare_pinned.Reads as compare-pinned-reads
 
--- src/tops.rt:44:9
 is-pinned-requires : tie.Need-is-pinned-requires
 is-pinned-requires c κs = search needs
 
--- src/tops.rt:45:9
 is-pinned-requires-2 : tie.Need-is-pinned-requires-2
 is-pinned-requires-2 c κs = search needs
 
--- src/tops.rt:46:13
 compare-pinned-requires : tie.Need-compare-pinned-requires
 compare-pinned-requires c κs = search needs
 
--- src/tops.rt:46:60
 numbers-compare-requires : tie.Need-numbers-compare-requires
 numbers-compare-requires c κs = search needs
 
--- src/tops.rt:40:1
 returns : tie.Need-returns
 returns c =
     let start = c .before .before .before .before in

@@ -25,52 +25,44 @@ Inv-loop values drifts relation x y table m count all₀ k₀ all k = (k ≤ cou
 abbrev μ-loop : tie.MeasureT-loop
 μ-loop values drifts relation x y table m count all₀ k₀ all k = count - k
 
--- src/tops.rt:119:5
 loop-holds : tie.Need-loop-holds Inv-loop μ-loop
 loop-holds c = (omega arith, sweep-first _)
 
--- src/tops.rt:120:13
 number-requires : tie.Need-number-requires Inv-loop μ-loop
 number-requires c κs =
     let start = c .before .before .before .before .before in
     (reaches-row _ (start .args .x) _ _ (start .pre .0 .left) (c .loop-test .taken), start .pre .0 .few)
 
--- src/tops.rt:121:13
 drift-requires : tie.Need-drift-requires Inv-loop μ-loop
 drift-requires c κs =
     let start = c .before .before .before .before .before .before in
     let loop-test = c .before .loop-test in
     (reaches-row _ (start .args .x) _ _ (start .pre .1 .left) (loop-test .taken), start .pre .1 .few)
 
--- src/tops.rt:122:13
 number-requires-2 : tie.Need-number-requires-2 Inv-loop μ-loop
 number-requires-2 c κs =
     let start = c .before .before .before .before .before .before .before in
     let loop-test = c .before .before .loop-test in
     (reaches-row _ (start .args .y) _ _ (start .pre .0 .right) (loop-test .taken), start .pre .0 .few)
 
--- src/tops.rt:123:13
 drift-requires-2 : tie.Need-drift-requires-2 Inv-loop μ-loop
 drift-requires-2 c κs =
     let start = c .before .before .before .before .before .before .before .before in
     let loop-test = c .before .before .before .loop-test in
     (reaches-row _ (start .args .y) _ _ (start .pre .1 .right) (loop-test .taken), start .pre .1 .few)
 
--- src/tops.rt:124:50
 add-under-agrees : tie.Need-add-under-agrees Inv-loop μ-loop
 add-under-agrees c =
     let start = c .before .before .before .before .before .before .before .before .before in
     let loop-test = c .before .before .before .before .loop-test in
     let there = start .pre .2 .there in let few = start .pre .2 .few in omega (arith, loop-test .taken)
 
--- src/tops.rt:124:44
 shared-slice-read-under-agrees : tie.Need-shared-slice-read-under-agrees Inv-loop μ-loop
 shared-slice-read-under-agrees c =
     let start = c .before .before .before .before .before .before .before .before .before .before in
     let loop-test = c .before .before .before .before .before .loop-test in
     let there = start .pre .2 .there in omega (arith, loop-test .taken)
 
--- src/tops.rt:124:21
 under-agrees-requires : tie.Need-under-agrees-requires Inv-loop μ-loop
 under-agrees-requires c κs =
     let start = c .before .before .before .before .before .before .before .before .before .before in
@@ -78,18 +70,15 @@ under-agrees-requires c κs =
     let number2 = c .before .before .number2 in
     (start .pre .3, number .ensures .1, start .pre .4, number2 .ensures .1)
 
--- src/tops.rt:125:9
 add-k : tie.Need-add-k Inv-loop μ-loop
 add-k c =
     let start = c .before .before .before .before .before .before .before .before .before .before .before in
     let loop-test = c .before .before .before .before .before .before .loop-test in
     let there = start .pre .2 .there in let few = start .pre .2 .few in omega (arith, loop-test .taken)
 
--- src/tops.rt:119:5
 loop-less : tie.Need-loop-less Inv-loop μ-loop
 loop-less c = omega arith
 
--- src/tops.rt:119:5
 loop-again : tie.Need-loop-again Inv-loop μ-loop
 loop-again c =
     let loop = c .before .before .before .before .before .before .before .loop in
@@ -100,7 +89,6 @@ loop-again c =
     let drift2 = c .before .before .drift2 in
     (omega arith, sweep-next _ _ (loop .inv .1) (c .under-agrees .ensures ∙ ap₂ (λ (p q : Line). verdictAgrees (judgeUnder (start .args .relation) (pos (start .args .x .top)) p (pos (start .args .y .top)) q) (markIn (now (start .args .table)) (start .args .m + loop .k))) (line-is (number .result) (drift .result) (number .ensures .0) (drift .ensures)) (line-is (number2 .result) (drift2 .result) (number2 .ensures .0) (drift2 .ensures))))
 
--- src/tops.rt:104:1
 returns : tie.Need-returns Inv-loop μ-loop
 returns c =
     let loop = c .before .loop in

@@ -25,59 +25,49 @@ Inv-loop values relation x y table m count all₀ k₀ all k = (k ≤ count) × 
 abbrev μ-loop : tie.MeasureT-loop
 μ-loop values relation x y table m count all₀ k₀ all k = count - k
 
--- src/tops.rt:64:5
 loop-holds : tie.Need-loop-holds Inv-loop μ-loop
 loop-holds c = (omega arith, sweep-first _)
 
--- src/tops.rt:65:13
 number-requires : tie.Need-number-requires Inv-loop μ-loop
 number-requires c κs =
     let start = c .before .before .before .before in
     (reaches-row _ (start .args .x) _ _ (start .pre .0 .left) (c .loop-test .taken), start .pre .0 .few)
 
--- src/tops.rt:66:13
 number-requires-2 : tie.Need-number-requires-2 Inv-loop μ-loop
 number-requires-2 c κs =
     let start = c .before .before .before .before .before in
     let loop-test = c .before .loop-test in
     (reaches-row _ (start .args .y) _ _ (start .pre .0 .right) (loop-test .taken), start .pre .0 .few)
 
--- src/tops.rt:69:23
 add-agree : tie.Need-add-agree Inv-loop μ-loop
 add-agree c =
     let start = c .before .before .before .before .before .before in
     let loop-test = c .before .before .loop-test in
     let there = start .pre .1 .there in let few = start .pre .1 .few in omega (arith, loop-test .taken)
 
--- src/tops.rt:69:17
 shared-slice-read-agree : tie.Need-shared-slice-read-agree Inv-loop μ-loop
 shared-slice-read-agree c =
     let start = c .before .before .before .before .before .before .before in
     let loop-test = c .before .before .before .loop-test in
     let there = start .pre .1 .there in omega (arith, loop-test .taken)
 
--- src/tops.rt:70:17
 seen-compare-requires : tie.Need-seen-compare-requires Inv-loop μ-loop
 seen-compare-requires c κs =
     let start = c .before .before .before .before .before .before .before in
     (start .pre .2, start .pre .3)
 
--- src/tops.rt:68:15
 agree-requires : tie.Need-agree-requires Inv-loop μ-loop
 agree-requires c κs = tt
 
--- src/tops.rt:72:9
 add-k : tie.Need-add-k Inv-loop μ-loop
 add-k c =
     let start = c .before .before .before .before .before .before .before .before .before in
     let loop-test = c .before .before .before .before .before .loop-test in
     let there = start .pre .1 .there in let few = start .pre .1 .few in omega (arith, loop-test .taken)
 
--- src/tops.rt:64:5
 loop-less : tie.Need-loop-less Inv-loop μ-loop
 loop-less c = omega arith
 
--- src/tops.rt:64:5
 loop-again : tie.Need-loop-again Inv-loop μ-loop
 loop-again c =
     let loop = c .before .before .before .before .before .before .loop in
@@ -87,7 +77,6 @@ loop-again c =
     let number2 = c .before .before .before .number2 in
     (omega arith, sweep-next _ _ (loop .inv .1) (c .agree .ensures ∙ ap (Bool·beq (markIn (now (start .args .table)) (start .args .m + loop .k))) (seen-compare .ensures ∙ ap₂ (λ (p q : ℤ). tested (start .args .relation) (under (pos (start .args .x .top)) p) (under (pos (start .args .y .top)) q)) (number .ensures .0) (number2 .ensures .0))))
 
--- src/tops.rt:50:1
 returns : tie.Need-returns Inv-loop μ-loop
 returns c =
     let loop = c .before .loop in

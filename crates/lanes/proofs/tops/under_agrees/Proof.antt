@@ -13,23 +13,18 @@ use Rattle.lanes.proofs.tops.under_agrees.Lts as lts
 use Rattle.lanes.proofs.sweeps.verdict_agrees.Reads as verdict-agrees-reads
 use Rattle.verdict.proofs.tops.decide_under.Reads as decide-under-reads
 
--- src/tops.rt:93:13
 add-t11 : tie.Need-add-t11
 add-t11 c = search needs
 
--- src/tops.rt:97:13
 add-t11-2 : tie.Need-add-t11-2
 add-t11-2 c = search needs
 
--- src/tops.rt:100:20
 decide-under-requires : tie.Need-decide-under-requires
 decide-under-requires c κs = search needs
 
--- src/tops.rt:100:5
 verdict-agrees-requires : tie.Need-verdict-agrees-requires
 verdict-agrees-requires c κs = search needs
 
--- src/tops.rt:79:1
 returns : tie.Need-returns
 returns c =
     let start = c .before .before in

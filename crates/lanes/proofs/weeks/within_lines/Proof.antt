@@ -24,45 +24,37 @@ Inv-loop values drifts minutes x y table m count all₀ k₀ all k = (k ≤ coun
 abbrev μ-loop : tie.MeasureT-loop
 μ-loop values drifts minutes x y table m count all₀ k₀ all k = count - k
 
--- src/weeks.rt:173:5
 loop-holds : tie.Need-loop-holds Inv-loop μ-loop
 loop-holds c = (omega arith, sweep-first _)
 
--- src/weeks.rt:174:13
 drift-requires : tie.Need-drift-requires Inv-loop μ-loop
 drift-requires c κs =
     let start = c .before .before .before .before .before in
     (reaches-row _ (start .args .x) _ _ (start .pre .1 .left) (c .loop-test .taken), start .pre .1 .few)
 
--- src/weeks.rt:175:13
 drift-requires-2 : tie.Need-drift-requires-2 Inv-loop μ-loop
 drift-requires-2 c κs =
     let start = c .before .before .before .before .before .before in
     (reaches-row _ (start .args .y) _ _ (start .pre .1 .right) (c .before .loop-test .taken), start .pre .1 .few)
 
--- src/weeks.rt:176:13
 stretch-end-requires : tie.Need-stretch-end-requires Inv-loop μ-loop
 stretch-end-requires c κs =
     let start = c .before .before .before .before .before .before .before in
     let loop-test = c .before .before .loop-test in
     (start .pre .1, loop-test .taken, c .before .drift .ensures, c .drift2 .ensures)
 
--- src/weeks.rt:177:13
 spacing-of-requires : tie.Need-spacing-of-requires Inv-loop μ-loop
 spacing-of-requires c κs = tt
 
--- src/weeks.rt:178:21
 within-stretch-requires : tie.Need-within-stretch-requires Inv-loop μ-loop
 within-stretch-requires c κs =
     let start = c .before .before .before .before .before .before .before .before .before in
     let stretch-end = c .before .stretch-end in
     let on = stretch-end .ensures .1 .on in (lanes-to _ (stretch-end .ensures .0) (start .pre .0), marks-to _ (stretch-end .ensures .0) (start .pre .2), omega arith, spaces-own (c .spacing-of .ensures))
 
--- src/weeks.rt:173:5
 loop-less : tie.Need-loop-less Inv-loop μ-loop
 loop-less c = let on = c .before .before .stretch-end .ensures .1 .on in omega (arith, c .before .before .stretch-end .ensures .0)
 
--- src/weeks.rt:173:5
 loop-again : tie.Need-loop-again Inv-loop μ-loop
 loop-again c =
     let start = c .before .before .before .before .before .before .before .before .before .before in
@@ -70,7 +62,6 @@ loop-again c =
     let stretch-end = c .before .before .stretch-end in
     let on = stretch-end .ensures .1 .on in (stretch-end .ensures .0, swept-on _ _ _ (omega arith) (loop .inv .1) (stretch-says (now (start .args .values)) (now (start .args .drifts)) (start .args .minutes) (start .args .x) (start .args .y) (now (start .args .table)) (start .args .m) _ _ (stretch-end .ensures .1) (c .before .spacing-of .ensures) (c .within-stretch .ensures)))
 
--- src/weeks.rt:158:1
 returns : tie.Need-returns Inv-loop μ-loop
 returns c = sweep-end _ _ _ (c .before .loop .inv .0) (c .loop-test .left) (c .before .loop .inv .1)
 

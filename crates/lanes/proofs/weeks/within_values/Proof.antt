@@ -10,17 +10,14 @@ use Rattle.lanes.proofs.weeks.within_values.Lts as lts
 use Rattle.lanes.proofs.weeks.spacing_of.Reads as spacing-of-reads
 use Rattle.lanes.proofs.weeks.within_stretch.Reads as within-stretch-reads
 
--- src/weeks.rt:137:9
 spacing-of-requires : tie.Need-spacing-of-requires
 spacing-of-requires c κs = search needs
 
--- src/weeks.rt:138:5
 within-stretch-requires : tie.Need-within-stretch-requires
 within-stretch-requires c κs =
     let start = c .before .before .before in
     (start .pre .0, start .pre .1, omega arith, spaces-own (c .spacing-of .ensures))
 
--- src/weeks.rt:125:1
 returns : tie.Need-returns
 returns c =
     let start = c .before .before .before .before in

@@ -21,39 +21,31 @@ Inv-loop rule plan values table₀ n sizes i₀ table i = (i ≤ n) × (length t
 abbrev μ-loop : tie.MeasureT-loop
 μ-loop rule plan values table₀ n sizes i₀ table i = n - i
 
--- src/guesses.rt:25:5
 loop-holds : tie.Need-loop-holds Inv-loop μ-loop
 loop-holds c = (omega arith, refl)
 
--- src/guesses.rt:26:13
 take-requires : tie.Need-take-requires Inv-loop μ-loop
 take-requires c κs = search needs
 
--- src/guesses.rt:27:25
 enum-known-taken : tie.Need-enum-known-taken Inv-loop μ-loop
 enum-known-taken c = search needs
 
--- src/guesses.rt:28:13
 enum-told : tie.Need-enum-told Inv-loop μ-loop
 enum-told c = search needs
 
--- src/guesses.rt:28:13
 same-length : tie.Need-same-length Inv-loop μ-loop
 same-length c =
     let loop = c .before .before .before .before .loop in
     loop .inv .1
 
--- src/guesses.rt:28:13
 returns : tie.Need-returns Inv-loop μ-loop
 returns c =
     let loop = c .before .before .before .before .loop in
     loop .inv .1
 
--- src/guesses.rt:30:13
 view-of-requires : tie.Need-view-of-requires Inv-loop μ-loop
 view-of-requires c κs = search needs
 
--- src/guesses.rt:31:9
 guess-part-requires : tie.Need-guess-part-requires Inv-loop μ-loop
 guess-part-requires c κs =
     let start = c .before .before .before .before .before .before .before .before .before .before .before .before in
@@ -64,30 +56,25 @@ guess-part-requires c κs =
     let view-of = c .before .view-of in
     (start .pre .0 .fits, start .pre .1, as-long (loop .inv .1) (start .pre .2), loop-test .taken, taken-fitting (now (start .args .rule)) (now (start .args .plan)) (start .pre .0) _ (loop-test .taken) (take .ensures .isTake) (taken .given .1) (view-of .ensures))
 
--- src/guesses.rt:32:9
 add-i : tie.Need-add-i Inv-loop μ-loop
 add-i c =
     let start = c .before .before .before .before .before .before .before .before .before .before .before .before .before .before .before in
     omega (arith, few-there (now (start .args .rule)) (now (start .args .plan)) (start .pre .0))
 
--- src/guesses.rt:25:5
 loop-less : tie.Need-loop-less Inv-loop μ-loop
 loop-less c = omega arith
 
--- src/guesses.rt:25:5
 loop-again : tie.Need-loop-again Inv-loop μ-loop
 loop-again c =
     let guess-part = c .before .before .guess-part in
     let loop = c .before .before .before .before .before .before .before .before .before .before .loop in
     (omega arith, guess-part .ensures ∙ loop .inv .1)
 
--- src/guesses.rt:21:1
 same-length-2 : tie.Need-same-length-2 Inv-loop μ-loop
 same-length-2 c =
     let loop = c .before .loop in
     loop .inv .1
 
--- src/guesses.rt:21:1
 returns-2 : tie.Need-returns-2 Inv-loop μ-loop
 returns-2 c =
     let loop = c .before .loop in

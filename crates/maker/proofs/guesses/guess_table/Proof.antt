@@ -16,20 +16,17 @@ use Rattle.maker.proofs.guesses.guess_marks.Reads as guess-marks-reads
 use Rattle.maker.proofs.guesses.put_witnesses.Reads as put-witnesses-reads
 use Rattle.table.proofs.fills.put_number.Reads as put-number-reads
 
--- src/guesses.rt:79:5
 guess-marks-requires : tie.Need-guess-marks-requires
 guess-marks-requires c κs =
     let start = c .before .before .before .before in
     (start .pre .0, start .pre .1)
 
--- src/guesses.rt:80:5
 put-witnesses-requires : tie.Need-put-witnesses-requires
 put-witnesses-requires c κs =
     let start = c .before .before .before .before .before .before .before .before in
     let guess-marks = c .before .before .before .guess-marks in
     (start .pre .0, as-long (guess-marks .ensures) (start .pre .1))
 
--- src/guesses.rt:81:5
 put-number-requires : tie.Need-put-number-requires
 put-number-requires c κs =
     let put-witnesses = c .before .before .before .put-witnesses in
@@ -40,13 +37,11 @@ put-number-requires c κs =
     let whole = sized .whole in
     (omega arith, at-most _ _ sized .1, omega arith)
 
--- src/guesses.rt:82:26
 add-put-number : tie.Need-add-put-number
 add-put-number c =
     let start = c .before .before .before .before .before .before .before .before .before .before .before .before .before .before .before .before .before in
     omega (arith, start .pre .0 .fits .few-rows)
 
--- src/guesses.rt:82:5
 put-number-requires-2 : tie.Need-put-number-requires-2
 put-number-requires-2 c κs =
     let put-number = c .before .before .before .before .put-number in
@@ -58,13 +53,11 @@ put-number-requires-2 c κs =
     let whole = sized .whole in
     (omega arith, at-most _ _ sized .1, omega arith)
 
--- src/guesses.rt:83:5
 check-marks-requires : tie.Need-check-marks-requires
 check-marks-requires c κs =
     let start = c .before .before .before .before .before .before .before .before .before .before .before .before .before .before .before .before .before .before .before .before .before in
     start .pre .0
 
--- src/guesses.rt:75:1
 same-length : tie.Need-same-length
 same-length c =
     let put-number2 = c .before .before .before .before .put-number2 in
@@ -73,7 +66,6 @@ same-length c =
     let guess-marks = c .before .before .before .before .before .before .before .before .before .before .before .before .before .before .before .before .before .guess-marks in
     put-number2 .ensures .long ∙ put-number .ensures .long ∙ put-witnesses .ensures .long ∙ guess-marks .ensures
 
--- src/guesses.rt:75:1
 returns : tie.Need-returns
 returns c =
     let put-number2 = c .before .before .before .before .put-number2 in

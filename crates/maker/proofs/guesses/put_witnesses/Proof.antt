@@ -25,35 +25,28 @@ Inv-loop rule plan table₀ n sizes w i₀ table i = (i ≤ n) × Witnessed rule
 abbrev μ-loop : tie.MeasureT-loop
 μ-loop rule plan table₀ n sizes w i₀ table i = n - i
 
--- src/guesses.rt:57:13
 add-w : tie.Need-add-w Inv-loop μ-loop
 add-w c =
     let start = c .before .before .before .before in
     omega (arith, start .pre .0 .fits .few-rows)
 
--- src/guesses.rt:59:5
 loop-holds : tie.Need-loop-holds Inv-loop μ-loop
 loop-holds c = (omega arith, witnessed-none)
 
--- src/guesses.rt:60:13
 take-requires : tie.Need-take-requires Inv-loop μ-loop
 take-requires c κs = search needs
 
--- src/guesses.rt:61:25
 enum-known-taken : tie.Need-enum-known-taken Inv-loop μ-loop
 enum-known-taken c = search needs
 
--- src/guesses.rt:62:13
 enum-told : tie.Need-enum-told Inv-loop μ-loop
 enum-told c = search needs
 
--- src/guesses.rt:62:13
 same-length : tie.Need-same-length Inv-loop μ-loop
 same-length c =
     let loop = c .before .before .before .before .loop in
     loop .inv .1 .long
 
--- src/guesses.rt:62:13
 returns : tie.Need-returns Inv-loop μ-loop
 returns c =
     let start = c .before .before .before .before .before .before .before .before .before in
@@ -62,11 +55,9 @@ returns c =
     let enum-told = c .enum-told in
     absurd (always-taken (now (start .args .rule)) (now (start .args .plan)) (start .pre .0) _ (loop-test .taken) (take .ensures .isTake) (enum-told .given .1))
 
--- src/guesses.rt:64:13
 view-of-requires : tie.Need-view-of-requires Inv-loop μ-loop
 view-of-requires c κs = search needs
 
--- src/guesses.rt:65:13
 lowest-witness-requires : tie.Need-lowest-witness-requires Inv-loop μ-loop
 lowest-witness-requires c κs =
     let start = c .before .before .before .before .before .before .before .before .before .before .before .before in
@@ -77,7 +68,6 @@ lowest-witness-requires c κs =
     let view-of = c .before .view-of in
     (start .pre .0 .fits, as-long (loop .inv .1 .long) (start .pre .1), loop-test .taken, taken-fitting (now (start .args .rule)) (now (start .args .plan)) (start .pre .0) _ (loop-test .taken) (take .ensures .isTake) (taken .given .1) (view-of .ensures))
 
--- src/guesses.rt:66:31
 mul-put-number : tie.Need-mul-put-number Inv-loop μ-loop
 mul-put-number c =
     let start = c .before .before .before .before .before .before .before .before .before .before .before .before .before .before in
@@ -85,7 +75,6 @@ mul-put-number c =
     let few = few-there (now (start .args .rule)) (now (start .args .plan)) (start .pre .0) in
     omega (arith, area _ _ (few .0) (few .1), loop-test .taken)
 
--- src/guesses.rt:66:27
 add-put-number : tie.Need-add-put-number Inv-loop μ-loop
 add-put-number c =
     let start = c .before .before .before .before .before .before .before .before .before .before .before .before .before .before in
@@ -93,7 +82,6 @@ add-put-number c =
     let few = few-there (now (start .args .rule)) (now (start .args .plan)) (start .pre .0) in
     omega (arith, area _ _ (few .0) (few .1), loop-test .taken)
 
--- src/guesses.rt:66:39
 mul-put-number-2 : tie.Need-mul-put-number-2 Inv-loop μ-loop
 mul-put-number-2 c =
     let start = c .before .before .before .before .before .before .before .before .before .before .before .before .before .before in
@@ -101,7 +89,6 @@ mul-put-number-2 c =
     let few = few-there (now (start .args .rule)) (now (start .args .plan)) (start .pre .0) in
     omega (arith, area _ _ (few .0) (few .1), loop-test .taken)
 
--- src/guesses.rt:66:27
 add-put-number-2 : tie.Need-add-put-number-2 Inv-loop μ-loop
 add-put-number-2 c =
     let start = c .before .before .before .before .before .before .before .before .before .before .before .before .before .before in
@@ -109,7 +96,6 @@ add-put-number-2 c =
     let few = few-there (now (start .args .rule)) (now (start .args .plan)) (start .pre .0) in
     omega (arith, area _ _ (few .0) (few .1), loop-test .taken)
 
--- src/guesses.rt:66:9
 put-number-requires : tie.Need-put-number-requires Inv-loop μ-loop
 put-number-requires c κs =
     let start = c .before .before .before .before .before .before .before .before .before .before .before .before .before .before in
@@ -119,17 +105,14 @@ put-number-requires c κs =
     let room = witness-room (start .args .n) _ (witnessed-sized (loop .inv .1) (start .pre .1)) _ (loop-test .taken) in
     (room .0, room .1, lowest-witness .ensures .1)
 
--- src/guesses.rt:67:9
 add-i : tie.Need-add-i Inv-loop μ-loop
 add-i c =
     let start = c .before .before .before .before .before .before .before .before .before .before .before .before .before .before .before .before .before in
     omega (arith, few-there (now (start .args .rule)) (now (start .args .plan)) (start .pre .0))
 
--- src/guesses.rt:59:5
 loop-less : tie.Need-loop-less Inv-loop μ-loop
 loop-less c = omega arith
 
--- src/guesses.rt:59:5
 loop-again : tie.Need-loop-again Inv-loop μ-loop
 loop-again c =
     let start = c .before .before .before .before .before .before .before .before .before .before .before .before .before .before .before .before .before in
@@ -142,13 +125,11 @@ loop-again c =
     let put-number = c .before .before .put-number in
     (omega arith, witnessed-next (now (start .args .rule)) (now (start .args .plan)) (start .pre .0) _ (loop-test .taken) (take .ensures .isTake) (taken .given .1) (view-of .ensures) (loop .inv .1) (lowest-witness .ensures .0) (put-number .ensures))
 
--- src/guesses.rt:53:1
 same-length-2 : tie.Need-same-length-2 Inv-loop μ-loop
 same-length-2 c =
     let loop = c .before .loop in
     loop .inv .1 .long
 
--- src/guesses.rt:53:1
 returns-2 : tie.Need-returns-2 Inv-loop μ-loop
 returns-2 c =
     let loop = c .before .loop in

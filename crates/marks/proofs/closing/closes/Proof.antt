@@ -12,39 +12,30 @@ use Rattle.marks.proofs.closing.truth_on.Reads as truth-on-reads
 use Rattle.marks.proofs.closing.turns_round.Reads as turns-round-reads
 use Rattle.marks.proofs.operators.beside_of.Reads as beside-of-reads
 
--- src/closing.rt:78:11
 beside-of-requires : tie.Need-beside-of-requires
 beside-of-requires c κs = search needs
 
--- src/closing.rt:79:26
 enum-told : tie.Need-enum-told
 enum-told c = search needs
 
--- src/closing.rt:80:24
 enum-known-first : tie.Need-enum-known-first
 enum-known-first c = search needs
 
--- src/closing.rt:82:21
 add-w : tie.Need-add-w
 add-w c = search needs
 
--- src/closing.rt:83:17
 truth-on-requires : tie.Need-truth-on-requires
 truth-on-requires c κs = search needs
 
--- src/closing.rt:84:62
 sub-truth-on : tie.Need-sub-truth-on
 sub-truth-on c = search needs
 
--- src/closing.rt:84:17
 truth-on-requires-2 : tie.Need-truth-on-requires-2
 truth-on-requires-2 c κs = search needs
 
--- src/closing.rt:85:13
 turns-round-requires : tie.Need-turns-round-requires
 turns-round-requires c κs = search needs
 
--- src/closing.rt:74:1
 returns : tie.Need-returns
 returns c =
     let start = c .before .before .before .before in
@@ -52,7 +43,6 @@ returns c =
     let enum-told = c .enum-told in
     law.ahead-closes (start .args .sizes .start) (start .args .sizes .cycle) (marked (allRows (start .args .sizes)) (now (start .args .table))) (start .args .operator) (sym (beside-of .ensures) ∙ enum-told .given .1)
 
--- src/closing.rt:74:1
 returns-2 : tie.Need-returns-2
 returns-2 c =
     let start = c .before .before .before .before .before .before .before .before .before in

@@ -12,39 +12,30 @@ use Rattle.marks.proofs.closing.turns_round.Reads as turns-round-reads
 use Rattle.marks.proofs.operators.beside_of.Reads as beside-of-reads
 use Rattle.table.proofs.bytes.mark_at.Reads as mark-at-reads
 
--- src/closing.rt:95:11
 beside-of-requires : tie.Need-beside-of-requires
 beside-of-requires c κs = search needs
 
--- src/closing.rt:96:26
 enum-told : tie.Need-enum-told
 enum-told c = search needs
 
--- src/closing.rt:98:17
 enum-told-2 : tie.Need-enum-told-2
 enum-told-2 c = search needs
 
--- src/closing.rt:99:21
 add-w : tie.Need-add-w
 add-w c = search needs
 
--- src/closing.rt:100:17
 mark-at-requires : tie.Need-mark-at-requires
 mark-at-requires c κs = search needs
 
--- src/closing.rt:101:47
 sub-mark-at : tie.Need-sub-mark-at
 sub-mark-at c = search needs
 
--- src/closing.rt:101:17
 mark-at-requires-2 : tie.Need-mark-at-requires-2
 mark-at-requires-2 c κs = search needs
 
--- src/closing.rt:102:13
 turns-round-requires : tie.Need-turns-round-requires
 turns-round-requires c κs = search needs
 
--- src/closing.rt:91:1
 returns : tie.Need-returns
 returns c =
     let start = c .before .before .before .before in
@@ -52,7 +43,6 @@ returns c =
     let enum-told = c .enum-told in
     law.ahead-closes (start .args .sizes .start) (start .args .sizes .cycle) (marked (allRows (start .args .sizes)) (now (start .args .table))) (start .args .operator) (sym (beside-of .ensures) ∙ enum-told .given .1)
 
--- src/closing.rt:91:1
 returns-2 : tie.Need-returns-2
 returns-2 c =
     let start = c .before .before .before .before .before .before .before .before in

@@ -18,43 +18,36 @@ Inv-loop table n w operator first row truth₀ at₀ truth at = (at ≤ row) × 
 abbrev μ-loop : tie.MeasureT-loop
 μ-loop table n w operator first row truth₀ at₀ truth at = row - at
 
--- src/closing.rt:54:9
 step-on-requires : tie.Need-step-on-requires Inv-loop μ-loop
 step-on-requires c κs = (c .before .pre .0, c .before .pre .1, omega (arith, c .before .pre .2))
 
--- src/closing.rt:56:5
 loop-holds : tie.Need-loop-holds Inv-loop μ-loop
 loop-holds c =
     let start = c .before .before in
     let step-on = c .step-on in
     (omega arith, law.first-truth (marked (start .args .w) (now (start .args .table))) (start .args .operator) (start .args .first) (step-on .ensures))
 
--- src/closing.rt:57:13
 watched-truth-requires : tie.Need-watched-truth-requires Inv-loop μ-loop
 watched-truth-requires c κs =
     let start = c .before .before .before .before in
     let loop-test = c .loop-test in
     (start .pre .0, start .pre .1, omega (arith, start .pre .2, loop-test .taken))
 
--- src/closing.rt:58:9
 add-at : tie.Need-add-at Inv-loop μ-loop
 add-at c =
     let start = c .before .before .before .before .before in
     let loop-test = c .before .loop-test in
     omega (arith, start .pre .2, start .pre .0 .few-rows, loop-test .taken)
 
--- src/closing.rt:59:9
 step-on-requires-2 : tie.Need-step-on-requires-2 Inv-loop μ-loop
 step-on-requires-2 c κs =
     let start = c .before .before .before .before .before in
     let loop-test = c .before .loop-test in
     (start .pre .0, start .pre .1, omega (arith, start .pre .2, loop-test .taken))
 
--- src/closing.rt:56:5
 loop-less : tie.Need-loop-less Inv-loop μ-loop
 loop-less c = omega (arith, c .before .before .loop-test .taken)
 
--- src/closing.rt:56:5
 loop-again : tie.Need-loop-again Inv-loop μ-loop
 loop-again c =
     let start = c .before .before .before .before .before .before in
@@ -64,7 +57,6 @@ loop-again c =
     let step-on2 = c .step-on2 in
     (omega (arith, loop-test .taken), law.next-truth (marked (start .args .w) (now (start .args .table))) (start .args .operator) (start .args .first) (loop .at) (loop .inv .1) (watched-truth .ensures) (step-on2 .ensures))
 
--- src/closing.rt:42:1
 returns : tie.Need-returns Inv-loop μ-loop
 returns c =
     let start = c .before .before .before .before in

@@ -11,27 +11,21 @@ use Rattle.marks.proofs.closing.watched_truth.Reads as watched-truth-re
 use Rattle.marks.proofs.equations.step_on.Reads as step-on-reads
 use Rattle.table.proofs.sweeps.agree.Reads as agree-reads
 
--- src/closing.rt:68:13
 add-w : tie.Need-add-w
 add-w c = search needs
 
--- src/closing.rt:69:60
 sub-watched-truth : tie.Need-sub-watched-truth
 sub-watched-truth c = search needs
 
--- src/closing.rt:69:9
 watched-truth-requires : tie.Need-watched-truth-requires
 watched-truth-requires c κs = search needs
 
--- src/closing.rt:70:18
 step-on-requires : tie.Need-step-on-requires
 step-on-requires c κs = search needs
 
--- src/closing.rt:70:5
 agree-requires : tie.Need-agree-requires
 agree-requires c κs = search needs
 
--- src/closing.rt:56:1
 returns : tie.Need-returns
 returns c =
     let start = c .before .before .before .before .before in

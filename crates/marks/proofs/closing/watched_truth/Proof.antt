@@ -8,22 +8,18 @@ use Rattle.marks.proofs.closing.watched_truth.Reads as reads
 use Rattle.marks.proofs.closing.watched_truth.Lts as lts
 use Rattle.table.proofs.bytes.mark_at.Reads as mark-at-reads
 
--- src/closing.rt:36:26
 enum-known-operator : tie.Need-enum-known-operator
 enum-known-operator c = search needs
 
--- src/closing.rt:36:32
 mark-at-requires : tie.Need-mark-at-requires
 mark-at-requires c κs =
     let start = c .before .before .before .before in
     let operator = c .before .operator in
     (start .pre .0, law.one-named (start .args .n) (start .pre .1) (operator .given .1), start .pre .2)
 
--- src/closing.rt:37:35
 enum-told : tie.Need-enum-told
 enum-told c = search needs
 
--- src/closing.rt:24:1
 returns : tie.Need-returns
 returns c =
     let start = c .before .before .before .before .before in
@@ -31,7 +27,6 @@ returns c =
     let mark-at = c .mark-at in
     law.sees-named (marked (start .args .w) (now (start .args .table))) (start .args .own) (start .args .row) (operator .given .1) (mark-at .ensures)
 
--- src/closing.rt:24:1
 returns-2 : tie.Need-returns-2
 returns-2 c = search needs
 

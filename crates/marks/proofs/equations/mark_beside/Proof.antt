@@ -10,35 +10,27 @@ use Rattle.marks.proofs.equations.mark_beside.Lts as lts
 use Rattle.marks.proofs.equations.row_after.Reads as row-after-reads
 use Rattle.table.proofs.bytes.mark_at.Reads as mark-at-reads
 
--- src/equations.rt:72:13
 add-w : tie.Need-add-w
 add-w c = search needs
 
--- src/equations.rt:74:53
 enum-told : tie.Need-enum-told
 enum-told c = search needs
 
--- src/equations.rt:74:53
 row-after-requires : tie.Need-row-after-requires
 row-after-requires c κs = search needs
 
--- src/equations.rt:74:26
 mark-at-requires : tie.Need-mark-at-requires
 mark-at-requires c κs = search needs
 
--- src/equations.rt:75:24
 enum-known-side : tie.Need-enum-known-side
 enum-known-side c = search needs
 
--- src/equations.rt:79:44
 sub-mark-at : tie.Need-sub-mark-at
 sub-mark-at c = search needs
 
--- src/equations.rt:79:17
 mark-at-requires-2 : tie.Need-mark-at-requires-2
 mark-at-requires-2 c κs = search needs
 
--- src/equations.rt:61:1
 returns : tie.Need-returns
 returns c =
     let start = c .before .before .before .before .before .before in
@@ -47,7 +39,6 @@ returns c =
     let mark-at = c .mark-at in
     law.beside-after (start .args .sizes .start) (start .args .sizes .cycle) (marked (allRows (start .args .sizes)) (now (start .args .table)) (start .args .part)) (start .args .row) (enum-told .given .1) (row-after .ensures .0) (mark-at .ensures)
 
--- src/equations.rt:61:1
 returns-2 : tie.Need-returns-2
 returns-2 c =
     let start = c .before .before .before .before .before .before in
@@ -55,7 +46,6 @@ returns-2 c =
     let if1 = c .if1 in
     law.beside-first (start .args .sizes .start) (start .args .sizes .cycle) (marked (allRows (start .args .sizes)) (now (start .args .table)) (start .args .part)) (start .args .row) (side .given .1) (if1 .taken)
 
--- src/equations.rt:61:1
 returns-3 : tie.Need-returns-3
 returns-3 c =
     let start = c .before .before .before .before .before .before .before in

@@ -12,30 +12,24 @@ use Rattle.marks.proofs.equations.step_on.Reads as step-on-reads
 use Rattle.marks.proofs.operators.beside_of.Reads as beside-of-reads
 use Rattle.marks.proofs.operators.watched.Reads as watched-reads
 
--- src/equations.rt:97:13
 add-w : tie.Need-add-w
 add-w c = search needs
 
--- src/equations.rt:98:9
 beside-of-requires : tie.Need-beside-of-requires
 beside-of-requires c κs = search needs
 
--- src/equations.rt:99:53
 watched-requires : tie.Need-watched-requires
 watched-requires c κs = search needs
 
--- src/equations.rt:99:9
 mark-beside-requires : tie.Need-mark-beside-requires
 mark-beside-requires c κs =
     let start = c .before .before .before .before in
     let watched = c .watched in
     (start .pre .0, start .pre .1, law.watched-there (start .args .n) (start .args .operator) (start .pre .3) (start .args .i) (start .pre .2) (watched .ensures), start .pre .4)
 
--- src/equations.rt:100:5
 step-on-requires : tie.Need-step-on-requires
 step-on-requires c κs = search needs
 
--- src/equations.rt:86:1
 returns : tie.Need-returns
 returns c =
     let start = c .before .before .before .before .before .before in

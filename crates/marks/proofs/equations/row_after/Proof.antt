@@ -8,24 +8,19 @@ use Rattle.marks.proofs.equations.row_after.Tie as tie
 use Rattle.marks.proofs.equations.row_after.Reads as reads
 use Rattle.marks.proofs.equations.row_after.Lts as lts
 
--- src/equations.rt:53:15
 add-if1 : tie.Need-add-if1
 add-if1 c = search needs
 
--- src/equations.rt:53:15
 sub-if1 : tie.Need-sub-if1
 sub-if1 c = search needs
 
--- src/equations.rt:56:9
 add-result : tie.Need-add-result
 add-result c = search needs
 
--- src/equations.rt:49:1
 returns : tie.Need-returns
 unfolding last
 returns c = (sym (ap (after (c .before .before .args .sizes .start) (c .before .before .args .sizes .cycle)) (c .if1 .taken) ∙ after-last (c .before .before .args .sizes .start) (c .before .before .args .sizes .cycle)), omega arith)
 
--- src/equations.rt:49:1
 returns-2 : tie.Need-returns-2
 returns-2 c = (sym (after-other (c .before .before .args .sizes .start) (c .before .before .args .sizes .cycle) (c .before .before .args .row) (omega (arith, c .if1 .left))), omega (arith, c .if1 .left))
 

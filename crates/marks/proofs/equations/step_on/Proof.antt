@@ -10,35 +10,27 @@ use Rattle.marks.proofs.operators.mark_one.Reads as mark-one-reads
 use Rattle.marks.proofs.operators.mark_two.Reads as mark-two-reads
 use Rattle.table.proofs.bytes.mark_at.Reads as mark-at-reads
 
--- src/equations.rt:38:23
 enum-known-operator : tie.Need-enum-known-operator
 enum-known-operator c = search needs
 
--- src/equations.rt:38:50
 mark-at-requires : tie.Need-mark-at-requires
 mark-at-requires c κs = (c .before .before .before .before .pre .0, law.one-named (c .before .before .before .before .args .n) (c .before .before .before .before .pre .1) (c .before .operator .given .1), c .before .before .before .before .pre .2)
 
--- src/equations.rt:38:35
 mark-one-requires : tie.Need-mark-one-requires
 mark-one-requires c κs = search needs
 
--- src/equations.rt:39:23
 enum-known-operator-2 : tie.Need-enum-known-operator-2
 enum-known-operator-2 c = search needs
 
--- src/equations.rt:41:13
 mark-at-requires-2 : tie.Need-mark-at-requires-2
 mark-at-requires-2 c κs = (c .before .before .before .before .pre .0, law.two-named (c .before .before .before .before .args .n) (c .before .before .before .before .pre .1) (c .before .operator2 .given .1) .0, c .before .before .before .before .pre .2)
 
--- src/equations.rt:42:13
 mark-at-requires-3 : tie.Need-mark-at-requires-3
 mark-at-requires-3 c κs = (c .before .before .before .before .before .pre .0, law.two-named (c .before .before .before .before .before .args .n) (c .before .before .before .before .before .pre .1) (c .before .before .operator2 .given .1) .1, c .before .before .before .before .before .pre .2)
 
--- src/equations.rt:39:38
 mark-two-requires : tie.Need-mark-two-requires
 mark-two-requires c κs = search needs
 
--- src/equations.rt:26:1
 returns : tie.Need-returns
 returns c =
     let start = c .before .before .before .before .before .before in
@@ -47,7 +39,6 @@ returns c =
     let mark-one = c .mark-one in
     law.step-one (marked (start .args .w) (now (start .args .table))) (start .args .row) (start .args .beside) (operator .given .1) (mark-at .ensures) (mark-one .ensures)
 
--- src/equations.rt:26:1
 returns-2 : tie.Need-returns-2
 returns-2 c =
     let start = c .before .before .before .before .before .before .before in

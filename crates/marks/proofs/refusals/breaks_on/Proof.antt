@@ -12,23 +12,18 @@ use Rattle.marks.proofs.equations.expected_mark.Reads as expected-mark-
 use Rattle.table.proofs.sweeps.agree.Reads as agree-reads
 use Rattle.table.proofs.bytes.mark_at.Reads as mark-at-reads
 
--- src/refusals.rt:93:13
 add-w : tie.Need-add-w
 add-w c = omega (arith, c .before .before .before .pre .0 .fits .few-rows)
 
--- src/refusals.rt:95:9
 mark-at-requires : tie.Need-mark-at-requires
 mark-at-requires c κs = (c .before .before .before .pre .0 .sized, c .before .before .before .pre .0 .present, c .before .before .before .pre .1)
 
--- src/refusals.rt:96:9
 expected-mark-requires : tie.Need-expected-mark-requires
 expected-mark-requires c κs = (c .before .before .before .before .pre .0 .fits, c .before .before .before .before .pre .0 .sized, c .before .before .before .before .pre .0 .present, c .before .before .before .before .pre .0 .part-fits, c .before .before .before .before .pre .1)
 
--- src/refusals.rt:94:6
 agree-requires : tie.Need-agree-requires
 agree-requires c κs = search needs
 
--- src/refusals.rt:81:1
 returns : tie.Need-returns
 returns c =
     let start = c .before .before .before .before .before .before in

@@ -10,37 +10,30 @@ use Rattle.marks.proofs.closing.closes.Reads as closes-reads
 use Rattle.marks.proofs.refusals.check_steady.Reads as check-steady-reads
 use Rattle.marks.proofs.refusals.closing_outcome.Reads as closing-outcome-reads
 
--- src/refusals.rt:137:9
 returns : tie.Need-returns
 returns c = sym (c .before .before .before .pre .1 (c .if1 .taken))
 
--- src/refusals.rt:140:20
 enum-known-view : tie.Need-enum-known-view
 enum-known-view c = search needs
 
--- src/refusals.rt:140:29
 check-steady-requires : tie.Need-check-steady-requires
 check-steady-requires c κs =
     let start = c .before .before .before .before .before .before in
     let view = c .before .view in
     (start .pre .0 .fits, law.atom-there (now (start .args .plan)) (now (start .args .table)) (start .pre .0 .fits) (start .args .i) _ (view .given .1) (start .args .n) (start .pre .0 .part-fits))
 
--- src/refusals.rt:141:24
 enum-known-view-2 : tie.Need-enum-known-view-2
 enum-known-view-2 c = search needs
 
--- src/refusals.rt:141:63
 closes-requires : tie.Need-closes-requires
 closes-requires c κs =
     let start = c .before .before .before .before .before .before in
     let view2 = c .before .view2 in
     (start .pre .0 .sized, start .pre .0 .fits .a-cycle, law.operator-there (now (start .args .plan)) (now (start .args .table)) (start .pre .0 .fits) (start .args .i) _ (view2 .given .1) (start .args .n) (start .pre .0 .part-fits))
 
--- src/refusals.rt:141:37
 closing-outcome-requires : tie.Need-closing-outcome-requires
 closing-outcome-requires c κs = search needs
 
--- src/refusals.rt:124:1
 returns-2 : tie.Need-returns-2
 returns-2 c =
     let start = c .before .before .before .before .before .before .before in
@@ -48,7 +41,6 @@ returns-2 c =
     let check-steady = c .check-steady in
     law.atom-closing (now (start .args .plan)) (now (start .args .table)) (start .pre .0 .fits) (start .args .i) _ (view .given .1) (check-steady .ensures)
 
--- src/refusals.rt:124:1
 returns-3 : tie.Need-returns-3
 returns-3 c =
     let start = c .before .before .before .before .before .before .before .before in

@@ -22,23 +22,18 @@ Inv-loop plan sizes i atom w row₀ row = (sizes .start ≤ row) × (row ≤ w) 
 abbrev μ-loop : tie.MeasureT-loop
 μ-loop plan sizes i atom w row₀ row = w - row
 
--- src/refusals.rt:115:13
 add-w : tie.Need-add-w Inv-loop μ-loop
 add-w c = search needs
 
--- src/refusals.rt:117:5
 loop-holds : tie.Need-loop-holds Inv-loop μ-loop
 loop-holds c = (omega arith, omega arith, steady-starts (now (c .before .before .args .plan)) (now (c .before .before .args .plan)) (c .before .before .pre .0) (c .before .before .args .i) (c .before .before .args .atom))
 
--- src/refusals.rt:118:23
 judge-row-requires : tie.Need-judge-row-requires Inv-loop μ-loop
 judge-row-requires c κs = (c .before .before .before .before .pre .0, c .before .before .before .before .pre .1, c .loop-test .taken)
 
--- src/refusals.rt:118:12
 is-changes-requires : tie.Need-is-changes-requires Inv-loop μ-loop
 is-changes-requires c κs = search needs
 
--- src/refusals.rt:119:13
 returns : tie.Need-returns Inv-loop μ-loop
 returns c =
     let start = c .before .before .before .before .before .before .before in
@@ -49,15 +44,12 @@ returns c =
     let if1 = c .if1 in
     search-stops (λ r. isChanges (verdictOf (now (start .args .plan)) (start .args .atom) r)) _ (Closing (start .args .i)) (loop .row) (loop-test .taken) (sym (ap isChanges (judge-row .ensures .answer)) ∙ sym (is-changes .ensures) ∙ if1 .taken) ∙ sym (loop .inv .2)
 
--- src/refusals.rt:121:9
 add-row : tie.Need-add-row Inv-loop μ-loop
 add-row c = omega (arith, c .before .before .before .before .before .before .before .pre .0 .few-rows)
 
--- src/refusals.rt:117:5
 loop-less : tie.Need-loop-less Inv-loop μ-loop
 loop-less c = omega arith
 
--- src/refusals.rt:117:5
 loop-again : tie.Need-loop-again Inv-loop μ-loop
 loop-again c =
     let start = c .before .before .before .before .before .before .before in
@@ -68,7 +60,6 @@ loop-again c =
     let if1 = c .if1 in
     (omega arith, omega arith, loop .inv .2 ∙ search-on (λ r. isChanges (verdictOf (now (start .args .plan)) (start .args .atom) r)) _ (Closing (start .args .i)) (loop .row) (loop-test .taken) (sym (ap isChanges (judge-row .ensures .answer)) ∙ sym (is-changes .ensures) ∙ if1 .left))
 
--- src/refusals.rt:111:1
 returns-2 : tie.Need-returns-2 Inv-loop μ-loop
 returns-2 c = search-ends (λ r. isChanges (verdictOf (now (c .before .before .before .before .args .plan)) (c .before .before .before .before .args .atom) r)) _ (Closing (c .before .before .before .before .args .i)) (c .before .loop .row) (c .loop-test .left) ∙ sym (c .before .loop .inv .2)
 

@@ -10,11 +10,9 @@ use Rattle.marks.proofs.refusals.check_witness.Reads as reads
 use Rattle.marks.proofs.refusals.check_witness.Lts as lts
 use Rattle.marks.proofs.witness.witness_in_order.Reads as witness-in-order-reads
 
--- src/refusals.rt:163:8
 witness-in-order-requires : tie.Need-witness-in-order-requires
 witness-in-order-requires c κs = search needs
 
--- src/refusals.rt:152:1
 returns : tie.Need-returns
 unfolding unless
 returns c =
@@ -23,7 +21,6 @@ returns c =
     let if1 = c .if1 in
     sym (ap (λ b. unless b (Witness (start .args .i))) (if1 .taken)) ∙ witness-told (now (start .args .plan)) (now (start .args .table)) (start .pre .fits) (start .args .i) (start .args .view) _ (witness-in-order .ensures)
 
--- src/refusals.rt:152:1
 returns-2 : tie.Need-returns-2
 unfolding unless
 returns-2 c =

@@ -6,12 +6,10 @@ use Rattle.marks.proofs.refusals.closing_outcome.Tie as tie
 use Rattle.marks.proofs.refusals.closing_outcome.Reads as reads
 use Rattle.marks.proofs.refusals.closing_outcome.Lts as lts
 
--- src/refusals.rt:109:1
 returns : tie.Need-returns
 unfolding unless
 returns c = sym (ap (λ b. unless b (Closing (c .before .args .i) (c .before .args .sizes .start))) (c .if1 .taken))
 
--- src/refusals.rt:109:1
 returns-2 : tie.Need-returns-2
 unfolding unless
 returns-2 c = sym (ap (λ b. unless b (Closing (c .before .args .i) (c .before .args .sizes .start))) (c .if1 .left))

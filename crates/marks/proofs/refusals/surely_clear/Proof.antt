@@ -11,18 +11,15 @@ use Rattle.lanes.proofs.rows.verdicts_agree.Reads as verdicts-agree-reads
 use Rattle.marks.proofs.stretches.operator_clear.Reads as operator-clear-reads
 use Rattle.verdict.proofs.atoms.comparison_of.Reads as comparison-of-reads
 
--- src/refusals.rt:71:20
 enum-known-view : tie.Need-enum-known-view
 enum-known-view c = search needs
 
--- src/refusals.rt:71:70
 comparison-of-requires : tie.Need-comparison-of-requires
 comparison-of-requires c κs =
     let start = c .before .before .before .before .before .before .before in
     let view = c .before .view in
     (start .args .sizes .channels, law.atom-there (now (start .args .plan)) (now (start .args .table)) (start .pre .0 .fits) (start .args .i) _ (view .given .1) (start .args .n) (start .pre .0 .part-fits))
 
--- src/refusals.rt:71:29
 verdicts-agree-requires : tie.Need-verdicts-agree-requires
 verdicts-agree-requires c κs =
     let start = c .before .before .before .before .before .before .before .before in
@@ -30,18 +27,15 @@ verdicts-agree-requires c κs =
     let comparison-of = c .comparison-of in
     (start .pre .0 .fits, start .pre .2, start .pre .0 .sized, start .pre .0 .present, atom-fit (start .args .sizes) _ (law.atom-there (now (start .args .plan)) (now (start .args .table)) (start .pre .0 .fits) (start .args .i) _ (view .given .1) (start .args .n) (start .pre .0 .part-fits)) (comparison-of .ensures), law.asked (start .args .sizes .channels) _ (law.atom-there (now (start .args .plan)) (now (start .args .table)) (start .pre .0 .fits) (start .args .i) _ (view .given .1) (start .args .n) (start .pre .0 .part-fits)) (comparison-of .ensures))
 
--- src/refusals.rt:72:24
 enum-known-view-2 : tie.Need-enum-known-view-2
 enum-known-view-2 c = search needs
 
--- src/refusals.rt:72:37
 operator-clear-requires : tie.Need-operator-clear-requires
 operator-clear-requires c κs =
     let start = c .before .before .before .before .before .before .before in
     let view2 = c .before .view2 in
     (record { sized = start .pre .0 .sized; a-cycle = start .pre .0 .fits .a-cycle; marks = start .pre .1 }, start .pre .0 .present, law.operator-there (now (start .args .plan)) (now (start .args .table)) (start .pre .0 .fits) (start .args .i) _ (view2 .given .1) (start .args .n) (start .pre .0 .part-fits))
 
--- src/refusals.rt:66:1
 returns : tie.Need-returns
 returns c =
     let start = c .before .before .before .before .before .before .before .before .before in
@@ -50,7 +44,6 @@ returns c =
     let verdicts-agree = c .verdicts-agree in
     law.atom-clear (now (start .args .plan)) (now (start .args .table)) (start .pre .0 .fits) (start .args .i) _ (view .given .1) (start .args .n) (start .pre .0 .part-fits) (comparison-of .ensures) (verdicts-agree .ensures)
 
--- src/refusals.rt:66:1
 returns-2 : tie.Need-returns-2
 returns-2 c =
     let start = c .before .before .before .before .before .before .before .before in

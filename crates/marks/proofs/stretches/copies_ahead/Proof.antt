@@ -9,47 +9,39 @@ use Rattle.marks.proofs.stretches.copies_ahead.Lts as lts
 use Rattle.table.proofs.sweeps.copied.Reads as copied-reads
 use Rattle.table.proofs.sweeps.copies.Reads as copies-reads
 
--- src/stretches.rt:39:16
 add-last : tie.Need-add-last
 add-last c =
     let start = c .before .before in
     let there = start .pre .1 .there in omega arith
 
--- src/stretches.rt:39:16
 sub-last : tie.Need-sub-last
 sub-last c = omega arith
 
--- src/stretches.rt:40:22
 add-copies : tie.Need-add-copies
 add-copies c =
     let start = c .before .before in
     let there = start .pre .2 .there in omega arith
 
--- src/stretches.rt:40:5
 copies-requires : tie.Need-copies-requires
 copies-requires c κs =
     let start = c .before .before in
     (law.but-last (start .args .sizes .start) (start .pre .0) (start .pre .1), law.but-first (start .args .sizes .start) (start .pre .0) (start .pre .2), start .pre .3)
 
--- src/stretches.rt:40:51
 add-copied : tie.Need-add-copied
 add-copied c =
     let start = c .before .before .before in
     let there = start .pre .1 .there in omega arith
 
--- src/stretches.rt:40:61
 add-copied-2 : tie.Need-add-copied-2
 add-copied-2 c =
     let start = c .before .before .before in
     let there = start .pre .2 .there in omega arith
 
--- src/stretches.rt:40:37
 copied-requires : tie.Need-copied-requires
 copied-requires c κs =
     let start = c .before .before .before in
     (law.on-last (start .args .sizes .start) (start .pre .0) (start .pre .1), law.on-start (start .args .sizes .start) (start .pre .0) (start .pre .2))
 
--- src/stretches.rt:34:1
 returns : tie.Need-returns
 returns c =
     let start = c .before .before .before .before in

@@ -11,57 +11,47 @@ use Rattle.table.proofs.sweeps.agree.Reads as agree-reads
 use Rattle.table.proofs.sweeps.copied.Reads as copied-reads
 use Rattle.table.proofs.sweeps.copies.Reads as copies-reads
 
--- src/stretches.rt:49:16
 add-last : tie.Need-add-last
 add-last c =
     let start = c .before .before in
     let there = start .pre .1 .there in omega arith
 
--- src/stretches.rt:49:16
 sub-last : tie.Need-sub-last
 sub-last c = omega arith
 
--- src/stretches.rt:50:11
 shared-slice-read-agree : tie.Need-shared-slice-read-agree
 shared-slice-read-agree c =
     let start = c .before .before .before in
     let there = start .pre .1 .there in omega arith
 
--- src/stretches.rt:50:5
 agree-requires : tie.Need-agree-requires
 agree-requires c κs = search needs
 
--- src/stretches.rt:50:49
 add-copies : tie.Need-add-copies
 add-copies c =
     let start = c .before .before .before .before in
     let there = start .pre .1 .there in omega arith
 
--- src/stretches.rt:50:35
 copies-requires : tie.Need-copies-requires
 copies-requires c κs =
     let start = c .before .before .before .before in
     (law.but-first (start .args .sizes .start) (start .pre .0) (start .pre .1), law.but-last (start .args .sizes .start) (start .pre .0) (start .pre .2), start .pre .3)
 
--- src/stretches.rt:50:81
 add-copied : tie.Need-add-copied
 add-copied c =
     let start = c .before .before .before .before .before in
     let there = start .pre .1 .there in omega arith
 
--- src/stretches.rt:50:88
 add-copied-2 : tie.Need-add-copied-2
 add-copied-2 c =
     let start = c .before .before .before .before .before in
     let there = start .pre .2 .there in omega arith
 
--- src/stretches.rt:50:67
 copied-requires : tie.Need-copied-requires
 copied-requires c κs =
     let start = c .before .before .before .before .before in
     (law.on-start (start .args .sizes .start) (start .pre .0) (start .pre .1), law.on-last (start .args .sizes .start) (start .pre .0) (start .pre .2))
 
--- src/stretches.rt:44:1
 returns : tie.Need-returns
 returns c =
     let start = c .before .before .before .before .before .before in

@@ -11,23 +11,18 @@ use Rattle.marks.proofs.stretches.copies_behind.Reads as copies-behind-
 use Rattle.table.proofs.bytes.place.Reads as place-reads
 use Rattle.table.proofs.sweeps.opposites.Reads as opposites-reads
 
--- src/stretches.rt:96:13
 add-w : tie.Need-add-w
 add-w c = search needs
 
--- src/stretches.rt:97:9
 place-requires : tie.Need-place-requires
 place-requires c κs = search needs
 
--- src/stretches.rt:98:9
 place-requires-2 : tie.Need-place-requires-2
 place-requires-2 c κs = search needs
 
--- src/stretches.rt:100:23
 enum-told : tie.Need-enum-told
 enum-told c = search needs
 
--- src/stretches.rt:100:23
 opposites-requires : tie.Need-opposites-requires
 opposites-requires c κs =
     let start = c .before .before .before .before .before .before in
@@ -35,11 +30,9 @@ opposites-requires c κs =
     let place2 = c .before .before .place2 in
     let there = law.one-there (start .pre .0) (start .args .i) (start .args .a) (start .pre .1) (start .pre .2) (place .ensures) (place2 .ensures) in (there .1, there .2, there .3)
 
--- src/stretches.rt:101:24
 enum-told-2 : tie.Need-enum-told-2
 enum-told-2 c = search needs
 
--- src/stretches.rt:101:24
 copies-ahead-requires : tie.Need-copies-ahead-requires
 copies-ahead-requires c κs =
     let start = c .before .before .before .before .before .before in
@@ -47,11 +40,9 @@ copies-ahead-requires c κs =
     let place2 = c .before .before .place2 in
     law.one-there (start .pre .0) (start .args .i) (start .args .a) (start .pre .1) (start .pre .2) (place .ensures) (place2 .ensures)
 
--- src/stretches.rt:102:29
 enum-told-3 : tie.Need-enum-told-3
 enum-told-3 c = search needs
 
--- src/stretches.rt:102:29
 copies-behind-requires : tie.Need-copies-behind-requires
 copies-behind-requires c κs =
     let start = c .before .before .before .before .before .before in
@@ -59,11 +50,9 @@ copies-behind-requires c κs =
     let place2 = c .before .before .place2 in
     law.one-there (start .pre .0) (start .args .i) (start .args .a) (start .pre .1) (start .pre .2) (place .ensures) (place2 .ensures)
 
--- src/stretches.rt:103:33
 enum-told-4 : tie.Need-enum-told-4
 enum-told-4 c = search needs
 
--- src/stretches.rt:103:33
 copies-behind-requires-2 : tie.Need-copies-behind-requires-2
 copies-behind-requires-2 c κs =
     let start = c .before .before .before .before .before .before in
@@ -71,7 +60,6 @@ copies-behind-requires-2 c κs =
     let place2 = c .before .before .place2 in
     law.one-there (start .pre .0) (start .args .i) (start .args .a) (start .pre .1) (start .pre .2) (place .ensures) (place2 .ensures)
 
--- src/stretches.rt:92:1
 returns : tie.Need-returns
 returns c =
     let start = c .before .before .before .before .before .before .before in
@@ -80,7 +68,6 @@ returns c =
     let enum-told = c .before .enum-told in
     law.one-clear (start .args .sizes .start) (start .args .sizes .cycle) (start .pre .0 .a-cycle) (now (start .args .table)) (start .args .i) (start .args .a) (place .ensures) (place2 .ensures) (enum-told .given .1) (c .opposites .ensures)
 
--- src/stretches.rt:92:1
 returns-2 : tie.Need-returns-2
 returns-2 c =
     let start = c .before .before .before .before .before .before .before in
@@ -89,7 +76,6 @@ returns-2 c =
     let enum-told2 = c .before .enum-told2 in
     law.one-clear (start .args .sizes .start) (start .args .sizes .cycle) (start .pre .0 .a-cycle) (now (start .args .table)) (start .args .i) (start .args .a) (place .ensures) (place2 .ensures) (enum-told2 .given .1) (c .copies-ahead .ensures)
 
--- src/stretches.rt:92:1
 returns-3 : tie.Need-returns-3
 returns-3 c =
     let start = c .before .before .before .before .before .before .before in
@@ -98,7 +84,6 @@ returns-3 c =
     let enum-told3 = c .before .enum-told3 in
     law.one-clear (start .args .sizes .start) (start .args .sizes .cycle) (start .pre .0 .a-cycle) (now (start .args .table)) (start .args .i) (start .args .a) (place .ensures) (place2 .ensures) (enum-told3 .given .1) (c .copies-behind .ensures)
 
--- src/stretches.rt:92:1
 returns-4 : tie.Need-returns-4
 returns-4 c =
     let start = c .before .before .before .before .before .before .before in

@@ -12,29 +12,24 @@ use Rattle.marks.proofs.stretches.operator_clear.Lts as lts
 use Rattle.marks.proofs.stretches.one_clear.Reads as one-clear-reads
 use Rattle.marks.proofs.stretches.two_clear.Reads as two-clear-reads
 
--- src/stretches.rt:124:23
 enum-known-operator : tie.Need-enum-known-operator
 enum-known-operator c = search needs
 
--- src/stretches.rt:124:35
 one-clear-requires : tie.Need-one-clear-requires
 one-clear-requires c κs =
     let start = c .before .before .before .before in
     let operator = c .before .operator in
     (start .pre .0, start .pre .1, one-named (start .args .n) (start .pre .2) (operator .given .1))
 
--- src/stretches.rt:125:23
 enum-known-operator-2 : tie.Need-enum-known-operator-2
 enum-known-operator-2 c = search needs
 
--- src/stretches.rt:125:38
 two-clear-requires : tie.Need-two-clear-requires
 two-clear-requires c κs =
     let start = c .before .before .before .before in
     let operator2 = c .before .operator2 in
     let named = two-named (start .args .n) (start .pre .2) (operator2 .given .1) in (start .pre .0, start .pre .1, named .0, named .1)
 
--- src/stretches.rt:119:1
 returns : tie.Need-returns
 returns c =
     let start = c .before .before .before .before .before in
@@ -42,7 +37,6 @@ returns c =
     let one-clear = c .one-clear in
     clear-of (start .args .sizes .start) (start .args .sizes .cycle) (marked (allRows (start .args .sizes)) (now (start .args .table))) (start .args .i) (operator .given .1) (one-clear .ensures)
 
--- src/stretches.rt:119:1
 returns-2 : tie.Need-returns-2
 returns-2 c =
     let start = c .before .before .before .before .before in

@@ -11,27 +11,21 @@ use Rattle.marks.proofs.stretches.steps_behind.Reads as steps-behind-re
 use Rattle.table.proofs.bytes.place.Reads as place-reads
 use Rattle.table.proofs.sweeps.steps.Reads as steps-reads
 
--- src/stretches.rt:121:13
 add-w : tie.Need-add-w
 add-w c = search needs
 
--- src/stretches.rt:122:9
 place-requires : tie.Need-place-requires
 place-requires c κs = search needs
 
--- src/stretches.rt:123:9
 place-requires-2 : tie.Need-place-requires-2
 place-requires-2 c κs = search needs
 
--- src/stretches.rt:124:9
 place-requires-3 : tie.Need-place-requires-3
 place-requires-3 c κs = search needs
 
--- src/stretches.rt:126:24
 enum-told : tie.Need-enum-told
 enum-told c = search needs
 
--- src/stretches.rt:126:24
 steps-requires : tie.Need-steps-requires
 steps-requires c κs =
     let start = c .before .before .before .before .before .before .before in
@@ -40,11 +34,9 @@ steps-requires c κs =
     let place3 = c .before .before .place3 in
     let there = law.two-there (start .pre .0) (start .args .i) (start .args .a) (start .pre .1) (start .pre .2) (place .ensures) (place2 .ensures) (start .args .b) (start .pre .3) (place3 .ensures) in (there .1, there .2, there .3, there .2, there .4)
 
--- src/stretches.rt:127:23
 enum-told-2 : tie.Need-enum-told-2
 enum-told-2 c = search needs
 
--- src/stretches.rt:127:23
 steps-requires-2 : tie.Need-steps-requires-2
 steps-requires-2 c κs =
     let start = c .before .before .before .before .before .before .before in
@@ -53,11 +45,9 @@ steps-requires-2 c κs =
     let place3 = c .before .before .place3 in
     let there = law.two-there (start .pre .0) (start .args .i) (start .args .a) (start .pre .1) (start .pre .2) (place .ensures) (place2 .ensures) (start .args .b) (start .pre .3) (place3 .ensures) in (there .1, there .2, there .3, there .2, there .4)
 
--- src/stretches.rt:128:26
 enum-told-3 : tie.Need-enum-told-3
 enum-told-3 c = search needs
 
--- src/stretches.rt:128:26
 steps-ahead-requires : tie.Need-steps-ahead-requires
 steps-ahead-requires c κs =
     let start = c .before .before .before .before .before .before .before in
@@ -66,11 +56,9 @@ steps-ahead-requires c κs =
     let place3 = c .before .before .place3 in
     law.two-there (start .pre .0) (start .args .i) (start .args .a) (start .pre .1) (start .pre .2) (place .ensures) (place2 .ensures) (start .args .b) (start .pre .3) (place3 .ensures)
 
--- src/stretches.rt:129:28
 enum-told-4 : tie.Need-enum-told-4
 enum-told-4 c = search needs
 
--- src/stretches.rt:129:28
 steps-ahead-requires-2 : tie.Need-steps-ahead-requires-2
 steps-ahead-requires-2 c κs =
     let start = c .before .before .before .before .before .before .before in
@@ -79,11 +67,9 @@ steps-ahead-requires-2 c κs =
     let place3 = c .before .before .place3 in
     law.two-there (start .pre .0) (start .args .i) (start .args .a) (start .pre .1) (start .pre .2) (place .ensures) (place2 .ensures) (start .args .b) (start .pre .3) (place3 .ensures)
 
--- src/stretches.rt:130:26
 enum-told-5 : tie.Need-enum-told-5
 enum-told-5 c = search needs
 
--- src/stretches.rt:130:26
 steps-behind-requires : tie.Need-steps-behind-requires
 steps-behind-requires c κs =
     let start = c .before .before .before .before .before .before .before in
@@ -92,11 +78,9 @@ steps-behind-requires c κs =
     let place3 = c .before .before .place3 in
     law.two-there (start .pre .0) (start .args .i) (start .args .a) (start .pre .1) (start .pre .2) (place .ensures) (place2 .ensures) (start .args .b) (start .pre .3) (place3 .ensures)
 
--- src/stretches.rt:131:28
 enum-told-6 : tie.Need-enum-told-6
 enum-told-6 c = search needs
 
--- src/stretches.rt:131:28
 steps-behind-requires-2 : tie.Need-steps-behind-requires-2
 steps-behind-requires-2 c κs =
     let start = c .before .before .before .before .before .before .before in
@@ -105,7 +89,6 @@ steps-behind-requires-2 c κs =
     let place3 = c .before .before .place3 in
     law.two-there (start .pre .0) (start .args .i) (start .args .a) (start .pre .1) (start .pre .2) (place .ensures) (place2 .ensures) (start .args .b) (start .pre .3) (place3 .ensures)
 
--- src/stretches.rt:109:1
 returns : tie.Need-returns
 returns c =
     let start = c .before .before .before .before .before .before .before .before in
@@ -115,7 +98,6 @@ returns c =
     let enum-told = c .before .enum-told in
     law.two-clear (start .args .sizes .start) (start .args .sizes .cycle) (start .pre .0 .a-cycle) (now (start .args .table)) (start .args .i) (start .args .a) (place .ensures) (place2 .ensures) (start .args .b) (place3 .ensures) (enum-told .given .1) (c .steps .ensures)
 
--- src/stretches.rt:109:1
 returns-2 : tie.Need-returns-2
 returns-2 c =
     let start = c .before .before .before .before .before .before .before .before in
@@ -125,7 +107,6 @@ returns-2 c =
     let enum-told2 = c .before .enum-told2 in
     law.two-clear (start .args .sizes .start) (start .args .sizes .cycle) (start .pre .0 .a-cycle) (now (start .args .table)) (start .args .i) (start .args .a) (place .ensures) (place2 .ensures) (start .args .b) (place3 .ensures) (enum-told2 .given .1) (c .steps2 .ensures)
 
--- src/stretches.rt:109:1
 returns-3 : tie.Need-returns-3
 returns-3 c =
     let start = c .before .before .before .before .before .before .before .before in
@@ -135,7 +116,6 @@ returns-3 c =
     let enum-told3 = c .before .enum-told3 in
     law.two-clear (start .args .sizes .start) (start .args .sizes .cycle) (start .pre .0 .a-cycle) (now (start .args .table)) (start .args .i) (start .args .a) (place .ensures) (place2 .ensures) (start .args .b) (place3 .ensures) (enum-told3 .given .1) (c .steps-ahead .ensures)
 
--- src/stretches.rt:109:1
 returns-4 : tie.Need-returns-4
 returns-4 c =
     let start = c .before .before .before .before .before .before .before .before in
@@ -145,7 +125,6 @@ returns-4 c =
     let enum-told4 = c .before .enum-told4 in
     law.two-clear (start .args .sizes .start) (start .args .sizes .cycle) (start .pre .0 .a-cycle) (now (start .args .table)) (start .args .i) (start .args .a) (place .ensures) (place2 .ensures) (start .args .b) (place3 .ensures) (enum-told4 .given .1) (c .steps-ahead2 .ensures)
 
--- src/stretches.rt:109:1
 returns-5 : tie.Need-returns-5
 returns-5 c =
     let start = c .before .before .before .before .before .before .before .before in
@@ -155,7 +134,6 @@ returns-5 c =
     let enum-told5 = c .before .enum-told5 in
     law.two-clear (start .args .sizes .start) (start .args .sizes .cycle) (start .pre .0 .a-cycle) (now (start .args .table)) (start .args .i) (start .args .a) (place .ensures) (place2 .ensures) (start .args .b) (place3 .ensures) (enum-told5 .given .1) (c .steps-behind .ensures)
 
--- src/stretches.rt:109:1
 returns-6 : tie.Need-returns-6
 returns-6 c =
     let start = c .before .before .before .before .before .before .before .before in

@@ -10,23 +10,18 @@ use Rattle.marks.proofs.witness.names_row.Reads as reads
 use Rattle.marks.proofs.witness.names_row.Lts as lts
 use Rattle.table.proofs.bytes.mark_at.Reads as mark-at-reads
 
--- src/witness.rt:26:16
 add-rows : tie.Need-add-rows
 add-rows c = search needs
 
--- src/witness.rt:28:9
 returns : tie.Need-returns
 returns c = law.before-cycle (c .before .before .before .before .args .sizes .start) (c .before .before .before .before .args .sizes .cycle) (c .before .before .before .before .args .w) _ (c .if1 .taken)
 
--- src/witness.rt:31:9
 returns-2 : tie.Need-returns-2
 returns-2 c = law.after-cycle (c .before .before .before .before .before .args .sizes .start) (c .before .before .before .before .before .args .sizes .cycle) (c .before .before .before .before .before .args .w) _ (c .before .if1 .left) (c .if2 .taken)
 
--- src/witness.rt:33:5
 mark-at-requires : tie.Need-mark-at-requires
 mark-at-requires c κs = search needs
 
--- src/witness.rt:22:1
 returns-3 : tie.Need-returns-3
 returns-3 c =
     let start = c .before .before .before .before .before .before in

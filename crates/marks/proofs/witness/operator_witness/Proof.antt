@@ -11,38 +11,30 @@ use Rattle.marks.proofs.witness.operator_witness.Lts as lts
 use Rattle.table.proofs.bytes.mark_at.Reads as mark-at-reads
 use Rattle.marks.proofs.witness.two_witness.Reads as two-witness-reads
 
--- src/witness.rt:91:16
 add-rows : tie.Need-add-rows
 add-rows c = search needs
 
--- src/witness.rt:93:32
 enum-told : tie.Need-enum-told
 enum-told c = search needs
 
--- src/witness.rt:94:23
 enum-known-operator : tie.Need-enum-known-operator
 enum-known-operator c = search needs
 
--- src/witness.rt:95:51
 sub-mark-at : tie.Need-sub-mark-at
 sub-mark-at c = search needs
 
--- src/witness.rt:95:17
 mark-at-requires : tie.Need-mark-at-requires
 mark-at-requires c κs = search needs
 
--- src/witness.rt:96:13
 two-witness-requires : tie.Need-two-witness-requires
 two-witness-requires c κs = (c .before .before .before .before .before .before .pre .0, two-named (c .before .before .before .before .before .before .args .n) (c .before .before .before .before .before .before .pre .3) (c .before .before .operator .given .1) .1)
 
--- src/witness.rt:80:1
 returns : tie.Need-returns
 returns c =
     let start = c .before .before .before .before in
     let enum-told = c .enum-told in
     law.one-none (start .args .sizes .start) (start .args .sizes .cycle) (marked (allRows (start .args .sizes)) (now (start .args .table))) (start .args .i) (start .args .w) (enum-told .given .1)
 
--- src/witness.rt:80:1
 returns-2 : tie.Need-returns-2
 returns-2 c =
     let start = c .before .before .before .before .before .before .before in

@@ -9,39 +9,30 @@ use Rattle.marks.proofs.witness.two_witness.Reads as reads
 use Rattle.marks.proofs.witness.two_witness.Lts as lts
 use Rattle.marks.proofs.witness.names_row.Reads as names-row-reads
 
--- src/witness.rt:59:16
 enum-told : tie.Need-enum-told
 enum-told c = search needs
 
--- src/witness.rt:60:17
 names-row-requires : tie.Need-names-row-requires
 names-row-requires c κs = search needs
 
--- src/witness.rt:66:16
 enum-told-2 : tie.Need-enum-told-2
 enum-told-2 c = search needs
 
--- src/witness.rt:69:17
 names-row-requires-2 : tie.Need-names-row-requires-2
 names-row-requires-2 c κs = search needs
 
--- src/witness.rt:72:24
 enum-told-3 : tie.Need-enum-told-3
 enum-told-3 c = search needs
 
--- src/witness.rt:73:23
 enum-told-4 : tie.Need-enum-told-4
 enum-told-4 c = search needs
 
--- src/witness.rt:74:26
 enum-told-5 : tie.Need-enum-told-5
 enum-told-5 c = search needs
 
--- src/witness.rt:75:28
 enum-told-6 : tie.Need-enum-told-6
 enum-told-6 c = search needs
 
--- src/witness.rt:45:1
 returns : tie.Need-returns
 returns c =
     let start = c .before .before .before .before .before in
@@ -50,7 +41,6 @@ returns c =
     let names-row = c .names-row in
     law.until-named (start .args .sizes .start) (start .args .sizes .cycle) (start .args .w) (marked (allRows (start .args .sizes)) (now (start .args .table)) (start .args .b)) (start .args .last) (enum-told .given .1) (if1 .taken) (names-row .ensures)
 
--- src/witness.rt:45:1
 returns-2 : tie.Need-returns-2
 returns-2 c =
     let start = c .before .before .before .before in
@@ -58,7 +48,6 @@ returns-2 c =
     let if1 = c .if1 in
     law.until-none (start .args .sizes .start) (start .args .sizes .cycle) (start .args .w) (marked (allRows (start .args .sizes)) (now (start .args .table)) (start .args .b)) (start .args .last) (enum-told .given .1) (if1 .left)
 
--- src/witness.rt:45:1
 returns-3 : tie.Need-returns-3
 returns-3 c =
     let start = c .before .before .before .before in
@@ -66,7 +55,6 @@ returns-3 c =
     let if2 = c .if2 in
     law.release-none (start .args .sizes .start) (start .args .sizes .cycle) (start .args .w) (marked (allRows (start .args .sizes)) (now (start .args .table)) (start .args .b)) (start .args .last) (enum-told2 .given .1) (if2 .taken)
 
--- src/witness.rt:45:1
 returns-4 : tie.Need-returns-4
 returns-4 c =
     let start = c .before .before .before .before .before in
@@ -75,28 +63,24 @@ returns-4 c =
     let names-row2 = c .names-row2 in
     law.release-named (start .args .sizes .start) (start .args .sizes .cycle) (start .args .w) (marked (allRows (start .args .sizes)) (now (start .args .table)) (start .args .b)) (start .args .last) (enum-told2 .given .1) (if2 .left) (names-row2 .ensures)
 
--- src/witness.rt:45:1
 returns-5 : tie.Need-returns-5
 returns-5 c =
     let start = c .before .before .before in
     let enum-told3 = c .enum-told3 in
     law.and-none (start .args .sizes .start) (start .args .sizes .cycle) (start .args .w) (marked (allRows (start .args .sizes)) (now (start .args .table)) (start .args .b)) (start .args .last) (enum-told3 .given .1)
 
--- src/witness.rt:45:1
 returns-6 : tie.Need-returns-6
 returns-6 c =
     let start = c .before .before .before in
     let enum-told4 = c .enum-told4 in
     law.or-none (start .args .sizes .start) (start .args .sizes .cycle) (start .args .w) (marked (allRows (start .args .sizes)) (now (start .args .table)) (start .args .b)) (start .args .last) (enum-told4 .given .1)
 
--- src/witness.rt:45:1
 returns-7 : tie.Need-returns-7
 returns-7 c =
     let start = c .before .before .before in
     let enum-told5 = c .enum-told5 in
     law.since-none (start .args .sizes .start) (start .args .sizes .cycle) (start .args .w) (marked (allRows (start .args .sizes)) (now (start .args .table)) (start .args .b)) (start .args .last) (enum-told5 .given .1)
 
--- src/witness.rt:45:1
 returns-8 : tie.Need-returns-8
 returns-8 c =
     let start = c .before .before .before in

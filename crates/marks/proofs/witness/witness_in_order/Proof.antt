@@ -15,30 +15,24 @@ use Rattle.marks.proofs.witness.witness_in_order.Lts as lts
 use Rattle.table.proofs.bytes.witness_at.Reads as witness-at-reads
 use Rattle.marks.proofs.witness.operator_witness.Reads as operator-witness-reads
 
--- src/witness.rt:106:34
 add-witness-at : tie.Need-add-witness-at
 add-witness-at c = search needs
 
--- src/witness.rt:106:9
 witness-at-requires : tie.Need-witness-at-requires
 witness-at-requires c κs = search needs
 
--- src/witness.rt:108:26
 enum-told : tie.Need-enum-told
 enum-told c = search needs
 
--- src/witness.rt:109:24
 enum-known-view : tie.Need-enum-known-view
 enum-known-view c = search needs
 
--- src/witness.rt:109:37
 operator-witness-requires : tie.Need-operator-witness-requires
 operator-witness-requires c κs =
     let start = c .before .before .before .before .before .before in
     let view = c .before .view in
     (start .pre .0, start .pre .1, start .pre .2, operator-fits (start .args .sizes .channels) (start .args .n) _ (subst (λ (p : View). viewFits (start .args .sizes .channels) (start .args .n) p ≡ true) (view .given .1) (start .pre .3)))
 
--- src/witness.rt:102:1
 returns : tie.Need-returns
 returns c =
     let start = c .before .before .before .before .before in
@@ -46,7 +40,6 @@ returns c =
     let enum-told = c .enum-told in
     law.atom-none (start .args .sizes .start) (start .args .sizes .cycle) (marked (allRows (start .args .sizes)) (now (start .args .table))) (start .args .i) (witness-at .ensures) (enum-told .given .1)
 
--- src/witness.rt:102:1
 returns-2 : tie.Need-returns-2
 returns-2 c =
     let start = c .before .before .before .before .before .before .before in

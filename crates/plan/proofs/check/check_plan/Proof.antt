@@ -13,26 +13,21 @@ use Rattle.plan.proofs.check.rows_before_cycle.Reads as rows-before-cyc
 use Rattle.plan.proofs.sizes.read_sizes.Reads as read-sizes-reads
 use Rattle.plan.proofs.sweeps.stored_still.Reads as stored-still-reads
 
--- src/check.rt:73:9
 read-sizes-requires : tie.Need-read-sizes-requires
 read-sizes-requires c κs = search needs
 
--- src/check.rt:74:27
 enum-known-read : tie.Need-enum-known-read
 enum-known-read c = search needs
 
--- src/check.rt:75:34
 enum-told : tie.Need-enum-told
 enum-told c = search needs
 
--- src/check.rt:75:9
 returns : tie.Need-returns
 returns c =
     let start = c .before .before .before .before in
     let read-sizes = c .before .before .read-sizes in
     outcomes.sizes-refused (start .args .v) (now (start .args .plan)) (sym (read-sizes .ensures) ∙ c .enum-told .given .1)
 
--- src/check.rt:78:9
 returns-2 : tie.Need-returns-2
 returns-2 c =
     let start = c .before .before .before .before .before .before .before in
@@ -40,7 +35,6 @@ returns-2 c =
     let read = c .before .before .before .read in
     outcomes.channels-refused (start .args .v) (now (start .args .plan)) (sym (read-sizes .ensures) ∙ read .given .1) (c .if1 .taken)
 
--- src/check.rt:80:37
 add-stored-still : tie.Need-add-stored-still
 add-stored-still c =
     let start = c .before .before .before .before .before .before .before .before in
@@ -48,7 +42,6 @@ add-stored-still c =
     let read = c .before .before .before .before .read in
     omega (arith, few-stored (counted (now (start .args .plan)) (sym (read-sizes .ensures) ∙ read .given .1)))
 
--- src/check.rt:80:8
 stored-still-requires : tie.Need-stored-still-requires
 stored-still-requires c κs =
     let start = c .before .before .before .before .before .before .before .before in
@@ -56,7 +49,6 @@ stored-still-requires c κs =
     let read = c .before .before .before .before .read in
     (counted (now (start .args .plan)) (sym (read-sizes .ensures) ∙ read .given .1), omega arith, omega arith)
 
--- src/check.rt:81:9
 returns-3 : tie.Need-returns-3
 returns-3 c =
     let start = c .before .before .before .before .before .before .before .before .before .before in
@@ -66,7 +58,6 @@ returns-3 c =
     let stored-still = c .before .stored-still in
     outcomes.still-read (start .args .v) (now (start .args .plan)) (sym (read-sizes .ensures) ∙ read .given .1) (if1 .left) (stored-still .ensures (c .if2 .taken))
 
--- src/check.rt:83:9
 rows-before-cycle-requires : tie.Need-rows-before-cycle-requires
 rows-before-cycle-requires c κs =
     let start = c .before .before .before .before .before .before .before .before .before .before in
@@ -74,11 +65,9 @@ rows-before-cycle-requires c κs =
     let read = c .before .before .before .before .before .before .read in
     counted (now (start .args .plan)) (sym (read-sizes .ensures) ∙ read .given .1)
 
--- src/check.rt:84:29
 enum-known-drifts : tie.Need-enum-known-drifts
 enum-known-drifts c = search needs
 
--- src/check.rt:85:9
 returns-4 : tie.Need-returns-4
 returns-4 c =
     let start = c .before .before .before .before .before .before .before .before .before .before .before .before .before .before in
@@ -92,7 +81,6 @@ returns-4 c =
 enum-told-2 : tie.Need-enum-told-2
 enum-told-2 c = search needs
 
--- src/check.rt:70:1
 returns-5 : tie.Need-returns-5
 returns-5 c =
     let start = c .before .before .before .before .before .before .before .before .before .before .before .before .before in

@@ -4,12 +4,10 @@ use native.Mathlib.Omega.{arith}
 use Rattle.plan.proofs.check.named_row.Statement.{statement}
 use Rattle.plan.proofs.check.named_row.Tie as tie
 
--- src/check.rt:45:9
 returns : tie.Need-returns
 unfolding namedRow
 returns c = omega arith
 
--- src/check.rt:41:1
 returns-2 : tie.Need-returns-2
 unfolding namedRow
 returns-2 c = omega arith

@@ -23,13 +23,11 @@ Inv-loop plan sizes before k₀ k = (k ≤ before) × (atLowest (drifting plan) 
 abbrev μ-loop : tie.MeasureT-loop
 μ-loop plan sizes before k₀ k = before - k
 
--- src/check.rt:55:17
 add-before : tie.Need-add-before Inv-loop μ-loop
 add-before c =
     let start = c .before .before in
     omega (arith, start .pre .few-lead, start .pre .few-rows)
 
--- src/check.rt:57:5
 loop-holds : tie.Need-loop-holds Inv-loop μ-loop
 unfolding atLowest lowest
 loop-holds c =
@@ -38,17 +36,14 @@ loop-holds c =
     let left : n ≡ n - 0 = omega arith in
     (omega arith, ap (λ (m : ℕ). refusedAt (driftRefusal (start .args .sizes .lead)) (lowestFrom (drifting (now (start .args .plan))) 0 m)) left)
 
--- src/check.rt:58:12
 drifting-requires : tie.Need-drifting-requires Inv-loop μ-loop
 drifting-requires c κs =
     let start = c .before .before .before .before in
     (start .pre, omega arith)
 
--- src/check.rt:60:22
 named-row-requires : tie.Need-named-row-requires Inv-loop μ-loop
 named-row-requires c κs = search needs
 
--- src/check.rt:59:13
 returns : tie.Need-returns Inv-loop μ-loop
 unfolding refusedAt
 returns c =
@@ -61,15 +56,12 @@ returns c =
     let here = found (drifting (now (start .args .plan))) (loop .k) n (loop-test .taken) (sym (looked .ensures) ∙ if1 .taken) in
     ap (λ (row : ℕ). Refused (StartDrift row)) (c .named-row .ensures) ∙ sym (loop .inv .1 ∙ ap (refusedAt (driftRefusal (start .args .sizes .lead))) here)
 
--- src/check.rt:63:9
 add-k : tie.Need-add-k Inv-loop μ-loop
 add-k c = search needs
 
--- src/check.rt:57:5
 loop-less : tie.Need-loop-less Inv-loop μ-loop
 loop-less c = search needs
 
--- src/check.rt:57:5
 loop-again : tie.Need-loop-again Inv-loop μ-loop
 loop-again c =
     let start = c .before .before .before .before .before .before in
@@ -80,7 +72,6 @@ loop-again c =
     let later = passes (drifting (now (start .args .plan))) (loop .k) n (loop-test .taken) (sym (looked .ensures) ∙ c .if1 .left) in
     (omega arith, loop .inv .1 ∙ ap (refusedAt (driftRefusal (start .args .sizes .lead))) later)
 
--- src/check.rt:51:1
 returns-2 : tie.Need-returns-2 Inv-loop μ-loop
 unfolding refusedAt
 returns-2 c =

@@ -6,64 +6,50 @@ use Rattle.plan.proofs.landing.landing_of.Tie as tie
 use Rattle.plan.proofs.landing.landing_of.Reads as reads
 use Rattle.plan.proofs.landing.landing_of.Lts as lts
 
--- src/landing.rt:19:14
 add-at : tie.Need-add-at
 add-at c = search needs
 
--- src/landing.rt:20:8
 add-if1 : tie.Need-add-if1
 add-if1 c = search needs
 
--- src/landing.rt:21:17
 add-if2 : tie.Need-add-if2
 add-if2 c = search needs
 
--- src/landing.rt:21:17
 add-if2-2 : tie.Need-add-if2-2
 add-if2-2 c = search needs
 
--- src/landing.rt:23:22
 sub-t11 : tie.Need-sub-t11
 sub-t11 c = search needs
 
--- src/landing.rt:22:13
 returns : tie.Need-returns
 returns c =
     let start = c .before .before .before .before in
     let if1 = c .before .before .if1 in
     (law.lands-at-once _ _ (start .pre .0) _ _ (start .pre .2) (if1 .taken) (c .if2 .taken), law.lands-on-pass _ _ (start .pre .0) _ _ (start .pre .2) (if1 .taken) (c .if2 .taken))
 
--- src/landing.rt:28:23
 mul-behind : tie.Need-mul-behind
 mul-behind c = search needs
 
--- src/landing.rt:28:18
 add-behind : tie.Need-add-behind
 add-behind c = search needs
 
--- src/landing.rt:28:42
 add-behind-2 : tie.Need-add-behind-2
 add-behind-2 c = search needs
 
--- src/landing.rt:28:18
 sub-behind : tie.Need-sub-behind
 sub-behind c = search needs
 
--- src/landing.rt:30:28
 rem-t6 : tie.Need-rem-t6
 rem-t6 c = search needs
 
--- src/landing.rt:30:14
 add-t13 : tie.Need-add-t13
 add-t13 c =
     let start = c .before .before .before .before .before .before in
     record { fits = law.row-fits _ _ _ (start .pre .0) (start .pre .1) }
 
--- src/landing.rt:31:14
 div-t12 : tie.Need-div-t12
 div-t12 c = search needs
 
--- src/landing.rt:15:1
 returns-2 : tie.Need-returns-2
 returns-2 c = (law.row-by-rule _ _ _ _, law.off-by-rule _ _ _ _)
 

@@ -9,27 +9,22 @@ use Rattle.plan.proofs.layout.array_length.Tie as tie
 use Rattle.plan.proofs.layout.array_length.Reads as reads
 use Rattle.plan.proofs.layout.array_length.Lts as lts
 
--- src/layout.rt:20:27
 add-stored : tie.Need-add-stored
 add-stored c = search needs
 
--- src/layout.rt:20:13
 add-stored-2 : tie.Need-add-stored-2
 add-stored-2 c = search needs
 
--- src/layout.rt:21:10
 mul-result : tie.Need-mul-result
 mul-result c =
     let start = c .before .before .before in
     omega (arith, array-le (start .args .sizes .channels) (allStored (start .args .sizes)) (start .pre .0) (start .pre .1))
 
--- src/layout.rt:21:5
 mul-result-2 : tie.Need-mul-result-2
 mul-result-2 c =
     let start = c .before .before .before in
     omega (arith, array-le (start .args .sizes .channels) (allStored (start .args .sizes)) (start .pre .0) (start .pre .1))
 
--- src/layout.rt:16:1
 returns : tie.Need-returns
 unfolding arrayLength
 returns c =

@@ -7,19 +7,16 @@ use native.Mathlib.Omega.{arith}
 use Rattle.plan.proofs.layout.cell_of.Statement.{statement}
 use Rattle.plan.proofs.layout.cell_of.Tie as tie
 
--- src/layout.rt:44:5
 mul-result : tie.Need-mul-result
 mul-result c =
     let start = c .before in
     omega (arith, array-le (start .args .sizes .channels) (start .args .k) (start .pre .0) (le-of-lt (start .pre .1)))
 
--- src/layout.rt:44:5
 add-result : tie.Need-add-result
 add-result c =
     let start = c .before in
     omega (arith, array-le (start .args .sizes .channels) (start .args .k) (start .pre .0) (le-of-lt (start .pre .1)))
 
--- src/layout.rt:40:1
 returns : tie.Need-returns
 unfolding cell
 returns c = refl

@@ -7,15 +7,12 @@ use Rattle.plan.proofs.lookup.drift_at.Reads as reads
 use Rattle.plan.proofs.lookup.drift_at.Lts as lts
 use Rattle.plan.proofs.lookup.stored_drift.Reads as stored-drift-reads
 
--- src/lookup.rt:83:40
 add-stored-drift : tie.Need-add-stored-drift
 add-stored-drift c = search needs
 
--- src/lookup.rt:83:5
 stored-drift-requires : tie.Need-stored-drift-requires
 stored-drift-requires c κs = search needs
 
--- src/lookup.rt:79:1
 returns : tie.Need-returns
 returns c =
     let start = c .before .before .before in

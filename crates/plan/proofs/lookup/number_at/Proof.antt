@@ -7,15 +7,12 @@ use Rattle.plan.proofs.lookup.number_at.Reads as reads
 use Rattle.plan.proofs.lookup.number_at.Lts as lts
 use Rattle.plan.proofs.lookup.stored_number.Reads as stored-number-reads
 
--- src/lookup.rt:65:41
 add-stored-number : tie.Need-add-stored-number
 add-stored-number c = search needs
 
--- src/lookup.rt:65:5
 stored-number-requires : tie.Need-stored-number-requires
 stored-number-requires c κs = search needs
 
--- src/lookup.rt:61:1
 returns : tie.Need-returns
 returns c =
     let start = c .before .before .before in

@@ -22,38 +22,30 @@ use Rattle.plan.proofs.positions.row_of.Reads as row-of-reads
 use Rattle.plan.proofs.tops.seen_under.Reads as seen-under-reads
 use Rattle.plan.proofs.tops.top_of.Reads as top-of-reads
 
--- src/lookup.rt:95:14
 add-at : tie.Need-add-at
 add-at c = search needs
 
--- src/lookup.rt:97:9
 returns : tie.Need-returns
 unfolding seenOf
 returns c =
     let start = c .before .before .before in
     (before-lead (start .pre .0) (start .args .channel) (start .args .ahead) (c .if1 .taken), tt)
 
--- src/lookup.rt:99:9
 top-of-requires : tie.Need-top-of-requires
 top-of-requires c κs = search needs
 
--- src/lookup.rt:100:16
 add-if2 : tie.Need-add-if2
 add-if2 c = search needs
 
--- src/lookup.rt:100:16
 add-if2-2 : tie.Need-add-if2-2
 add-if2-2 c = search needs
 
--- src/lookup.rt:101:32
 stored-number-requires : tie.Need-stored-number-requires
 stored-number-requires c κs = search needs
 
--- src/lookup.rt:101:9
 seen-under-requires : tie.Need-seen-under-requires
 seen-under-requires c κs = search needs
 
--- src/lookup.rt:101:9
 returns-2 : tie.Need-returns-2
 returns-2 c =
     let start = c .before .before .before .before .before .before .before .before in
@@ -63,29 +55,23 @@ returns-2 c =
     let if2 = c .before .before .if2 in
     (sees-under (now (start .args .plan)) (start .args .channel) (top-of .result) (stored-number .result) (c .seen-under .ensures .0) (top-of .ensures .0) (stored-value (start .pre .0) (start .args .channel) (start .args .ahead) (if1 .left) (if2 .taken) (stored-number .ensures .0)), c .seen-under .ensures .1)
 
--- src/lookup.rt:103:13
 sub-t : tie.Need-sub-t
 sub-t c = search needs
 
--- src/lookup.rt:106:41
 row-of-requires : tie.Need-row-of-requires
 row-of-requires c κs = search needs
 
--- src/lookup.rt:106:59
 pass-of-requires : tie.Need-pass-of-requires
 pass-of-requires c κs = search needs
 
--- src/lookup.rt:106:9
 number-at-requires : tie.Need-number-at-requires
 number-at-requires c κs =
     let start = c .before .before .before .before .before .before .before .before in
     let within = reached (start .pre .0) (start .args .ahead - 4) (omega arith) in (start .pre .0, start .pre .1, omega (arith, within .0), omega (arith, within .1))
 
--- src/lookup.rt:104:5
 seen-under-requires-2 : tie.Need-seen-under-requires-2
 seen-under-requires-2 c κs = search needs
 
--- src/lookup.rt:91:1
 returns-3 : tie.Need-returns-3
 returns-3 c =
     let start = c .before .before .before .before .before .before .before .before .before .before in

@@ -12,35 +12,27 @@ use Rattle.plan.proofs.layout.cell_of.Reads as cell-of-reads
 use Rattle.plan.proofs.layout.drifts_start.Reads as drifts-start-reads
 use Rattle.plan.proofs.lookup.entry_at.Reads as entry-at-reads
 
--- src/lookup.rt:73:9
 drifts-start-requires : tie.Need-drifts-start-requires
 drifts-start-requires c κs = search needs
 
--- src/lookup.rt:74:17
 array-length-requires : tie.Need-array-length-requires
 array-length-requires c κs = search needs
 
--- src/lookup.rt:74:13
 add-e : tie.Need-add-e
 add-e c = search needs
 
--- src/lookup.rt:75:14
 sub-entry-at : tie.Need-sub-entry-at
 sub-entry-at c = search needs
 
--- src/lookup.rt:75:14
 part-entry-at-start : tie.Need-part-entry-at-start
 part-entry-at-start c = search needs
 
--- src/lookup.rt:75:14
 part-entry-at-end : tie.Need-part-entry-at-end
 part-entry-at-end c = search needs
 
--- src/lookup.rt:75:27
 cell-of-requires : tie.Need-cell-of-requires
 cell-of-requires c κs = search needs
 
--- src/lookup.rt:75:5
 entry-at-requires : tie.Need-entry-at-requires
 entry-at-requires c κs =
     let start = c .before .before .before .before .before in
@@ -49,7 +41,6 @@ entry-at-requires c κs =
     arrays.in-part (start .pre .0) (start .args .k) (start .args .channel) (drifts-start .result) (drifts-start .result + array-length .result) _
     (c .cell-of .ensures) (omega arith) (omega arith) (start .pre .2) (start .pre .1)
 
--- src/lookup.rt:69:1
 returns : tie.Need-returns
 returns c =
     let start = c .before .before .before .before .before .before in

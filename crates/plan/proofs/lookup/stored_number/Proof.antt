@@ -13,51 +13,39 @@ use Rattle.plan.proofs.layout.drifts_start.Reads as drifts-start-reads
 use Rattle.plan.proofs.layout.head_length.Reads as head-length-reads
 use Rattle.plan.proofs.lookup.number_on.Reads as number-on-reads
 
--- src/lookup.rt:54:9
 head-length-requires : tie.Need-head-length-requires
 head-length-requires c κs = search needs
 
--- src/lookup.rt:55:9
 drifts-start-requires : tie.Need-drifts-start-requires
 drifts-start-requires c κs = search needs
 
--- src/lookup.rt:56:17
 array-length-requires : tie.Need-array-length-requires
 array-length-requires c κs = search needs
 
--- src/lookup.rt:56:13
 add-e : tie.Need-add-e
 add-e c = search needs
 
--- src/lookup.rt:57:15
 sub-number-on : tie.Need-sub-number-on
 sub-number-on c = search needs
 
--- src/lookup.rt:57:15
 part-number-on-start : tie.Need-part-number-on-start
 part-number-on-start c = search needs
 
--- src/lookup.rt:57:15
 part-number-on-end : tie.Need-part-number-on-end
 part-number-on-end c = search needs
 
--- src/lookup.rt:57:28
 sub-number-on-2 : tie.Need-sub-number-on-2
 sub-number-on-2 c = search needs
 
--- src/lookup.rt:57:28
 part-number-on-start-2 : tie.Need-part-number-on-start-2
 part-number-on-start-2 c = search needs
 
--- src/lookup.rt:57:28
 part-number-on-end-2 : tie.Need-part-number-on-end-2
 part-number-on-end-2 c = search needs
 
--- src/lookup.rt:57:41
 cell-of-requires : tie.Need-cell-of-requires
 cell-of-requires c κs = search needs
 
--- src/lookup.rt:57:5
 number-on-requires : tie.Need-number-on-requires
 number-on-requires c κs =
     let start = c .before .before .before .before .before .before .before in
@@ -70,7 +58,6 @@ number-on-requires c κs =
       start .pre .3,
     )
 
--- src/lookup.rt:50:1
 returns : tie.Need-returns
 returns c =
     let start = c .before .before .before .before .before .before .before .before in

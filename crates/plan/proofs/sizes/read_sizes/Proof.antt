@@ -16,33 +16,26 @@ use Rattle.plan.proofs.layout.head_length.Reads as head-length-reads
 use Rattle.plan.proofs.layout.sizes_length.Reads as sizes-length-reads
 use Rattle.plan.proofs.tops.tops_fit.Reads as tops-fit-reads
 
--- src/sizes.rt:27:21
 sizes-length-requires : tie.Need-sizes-length-requires
 sizes-length-requires c κs = search needs
 
--- src/sizes.rt:28:9
 returns : tie.Need-returns
 returns c =
     let start = c .before .before .before in
     fits.too-short (now (start .args .plan)) (omega arith)
 
--- src/sizes.rt:30:9
 u16-at-requires : tie.Need-u16-at-requires
 u16-at-requires c κs = search needs
 
--- src/sizes.rt:31:9
 u16-at-requires-2 : tie.Need-u16-at-requires-2
 u16-at-requires-2 c κs = search needs
 
--- src/sizes.rt:32:9
 u16-at-requires-3 : tie.Need-u16-at-requires-3
 u16-at-requires-3 c κs = search needs
 
--- src/sizes.rt:33:9
 u16-at-requires-4 : tie.Need-u16-at-requires-4
 u16-at-requires-4 c κs = search needs
 
--- src/sizes.rt:35:9
 returns-2 : tie.Need-returns-2
 unfolding channels
 returns-2 c =
@@ -50,7 +43,6 @@ returns-2 c =
     let u16-at = c .before .before .before .before .u16-at in
     fits.no-channel (now (start .args .plan)) (u16-at .ensures .0) (c .if2 .taken)
 
--- src/sizes.rt:38:9
 returns-3 : tie.Need-returns-3
 unfolding channels
 returns-3 c =
@@ -58,7 +50,6 @@ returns-3 c =
     let u16-at = c .before .before .before .before .before .u16-at in
     fits.many-channels (now (start .args .plan)) (u16-at .ensures .0) (c .if3 .taken)
 
--- src/sizes.rt:41:9
 returns-4 : tie.Need-returns-4
 unfolding cycleRows
 returns-4 c =
@@ -66,11 +57,9 @@ returns-4 c =
     let u16-at3 = c .before .before .before .before .u16-at3 in
     fits.no-cycle (now (start .args .plan)) (u16-at3 .ensures .0) (c .if4 .taken)
 
--- src/sizes.rt:43:14
 add-if5 : tie.Need-add-if5
 add-if5 c = search needs
 
--- src/sizes.rt:44:9
 returns-5 : tie.Need-returns-5
 unfolding startRows cycleRows
 returns-5 c =
@@ -79,7 +68,6 @@ returns-5 c =
     let u16-at2 = c .before .before .before .before .before .before .u16-at2 in
     fits.many-rows (now (start .args .plan)) (u16-at3 .ensures .0) (u16-at2 .ensures .0) (c .if5 .taken)
 
--- src/sizes.rt:47:9
 returns-6 : tie.Need-returns-6
 unfolding leadRows
 returns-6 c =
@@ -87,23 +75,18 @@ returns-6 c =
     let u16-at4 = c .before .before .before .before .before .u16-at4 in
     fits.long-lead (now (start .args .plan)) (u16-at4 .ensures .0) (c .if6 .taken)
 
--- src/sizes.rt:55:9
 head-length-requires : tie.Need-head-length-requires
 head-length-requires c κs = search needs
 
--- src/sizes.rt:56:33
 array-length-requires : tie.Need-array-length-requires
 array-length-requires c κs = search needs
 
--- src/sizes.rt:56:29
 mul-if7 : tie.Need-mul-if7
 mul-if7 c = search needs
 
--- src/sizes.rt:56:22
 add-if7 : tie.Need-add-if7
 add-if7 c = search needs
 
--- src/sizes.rt:57:9
 returns-7 : tie.Need-returns-7
 unfolding channels startRows cycleRows leadRows
 returns-7 c =
@@ -114,27 +97,21 @@ returns-7 c =
     let u16-at4 = c .before .before .before .before .before .before .before .before .u16-at4 in
     fits.other-length (now (start .args .plan)) (u16-at3 .ensures .0) (u16-at2 .ensures .0) (u16-at .ensures .0) (u16-at4 .ensures .0) (λ e. c .if7 .taken (omega arith))
 
--- src/sizes.rt:59:24
 sizes-length-requires-2 : tie.Need-sizes-length-requires-2
 sizes-length-requires-2 c κs = search needs
 
--- src/sizes.rt:59:18
 sub-tops-fit : tie.Need-sub-tops-fit
 sub-tops-fit c = search needs
 
--- src/sizes.rt:59:18
 part-tops-fit-start : tie.Need-part-tops-fit-start
 part-tops-fit-start c = search needs
 
--- src/sizes.rt:59:18
 part-tops-fit-end : tie.Need-part-tops-fit-end
 part-tops-fit-end c = search needs
 
--- src/sizes.rt:59:9
 tops-fit-requires : tie.Need-tops-fit-requires
 tops-fit-requires c κs = search needs
 
--- src/sizes.rt:60:9
 returns-8 : tie.Need-returns-8
 unfolding channels
 returns-8 c =
@@ -145,7 +122,6 @@ returns-8 c =
     let tops-fit = c .before .tops-fit in
     found-negative (now (start .args .plan)) (u16-at .ensures .0) _ _ (sizes-length2 .ensures) (head-length .ensures) (tops-fit .ensures) (c .if8 .taken)
 
--- src/sizes.rt:24:1
 returns-9 : tie.Need-returns-9
 unfolding channels startRows cycleRows leadRows
 returns-9 c =

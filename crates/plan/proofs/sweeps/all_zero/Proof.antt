@@ -13,37 +13,29 @@ Inv-loop array from count all₀ k₀ all k = (k ≤ count) × (all ≡ allZero 
 abbrev μ-loop : tie.MeasureT-loop
 μ-loop array from count all₀ k₀ all k = count - k
 
--- src/sweeps.rt:21:5
 loop-holds : tie.Need-loop-holds Inv-loop μ-loop
 loop-holds c = (omega arith, zero-first _ _)
 
--- src/sweeps.rt:22:41
 add-u32-at : tie.Need-add-u32-at Inv-loop μ-loop
 add-u32-at c = omega arith
 
--- src/sweeps.rt:22:36
 mul-u32-at : tie.Need-mul-u32-at Inv-loop μ-loop
 mul-u32-at c = omega arith
 
--- src/sweeps.rt:22:22
 u32-at-requires : tie.Need-u32-at-requires Inv-loop μ-loop
 u32-at-requires c κs = omega arith
 
--- src/sweeps.rt:23:9
 add-k : tie.Need-add-k Inv-loop μ-loop
 add-k c = omega arith
 
--- src/sweeps.rt:21:5
 loop-less : tie.Need-loop-less Inv-loop μ-loop
 loop-less c = omega arith
 
--- src/sweeps.rt:21:5
 loop-again : tie.Need-loop-again Inv-loop μ-loop
 loop-again c =
     let loop = c .before .before .loop in
     (omega arith, zero-next _ _ _ _ (loop .inv .1) (c .u32-at .ensures))
 
--- src/sweeps.rt:15:1
 returns : tie.Need-returns Inv-loop μ-loop
 returns c =
     let loop = c .before .loop in

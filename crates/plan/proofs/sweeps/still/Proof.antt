@@ -7,19 +7,15 @@ use Rattle.plan.proofs.sweeps.still.Reads as reads
 use Rattle.plan.proofs.sweeps.still.Lts as lts
 use Rattle.plan.proofs.sweeps.stored_still.Reads as stored-still-reads
 
--- src/sweeps.rt:44:31
 add-stored-still : tie.Need-add-stored-still
 add-stored-still c = search needs
 
--- src/sweeps.rt:44:50
 add-stored-still-2 : tie.Need-add-stored-still-2
 add-stored-still-2 c = search needs
 
--- src/sweeps.rt:44:5
 stored-still-requires : tie.Need-stored-still-requires
 stored-still-requires c κs = search needs
 
--- src/sweeps.rt:40:1
 returns : tie.Need-returns
 returns c =
     let start = c .before .before .before .before in

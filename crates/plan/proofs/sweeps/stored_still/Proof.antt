@@ -12,54 +12,43 @@ use Rattle.plan.proofs.layout.array_length.Reads as array-length-reads
 use Rattle.plan.proofs.layout.drifts_start.Reads as drifts-start-reads
 use Rattle.plan.proofs.sweeps.all_zero.Reads as all-zero-reads
 
--- src/sweeps.rt:34:9
 drifts-start-requires : tie.Need-drifts-start-requires
 drifts-start-requires c κs = search needs
 
--- src/sweeps.rt:35:17
 array-length-requires : tie.Need-array-length-requires
 array-length-requires c κs = search needs
 
--- src/sweeps.rt:35:13
 add-e : tie.Need-add-e
 add-e c = search needs
 
--- src/sweeps.rt:36:14
 sub-all-zero : tie.Need-sub-all-zero
 sub-all-zero c = search needs
 
--- src/sweeps.rt:36:14
 part-all-zero-start : tie.Need-part-all-zero-start
 part-all-zero-start c = search needs
 
--- src/sweeps.rt:36:14
 part-all-zero-end : tie.Need-part-all-zero-end
 part-all-zero-end c = search needs
 
--- src/sweeps.rt:36:27
 mul-all-zero : tie.Need-mul-all-zero
 mul-all-zero c =
     let start = c .before .before .before .before in
     omega (arith, few-numbers (start .pre .0) _ _ (start .pre .1) (start .pre .2))
 
--- src/sweeps.rt:36:38
 sub-all-zero-2 : tie.Need-sub-all-zero-2
 sub-all-zero-2 c = search needs
 
--- src/sweeps.rt:36:37
 mul-all-zero-2 : tie.Need-mul-all-zero-2
 mul-all-zero-2 c =
     let start = c .before .before .before .before in
     omega (arith, few-numbers (start .pre .0) _ _ (start .pre .1) (start .pre .2))
 
--- src/sweeps.rt:36:5
 all-zero-requires : tie.Need-all-zero-requires
 all-zero-requires c κs =
     let start = c .before .before .before .before in
     let drifts-start = c .before .before .drifts-start in
     numbers-there (start .pre .0) _ _ (start .pre .1) (start .pre .2) _ _ (drifts-start .ensures .0) (omega arith)
 
--- src/sweeps.rt:29:1
 returns : tie.Need-returns
 returns c =
     let start = c .before .before .before .before .before in

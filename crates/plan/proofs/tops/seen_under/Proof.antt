@@ -8,25 +8,21 @@ use Rattle.plan.proofs.tops.seen_under.Tie as tie
 use Rattle.plan.proofs.tops.seen_under.Reads as reads
 use Rattle.plan.proofs.tops.seen_under.Lts as lts
 
--- src/tops.rt:50:9
 returns : tie.Need-returns
 unfolding seenOf
 returns c =
     let start = c .before in
     (under-none (start .args .top) (start .args .value) (omega arith), start .pre .1)
 
--- src/tops.rt:52:23
 add-if2 : tie.Need-add-if2
 add-if2 c = search needs
 
--- src/tops.rt:53:9
 returns-2 : tie.Need-returns-2
 unfolding seenOf
 returns-2 c =
     let start = c .before .before in
     (under-below (start .args .top) (start .args .value) (omega arith), start .pre .1)
 
--- src/tops.rt:45:1
 returns-3 : tie.Need-returns-3
 unfolding seenOf
 returns-3 c =

@@ -10,31 +10,24 @@ use Rattle.plan.proofs.layout.head_length.Reads as head-length-reads
 use Rattle.plan.proofs.layout.sizes_length.Reads as sizes-length-reads
 use Rattle.plan.proofs.lookup.entry_at.Reads as entry-at-reads
 
--- src/tops.rt:39:9
 sizes-length-requires : tie.Need-sizes-length-requires
 sizes-length-requires c κs = search needs
 
--- src/tops.rt:40:9
 head-length-requires : tie.Need-head-length-requires
 head-length-requires c κs = search needs
 
--- src/tops.rt:41:14
 sub-entry-at : tie.Need-sub-entry-at
 sub-entry-at c = search needs
 
--- src/tops.rt:41:14
 part-entry-at-start : tie.Need-part-entry-at-start
 part-entry-at-start c = search needs
 
--- src/tops.rt:41:14
 part-entry-at-end : tie.Need-part-entry-at-end
 part-entry-at-end c = search needs
 
--- src/tops.rt:41:5
 entry-at-requires : tie.Need-entry-at-requires
 entry-at-requires c κs = search needs
 
--- src/tops.rt:41:5
 sub-result : tie.Need-sub-result
 sub-result c =
     let start = c .before .before .before .before .before in
@@ -42,7 +35,6 @@ sub-result c =
     let head-length = c .before .before .head-length in
     top-lifted (start .pre .0) _ _ (start .args .channel) _ (sizes-length .ensures) (head-length .ensures) (start .pre .1) (c .entry-at .ensures .0)
 
--- src/tops.rt:35:1
 returns : tie.Need-returns
 returns c =
     let start = c .before .before .before .before .before in

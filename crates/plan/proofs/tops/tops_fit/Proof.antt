@@ -19,16 +19,13 @@ Inv-loop tops v channel₀ channel = (channel ≤ v) × (anyBelow (negativeTop t
 abbrev μ-loop : tie.MeasureT-loop
 μ-loop tops v channel₀ channel = v - channel
 
--- src/tops.rt:25:5
 loop-holds : tie.Need-loop-holds Inv-loop μ-loop
 unfolding anyBelow
 loop-holds c = (omega arith, refl)
 
--- src/tops.rt:26:12
 entry-at-requires : tie.Need-entry-at-requires Inv-loop μ-loop
 entry-at-requires c κs = search needs
 
--- src/tops.rt:27:13
 returns : tie.Need-returns Inv-loop μ-loop
 returns c =
     let start = c .before .before .before .before .before in
@@ -37,22 +34,18 @@ returns c =
     let entry-at = c .before .entry-at in
     one-negative _ (start .args .v) (loop .channel) (loop-test .taken) (below-zero _ (loop .channel) (entry-at .ensures .0) (c .if1 .taken))
 
--- src/tops.rt:29:9
 add-channel : tie.Need-add-channel Inv-loop μ-loop
 add-channel c = search needs
 
--- src/tops.rt:25:5
 loop-less : tie.Need-loop-less Inv-loop μ-loop
 loop-less c = omega arith
 
--- src/tops.rt:25:5
 loop-again : tie.Need-loop-again Inv-loop μ-loop
 loop-again c =
     let loop = c .before .before .before .loop in
     let entry-at = c .before .entry-at in
     (omega arith, none-more (negativeTop _) (loop .channel) (loop .inv .1) (not-below-zero _ (loop .channel) (entry-at .ensures .0) (c .if1 .left)))
 
--- src/tops.rt:20:1
 returns-2 : tie.Need-returns-2 Inv-loop μ-loop
 returns-2 c =
     let start = c .before .before .before in

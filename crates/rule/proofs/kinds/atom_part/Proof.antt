@@ -3,12 +3,10 @@ use Rattle.rule.specs.Kinds.{partOf}
 use Rattle.rule.proofs.kinds.atom_part.Statement.{statement}
 use Rattle.rule.proofs.kinds.atom_part.Tie as tie
 
--- src/kinds.rt:65:1
 returns : tie.Need-returns
 unfolding partOf
 returns c = simp (c .if1 .taken)
 
--- src/kinds.rt:65:1
 returns-2 : tie.Need-returns-2
 unfolding partOf
 returns-2 c = simp (ne-eqb _ _ (c .if1 .left))

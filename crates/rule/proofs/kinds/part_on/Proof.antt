@@ -17,103 +17,78 @@ use Rattle.rule.proofs.terms.channel_on.Reads as channel-on-reads
 use Rattle.rule.proofs.terms.shift_on.Reads as shift-on-reads
 use Rattle.rule.proofs.terms.term_on.Reads as term-on-reads
 
--- src/kinds.rt:116:17
 enum-told : tie.Need-enum-told
 enum-told c = search needs
 
--- src/kinds.rt:116:17
 term-on-requires : tie.Need-term-on-requires
 term-on-requires c κs = search needs
 
--- src/kinds.rt:117:42
 add-term-on : tie.Need-add-term-on
 add-term-on c = search needs
 
--- src/kinds.rt:117:17
 term-on-requires-2 : tie.Need-term-on-requires-2
 term-on-requires-2 c κs = search needs
 
--- src/kinds.rt:114:13
 atom-part-requires : tie.Need-atom-part-requires
 atom-part-requires c κs = search needs
 
--- src/kinds.rt:120:43
 enum-told-2 : tie.Need-enum-told-2
 enum-told-2 c = search needs
 
--- src/kinds.rt:120:43
 u16-at-requires : tie.Need-u16-at-requires
 u16-at-requires c κs = search needs
 
--- src/kinds.rt:120:28
 one-part-requires : tie.Need-one-part-requires
 one-part-requires c κs = search needs
 
--- src/kinds.rt:121:43
 enum-told-3 : tie.Need-enum-told-3
 enum-told-3 c = search needs
 
--- src/kinds.rt:121:43
 u16-at-requires-2 : tie.Need-u16-at-requires-2
 u16-at-requires-2 c κs = search needs
 
--- src/kinds.rt:121:84
 add-u16-at : tie.Need-add-u16-at
 add-u16-at c = search needs
 
--- src/kinds.rt:121:66
 u16-at-requires-3 : tie.Need-u16-at-requires-3
 u16-at-requires-3 c κs = search needs
 
--- src/kinds.rt:121:28
 two-part-requires : tie.Need-two-part-requires
 two-part-requires c κs = search needs
 
--- src/kinds.rt:123:22
 enum-told-4 : tie.Need-enum-told-4
 enum-told-4 c = search needs
 
--- src/kinds.rt:123:22
 channel-on-requires : tie.Need-channel-on-requires
 channel-on-requires c κs = search needs
 
--- src/kinds.rt:124:20
 shift-on-requires : tie.Need-shift-on-requires
 shift-on-requires c κs = search needs
 
--- src/kinds.rt:125:37
 add-u16-at-2 : tie.Need-add-u16-at-2
 add-u16-at-2 c = search needs
 
--- src/kinds.rt:125:19
 u16-at-requires-4 : tie.Need-u16-at-requires-4
 u16-at-requires-4 c κs = search needs
 
--- src/kinds.rt:126:35
 add-u16-at-3 : tie.Need-add-u16-at-3
 add-u16-at-3 c = search needs
 
--- src/kinds.rt:126:17
 u16-at-requires-5 : tie.Need-u16-at-requires-5
 u16-at-requires-5 c κs = search needs
 
--- src/kinds.rt:129:27
 enum-told-5 : tie.Need-enum-told-5
 enum-told-5 c = search needs
 
--- src/kinds.rt:129:27
 channel-on-requires-2 : tie.Need-channel-on-requires-2
 channel-on-requires-2 c κs = search needs
 
--- src/kinds.rt:129:27
 shift-on-requires-2 : tie.Need-shift-on-requires-2
 shift-on-requires-2 c κs = search needs
 
--- src/kinds.rt:129:27
 enum-told-6 : tie.Need-enum-told-6
 enum-told-6 c = search needs
 
--- src/kinds.rt:108:1
 returns : tie.Need-returns
 returns c =
     let start = c .before .before .before .before .before .before in
@@ -122,14 +97,12 @@ returns c =
     let term-on2 = c .before .term-on2 in
     law.terms-part (now (start .args .s)) (start .args .at) (start .args .kind) (enum-told .given .1) (term-on .result) (term-on2 .result) (term-on .ensures) (term-on2 .ensures) (c .atom-part .ensures)
 
--- src/kinds.rt:108:1
 returns-2 : tie.Need-returns-2
 returns-2 c =
     let start = c .before .before .before .before .before in
     let enum-told2 = c .before .before .enum-told2 in
     law.one-part (now (start .args .s)) (start .args .at) (start .args .kind) (enum-told2 .given .1) (c .before .u16-at .ensures .0) (c .one-part .ensures)
 
--- src/kinds.rt:108:1
 returns-3 : tie.Need-returns-3
 returns-3 c =
     let start = c .before .before .before .before .before .before in
@@ -137,7 +110,6 @@ returns-3 c =
     let u16-at2 = c .before .before .u16-at2 in
     law.two-part (now (start .args .s)) (start .args .at) (start .args .kind) (enum-told3 .given .1) (u16-at2 .ensures .0) (c .before .u16-at3 .ensures .0) (c .two-part .ensures)
 
--- src/kinds.rt:108:1
 returns-4 : tie.Need-returns-4
 returns-4 c =
     let start = c .before .before .before .before .before .before .before in
@@ -146,7 +118,6 @@ returns-4 c =
     let shift-on = c .before .before .shift-on in
     law.window-part (now (start .args .s)) (start .args .at) (start .args .kind) (enum-told4 .given .1) (channel-on .ensures) (toZ-ofZ w32 (shift-on .result) (record { sfits = shift-on .ok }) ∙ shift-on .ensures) (c .before .u16-at4 .ensures .0) (c .u16-at5 .ensures .0)
 
--- src/kinds.rt:108:1
 returns-5 : tie.Need-returns-5
 returns-5 c =
     let start = c .before .before .before .before .before in
@@ -155,7 +126,6 @@ returns-5 c =
     let shift-on2 = c .shift-on2 in
     law.pinned-part (now (start .args .s)) (start .args .at) (start .args .kind) (enum-told5 .given .1) (channel-on2 .ensures) (toZ-ofZ w32 (shift-on2 .result) (record { sfits = shift-on2 .ok }) ∙ shift-on2 .ensures)
 
--- src/kinds.rt:108:1
 returns-6 : tie.Need-returns-6
 returns-6 c =
     let start = c .before .before .before in

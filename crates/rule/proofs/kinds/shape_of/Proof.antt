@@ -4,77 +4,62 @@ use Rattle.rule.specs.Kinds.{shapeOf}
 use Rattle.rule.proofs.kinds.shape_of.Statement.{statement}
 use Rattle.rule.proofs.kinds.shape_of.Tie as tie
 
--- src/kinds.rt:39:1
 returns : tie.Need-returns
 unfolding shapeOf
 returns c = simp (c .match .keys1)
 
--- src/kinds.rt:39:1
 returns-2 : tie.Need-returns-2
 unfolding shapeOf
 returns-2 c = simp (c .match .keys2)
 
--- src/kinds.rt:39:1
 returns-3 : tie.Need-returns-3
 unfolding shapeOf
 returns-3 c = simp (c .match .keys3)
 
--- src/kinds.rt:39:1
 returns-4 : tie.Need-returns-4
 unfolding shapeOf
 returns-4 c = simp (c .match .keys4)
 
--- src/kinds.rt:39:1
 returns-5 : tie.Need-returns-5
 unfolding shapeOf
 returns-5 c = simp (c .match .keys5)
 
--- src/kinds.rt:39:1
 returns-6 : tie.Need-returns-6
 unfolding shapeOf
 returns-6 c = simp (c .match .keys6)
 
--- src/kinds.rt:39:1
 returns-7 : tie.Need-returns-7
 unfolding shapeOf
 returns-7 c = simp (c .match .keys7)
 
--- src/kinds.rt:39:1
 returns-8 : tie.Need-returns-8
 unfolding shapeOf
 returns-8 c = simp (c .match .keys8)
 
--- src/kinds.rt:39:1
 returns-9 : tie.Need-returns-9
 unfolding shapeOf
 returns-9 c = simp (c .match .keys9)
 
--- src/kinds.rt:39:1
 returns-10 : tie.Need-returns-10
 unfolding shapeOf
 returns-10 c = simp (c .match .keys10)
 
--- src/kinds.rt:39:1
 returns-11 : tie.Need-returns-11
 unfolding shapeOf
 returns-11 c = simp (c .match .keys11)
 
--- src/kinds.rt:39:1
 returns-12 : tie.Need-returns-12
 unfolding shapeOf
 returns-12 c = simp (c .match .keys12)
 
--- src/kinds.rt:39:1
 returns-13 : tie.Need-returns-13
 unfolding shapeOf
 returns-13 c = simp (c .match .keys13)
 
--- src/kinds.rt:39:1
 returns-14 : tie.Need-returns-14
 unfolding shapeOf
 returns-14 c = simp (c .match .keys14)
 
--- src/kinds.rt:39:1
 returns-15 : tie.Need-returns-15
 unfolding shapeOf
 returns-15 c = simp (ne-eqb _ _ (c .match .rest .0 .0 .0 .0 .0 .0 .0 .0 .0 .0 .0 .0 .0 .1), ne-eqb _ _ (c .match .rest .0 .0 .0 .0 .0 .0 .0 .0 .0 .0 .0 .0 .1), ne-eqb _ _ (c .match .rest .0 .0 .0 .0 .0 .0 .0 .0 .0 .0 .0 .1), ne-eqb _ _ (c .match .rest .0 .0 .0 .0 .0 .0 .0 .0 .0 .0 .1), ne-eqb _ _ (c .match .rest .0 .0 .0 .0 .0 .0 .0 .0 .0 .1), ne-eqb _ _ (c .match .rest .0 .0 .0 .0 .0 .0 .0 .0 .1), ne-eqb _ _ (c .match .rest .0 .0 .0 .0 .0 .0 .0 .1), ne-eqb _ _ (c .match .rest .0 .0 .0 .0 .0 .0 .1), ne-eqb _ _ (c .match .rest .0 .0 .0 .0 .0 .1), ne-eqb _ _ (c .match .rest .0 .0 .0 .0 .1), ne-eqb _ _ (c .match .rest .0 .0 .0 .1), ne-eqb _ _ (c .match .rest .0 .0 .1), ne-eqb _ _ (c .match .rest .0 .1), ne-eqb _ _ (c .match .rest .1))

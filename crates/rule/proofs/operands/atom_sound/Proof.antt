@@ -12,43 +12,33 @@ use Rattle.rule.proofs.terms.constant_sound.Reads as constant-sound-rea
 use Rattle.rule.proofs.terms.reading_sound.Reads as reading-sound-reads
 use Rattle.rule.proofs.terms.term_sound.Reads as term-sound-reads
 
--- src/operands.rt:97:9
 reading-sound-requires : tie.Need-reading-sound-requires
 reading-sound-requires c κs = search needs
 
--- src/operands.rt:99:26
 enum-told : tie.Need-enum-told
 enum-told c = search needs
 
--- src/operands.rt:99:26
 window-sound-requires : tie.Need-window-sound-requires
 window-sound-requires c κs = search needs
 
--- src/operands.rt:100:26
 enum-told-2 : tie.Need-enum-told-2
 enum-told-2 c = search needs
 
--- src/operands.rt:101:15
 constant-sound-requires : tie.Need-constant-sound-requires
 constant-sound-requires c κs = search needs
 
--- src/operands.rt:102:43
 add-term-sound : tie.Need-add-term-sound
 add-term-sound c = search needs
 
--- src/operands.rt:102:15
 term-sound-requires : tie.Need-term-sound-requires
 term-sound-requires c κs = search needs
 
--- src/operands.rt:93:1
 returns : tie.Need-returns
 returns c = λ n. law.shape-sound (now (c .before .before .before .before .before .args .s)) (c .before .before .before .before .before .args .at) (c .before .before .before .before .before .args .v) n (c .before .enum-told .given .1) (c .window-sound .ensures (c .before .before .before .before .before .args .v) n (c .before .before .before .reading-sound .ensures))
 
--- src/operands.rt:93:1
 returns-2 : tie.Need-returns-2
 returns-2 c = λ n. law.shape-sound (now (c .before .before .before .before .args .s)) (c .before .before .before .before .args .at) (c .before .before .before .before .args .v) n (c .enum-told2 .given .1) (law.pinned-tested (now (c .before .before .before .before .args .s)) (c .before .before .before .before .args .at) (c .before .before .before .before .args .v) (c .before .before .before .before .pre .0) (c .before .before .before .before .pre .1) (c .before .before .reading-sound .ensures) (c .before .before .before .before .pre .2) n)
 
--- src/operands.rt:93:1
 returns-3 : tie.Need-returns-3
 returns-3 c = λ n. law.terms-sound (now (c .before .before .before .before .before .args .s)) (c .before .before .before .before .before .args .at) (c .before .before .before .before .before .args .v) n (law.left-comparison (c .before .before .before .before .before .args .shape) (c .before .before .match .keys3) (c .before .before .before .before .before .pre .3)) (term-sound (c .before .before .before .before .before .args .v) (termAt (now (c .before .before .before .before .before .args .s)) (c .before .before .before .before .before .args .at)) (c .before .constant-sound .ensures) (c .before .before .before .reading-sound .ensures)) (c .term-sound .ensures)
 

@@ -9,19 +9,15 @@ use Rattle.rule.proofs.operands.name_sound.Reads as reads
 use Rattle.rule.proofs.operands.name_sound.Lts as lts
 use Rattle.fields.proofs.u16_at.Reads as u16-at-reads
 
--- src/operands.rt:63:6
 u16-at-requires : tie.Need-u16-at-requires
 u16-at-requires c κs = search needs
 
--- src/operands.rt:63:55
 add-u16-at : tie.Need-add-u16-at
 add-u16-at c = search needs
 
--- src/operands.rt:63:37
 u16-at-requires-2 : tie.Need-u16-at-requires-2
 u16-at-requires-2 c κs = search needs
 
--- src/operands.rt:59:1
 returns : tie.Need-returns
 returns c =
     let start = c .before .before .before in

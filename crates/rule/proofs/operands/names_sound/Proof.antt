@@ -7,19 +7,15 @@ use Rattle.rule.proofs.operands.names_sound.Reads as reads
 use Rattle.rule.proofs.operands.names_sound.Lts as lts
 use Rattle.fields.proofs.u16_at.Reads as u16-at-reads
 
--- src/operands.rt:71:7
 u16-at-requires : tie.Need-u16-at-requires
 u16-at-requires c κs = search needs
 
--- src/operands.rt:71:55
 add-u16-at : tie.Need-add-u16-at
 add-u16-at c = search needs
 
--- src/operands.rt:71:37
 u16-at-requires-2 : tie.Need-u16-at-requires-2
 u16-at-requires-2 c κs = search needs
 
--- src/operands.rt:67:1
 returns : tie.Need-returns
 returns c = rw (c .before .u16-at .ensures .0, c .u16-at2 .ensures .0, c .before .before .before .pre .1) refl
 

@@ -10,39 +10,30 @@ use Rattle.rule.proofs.operands.name_sound.Reads as name-sound-reads
 use Rattle.rule.proofs.operands.names_sound.Reads as names-sound-reads
 use Rattle.rule.proofs.operands.rest_zero.Reads as rest-zero-reads
 
--- src/operands.rt:112:9
 rest-zero-requires : tie.Need-rest-zero-requires
 rest-zero-requires c κs = search needs
 
--- src/operands.rt:114:28
 enum-told : tie.Need-enum-told
 enum-told c = search needs
 
--- src/operands.rt:114:28
 name-sound-requires : tie.Need-name-sound-requires
 name-sound-requires c κs = (c .before .before .before .before .pre .0, c .before .before .rest-zero .ensures)
 
--- src/operands.rt:115:28
 enum-told-2 : tie.Need-enum-told-2
 enum-told-2 c = search needs
 
--- src/operands.rt:115:28
 names-sound-requires : tie.Need-names-sound-requires
 names-sound-requires c κs = (c .before .before .before .before .pre .0, c .before .before .rest-zero .ensures)
 
--- src/operands.rt:116:14
 atom-sound-requires : tie.Need-atom-sound-requires
 atom-sound-requires c κs = (c .before .before .before .pre .0, c .before .before .before .pre .1, c .before .rest-zero .ensures, law.left-atoms (c .before .before .before .args .shape) (c .match .keys3) (c .before .before .before .pre .2))
 
--- src/operands.rt:108:1
 returns : tie.Need-returns
 returns c = law.one-sound (now (c .before .before .before .before .before .args .s)) (c .before .before .before .before .before .args .at) (c .before .before .before .before .before .args .v) (c .before .before .before .before .before .args .n) (c .before .enum-told .given .1) (c .name-sound .ensures)
 
--- src/operands.rt:108:1
 returns-2 : tie.Need-returns-2
 returns-2 c = law.two-sound (now (c .before .before .before .before .before .args .s)) (c .before .before .before .before .before .args .at) (c .before .before .before .before .before .args .v) (c .before .before .before .before .before .args .n) (c .before .enum-told2 .given .1) (c .names-sound .ensures)
 
--- src/operands.rt:108:1
 returns-3 : tie.Need-returns-3
 returns-3 c = c .atom-sound .ensures (c .before .before .before .before .args .n)
 

@@ -11,50 +11,39 @@ use Rattle.rule.proofs.operands.put_ends.Reads as reads
 use Rattle.rule.proofs.operands.put_ends.Lts as lts
 use Rattle.fields.proofs.put_u16.Reads as put-u16-reads
 
--- src/operands.rt:141:5
 put-u16-requires : tie.Need-put-u16-requires
 put-u16-requires c κs = let f = ends-fit _ _ (c .before .before .pre .1) in (omega (arith, c .before .before .pre .0), omega (arith, f .from-fits, f .to-fits))
 
--- src/operands.rt:142:21
 sub-put-u16 : tie.Need-sub-put-u16
 sub-put-u16 c = search needs
 
--- src/operands.rt:142:21
 part-put-u16-start : tie.Need-part-put-u16-start
 part-put-u16-start c = search needs
 
--- src/operands.rt:142:21
 part-put-u16-end : tie.Need-part-put-u16-end
 part-put-u16-end c = search needs
 
--- src/operands.rt:142:5
 put-u16-requires-2 : tie.Need-put-u16-requires-2
 put-u16-requires-2 c κs =
     let start = c .before .before .before .before .before .before in
     let put-u16 = c .before .before .before .put-u16 in
     let f = ends-fit _ _ (start .pre .1) in (simp (length-take, length-drop) (omega (arith, start .pre .0, put-u16 .kept .0)), omega (arith, f .from-fits, f .to-fits))
 
--- src/operands.rt:143:21
 sub-put-u16-2 : tie.Need-sub-put-u16-2
 sub-put-u16-2 c = search needs
 
--- src/operands.rt:143:21
 part-put-u16-start-2 : tie.Need-part-put-u16-start-2
 part-put-u16-start-2 c = search needs
 
--- src/operands.rt:143:21
 part-put-u16-end-2 : tie.Need-part-put-u16-end-2
 part-put-u16-end-2 c = search needs
 
--- src/operands.rt:143:5
 put-u16-requires-3 : tie.Need-put-u16-requires-3
 put-u16-requires-3 c κs = search needs
 
--- src/operands.rt:137:1
 same-length : tie.Need-same-length
 same-length c = search needs
 
--- src/operands.rt:137:1
 returns : tie.Need-returns
 returns c =
     let start = c .before .before .before .before .before .before .before .before .before .before .before .before .before in

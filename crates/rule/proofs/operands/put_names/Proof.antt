@@ -11,35 +11,27 @@ use Rattle.rule.proofs.operands.put_names.Lts as lts
 use Rattle.rule.proofs.operands.put_one.Reads as put-one-reads
 use Rattle.rule.proofs.operands.put_two.Reads as put-two-reads
 
--- src/operands.rt:149:26
 enum-known-x : tie.Need-enum-known-x
 enum-known-x c = search needs
 
--- src/operands.rt:149:32
 put-one-requires : tie.Need-put-one-requires
 put-one-requires c κs = (c .before .before .before .before .before .pre .0, one-lower 64 _ _ (sym (ap (namesLower 64) (c .before .before .x .given .1)) ∙ c .before .before .before .before .before .pre .1))
 
--- src/operands.rt:150:26
 enum-known-x-2 : tie.Need-enum-known-x-2
 enum-known-x-2 c = search needs
 
--- src/operands.rt:150:35
 put-two-requires : tie.Need-put-two-requires
 put-two-requires c κs = let f = two-lower 64 _ _ _ (sym (ap (namesLower 64) (c .before .before .x2 .given .1)) ∙ c .before .before .before .before .before .pre .1) in (c .before .before .before .before .before .pre .0, f .0, f .1)
 
--- src/operands.rt:144:1
 same-length : tie.Need-same-length
 same-length c = search needs
 
--- src/operands.rt:144:1
 returns : tie.Need-returns
 returns c = names-put (now (c .before .before .before .before .before .before .before .before .args .t)) _ (c .before .before .before .before .before .x .given .1) (c .before .before .put-one .ensures)
 
--- src/operands.rt:144:1
 same-length-2 : tie.Need-same-length-2
 same-length-2 c = search needs
 
--- src/operands.rt:144:1
 returns-2 : tie.Need-returns-2
 returns-2 c = names-put (now (c .before .before .before .before .before .before .before .before .args .t)) _ (c .before .before .before .before .before .x2 .given .1) (c .before .before .put-two .ensures)
 

@@ -9,19 +9,15 @@ use Rattle.rule.proofs.operands.put_one.Lts as lts
 use Rattle.fields.proofs.put_u16.Reads as put-u16-reads
 use Rattle.rule.proofs.operands.clear.Reads as clear-reads
 
--- src/operands.rt:129:5
 clear-requires : tie.Need-clear-requires
 clear-requires c κs = search needs
 
--- src/operands.rt:130:5
 put-u16-requires : tie.Need-put-u16-requires
 put-u16-requires c κs = search needs
 
--- src/operands.rt:125:1
 same-length : tie.Need-same-length
 same-length c = search needs
 
--- src/operands.rt:125:1
 returns : tie.Need-returns
 returns c = c .before .before .put-u16 .ensures ∙ law.one-name (now (c .before .before .before .before .before .before .before .before .before .args .t))
     (c .before .before .before .before .before .before .before .before .before .pre .0) (c .before .before .before .before .before .before .clear .last .0)

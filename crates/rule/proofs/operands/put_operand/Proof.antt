@@ -11,35 +11,27 @@ use Rattle.rule.proofs.operands.put_operand.Lts as lts
 use Rattle.rule.proofs.operands.put_atom.Reads as put-atom-reads
 use Rattle.rule.proofs.operands.put_names.Reads as put-names-reads
 
--- src/operands.rt:160:20
 enum-known-x : tie.Need-enum-known-x
 enum-known-x c = search needs
 
--- src/operands.rt:160:29
 put-atom-requires : tie.Need-put-atom-requires
 put-atom-requires c κs = (c .before .before .before .before .before .pre .0, atom-fits 8 64 _ (sym (ap (viewFits 8 64) (c .before .before .x .given .1)) ∙ c .before .before .before .before .before .pre .1))
 
--- src/operands.rt:161:24
 enum-known-x-2 : tie.Need-enum-known-x-2
 enum-known-x-2 c = search needs
 
--- src/operands.rt:161:37
 put-names-requires : tie.Need-put-names-requires
 put-names-requires c κs = (c .before .before .before .before .before .pre .0, operator-fits 8 64 _ (sym (ap (viewFits 8 64) (c .before .before .x2 .given .1)) ∙ c .before .before .before .before .before .pre .1))
 
--- src/operands.rt:155:1
 same-length : tie.Need-same-length
 same-length c = search needs
 
--- src/operands.rt:155:1
 returns : tie.Need-returns
 returns c = subst⁻¹ (OperandPut (now (c .before .before .before .before .before .before .before .before .args .t)) (c .before .before .put-atom .last .0)) (c .before .before .before .before .before .x .given .1) (c .before .before .put-atom .ensures)
 
--- src/operands.rt:155:1
 same-length-2 : tie.Need-same-length-2
 same-length-2 c = search needs
 
--- src/operands.rt:155:1
 returns-2 : tie.Need-returns-2
 returns-2 c = subst⁻¹ (OperandPut (now (c .before .before .before .before .before .before .before .before .args .t)) (c .before .before .put-names .last .0)) (c .before .before .before .before .before .x2 .given .1) (c .before .before .put-names .ensures)
 

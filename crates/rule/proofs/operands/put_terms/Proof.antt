@@ -9,31 +9,24 @@ use Rattle.rule.proofs.operands.put_terms.Reads as reads
 use Rattle.rule.proofs.operands.put_terms.Lts as lts
 use Rattle.rule.proofs.terms.put_term.Reads as put-term-reads
 
--- src/operands.rt:114:5
 put-term-requires : tie.Need-put-term-requires
 put-term-requires c κs = (omega (arith, c .before .before .pre .0), c .before .before .pre .1)
 
--- src/operands.rt:115:28
 sub-put-term : tie.Need-sub-put-term
 sub-put-term c = search needs
 
--- src/operands.rt:115:28
 part-put-term-start : tie.Need-part-put-term-start
 part-put-term-start c = search needs
 
--- src/operands.rt:115:28
 part-put-term-end : tie.Need-part-put-term-end
 part-put-term-end c = search needs
 
--- src/operands.rt:115:5
 put-term-requires-2 : tie.Need-put-term-requires-2
 put-term-requires-2 c κs = (simp (length-take, length-drop) (omega (arith, c .before .before .before .before .before .before .pre .0, c .before .before .before .put-term .kept .0)), c .before .before .before .before .before .before .pre .2)
 
--- src/operands.rt:110:1
 same-length : tie.Need-same-length
 same-length c = search needs
 
--- src/operands.rt:110:1
 returns : tie.Need-returns
 returns c = (
   law.two-terms (now (c .before .before .before .before .before .before .before .before .before .args .t)) (c .before .before .before .before .before .before .before .before .before .pre .0)

@@ -8,31 +8,24 @@ use Rattle.rule.proofs.operands.put_two.Lts as lts
 use Rattle.fields.proofs.put_u16.Reads as put-u16-reads
 use Rattle.rule.proofs.operands.put_one.Reads as put-one-reads
 
--- src/operands.rt:137:5
 put-one-requires : tie.Need-put-one-requires
 put-one-requires c κs = search needs
 
--- src/operands.rt:138:21
 sub-put-u16 : tie.Need-sub-put-u16
 sub-put-u16 c = search needs
 
--- src/operands.rt:138:21
 part-put-u16-start : tie.Need-part-put-u16-start
 part-put-u16-start c = search needs
 
--- src/operands.rt:138:21
 part-put-u16-end : tie.Need-part-put-u16-end
 part-put-u16-end c = search needs
 
--- src/operands.rt:138:5
 put-u16-requires : tie.Need-put-u16-requires
 put-u16-requires c κs = search needs
 
--- src/operands.rt:133:1
 same-length : tie.Need-same-length
 same-length c = search needs
 
--- src/operands.rt:133:1
 returns : tie.Need-returns
 returns c = law.two-names (now (c .before .before .before .before .before .before .before .before .before .args .t)) (c .before .before .before .before .before .before .before .before .before .pre .0)
     (c .before .before .before .before .before .before .put-one .last .0) (c .before .before .put-u16 .last .0) (c .before .before .before .before .before .before .before .before .before .args .a)

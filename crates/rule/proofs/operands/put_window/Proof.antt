@@ -9,31 +9,24 @@ use Rattle.rule.proofs.operands.put_window.Lts as lts
 use Rattle.rule.proofs.operands.put_ends.Reads as put-ends-reads
 use Rattle.rule.proofs.terms.put_term.Reads as put-term-reads
 
--- src/operands.rt:150:5
 put-term-requires : tie.Need-put-term-requires
 put-term-requires c κs = search needs
 
--- src/operands.rt:151:14
 sub-put-ends : tie.Need-sub-put-ends
 sub-put-ends c = search needs
 
--- src/operands.rt:151:14
 part-put-ends-start : tie.Need-part-put-ends-start
 part-put-ends-start c = search needs
 
--- src/operands.rt:151:14
 part-put-ends-end : tie.Need-part-put-ends-end
 part-put-ends-end c = search needs
 
--- src/operands.rt:151:5
 put-ends-requires : tie.Need-put-ends-requires
 put-ends-requires c κs = search needs
 
--- src/operands.rt:146:1
 same-length : tie.Need-same-length
 same-length c = search needs
 
--- src/operands.rt:146:1
 returns : tie.Need-returns
 returns c =
     let start = c .before .before .before .before .before .before .before .before .before in

@@ -7,23 +7,18 @@ use Rattle.rule.proofs.operands.rest_zero.Reads as reads
 use Rattle.rule.proofs.operands.rest_zero.Lts as lts
 use Rattle.fields.proofs.u32_at.Reads as u32-at-reads
 
--- src/operands.rt:46:24
 add-u32-at : tie.Need-add-u32-at
 add-u32-at c = search needs
 
--- src/operands.rt:46:6
 u32-at-requires : tie.Need-u32-at-requires
 u32-at-requires c κs = search needs
 
--- src/operands.rt:46:59
 add-u32-at-2 : tie.Need-add-u32-at-2
 add-u32-at-2 c = search needs
 
--- src/operands.rt:46:41
 u32-at-requires-2 : tie.Need-u32-at-requires-2
 u32-at-requires-2 c κs = search needs
 
--- src/operands.rt:42:1
 returns : tie.Need-returns
 returns c = law.rest-zero (now (c .before .before .before .args .s)) (c .before .before .before .args .at) (c .before .before .before .pre) (c .before .u32-at .ensures) (c .u32-at2 .ensures)
 

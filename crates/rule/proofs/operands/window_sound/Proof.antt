@@ -9,35 +9,27 @@ use Rattle.rule.proofs.operands.window_sound.Lts as lts
 use Rattle.cltlb.proofs.window_fits.Reads as window-fits-reads
 use Rattle.fields.proofs.u16_at.Reads as u16-at-reads
 
--- src/operands.rt:86:34
 add-u16-at : tie.Need-add-u16-at
 add-u16-at c = search needs
 
--- src/operands.rt:86:9
 u16-at-requires : tie.Need-u16-at-requires
 u16-at-requires c κs = search needs
 
--- src/operands.rt:87:32
 add-u16-at-2 : tie.Need-add-u16-at-2
 add-u16-at-2 c = search needs
 
--- src/operands.rt:87:9
 u16-at-requires-2 : tie.Need-u16-at-requires-2
 u16-at-requires-2 c κs = search needs
 
--- src/operands.rt:88:16
 window-fits-requires : tie.Need-window-fits-requires
 window-fits-requires c κs = search needs
 
--- src/operands.rt:88:67
 add-u16-at-3 : tie.Need-add-u16-at-3
 add-u16-at-3 c = search needs
 
--- src/operands.rt:88:49
 u16-at-requires-3 : tie.Need-u16-at-requires-3
 u16-at-requires-3 c κs = search needs
 
--- src/operands.rt:82:1
 returns : tie.Need-returns
 returns c = λ v n e. law.window-tested (now (c .before .before .before .before .before .args .s)) (c .before .before .before .before .before .args .at) v e (c .before .window-fits .ensures) (c .before .before .before .u16-at .ensures .0) (c .before .before .u16-at2 .ensures .0) (last-zero (now (c .before .before .before .before .before .args .s)) (c .before .before .before .before .before .args .at) (c .before .before .before .before .before .pre) (c .u16-at3 .ensures .0)) n
 

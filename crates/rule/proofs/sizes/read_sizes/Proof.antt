@@ -7,31 +7,24 @@ use Rattle.rule.proofs.sizes.read_sizes.Reads as reads
 use Rattle.rule.proofs.sizes.read_sizes.Lts as lts
 use Rattle.fields.proofs.u16_at.Reads as u16-at-reads
 
--- src/sizes.rt:18:9
 returns : tie.Need-returns
 returns c = law.wrong _ (law.short _ (c .if1 .taken))
 
--- src/sizes.rt:20:9
 u16-at-requires : tie.Need-u16-at-requires
 u16-at-requires c κs = search needs
 
--- src/sizes.rt:21:9
 u16-at-requires-2 : tie.Need-u16-at-requires-2
 u16-at-requires-2 c κs = search needs
 
--- src/sizes.rt:23:68
 mul-if2 : tie.Need-mul-if2
 mul-if2 c = search needs
 
--- src/sizes.rt:23:64
 add-if2 : tie.Need-add-if2
 add-if2 c = search needs
 
--- src/sizes.rt:14:1
 returns-2 : tie.Need-returns-2
 returns-2 c = law.counts (now (c .before .before .before .before .before .args .sheet)) (c .before .before .u16-at .ensures .0) (c .before .u16-at2 .ensures .0) (c .before .before .before .if1 .left) (c .if2 .taken)
 
--- src/sizes.rt:14:1
 returns-3 : tie.Need-returns-3
 returns-3 c = law.wrong _ (law.tested (now (c .before .before .before .before .before .args .sheet)) (c .before .before .u16-at .ensures .0) (c .before .u16-at2 .ensures .0) (c .before .before .before .if1 .left) (c .if2 .left))
 

@@ -13,18 +13,15 @@ use Rattle.rule.proofs.terms.code_of.Tie as tie
 plus : (c : tie.Start) → toZ w32 (ofZ w32 (c .args .shift)) +ℤ pos 4 ≡ pos (codeOf (c .args .shift))
 plus c = ap (λ (z : ℤ). z +ℤ pos 4) (toZ-ofZ w32 (c .args .shift) (c .fits .shift)) ∙ coded (c .args .shift) (c .pre) .sum
 
--- src/terms.rt:68:6
 add-result : tie.Need-add-result
 add-result c = rw (plus c) (sfits-of (omega (arith, coded (c .args .shift) (c .pre) .small)))
 
 back : (c : tie.Start) → toZ w32 (ofZ w32 (toZ w32 (ofZ w32 (c .args .shift)) +ℤ pos 4)) ≡ pos (codeOf (c .args .shift))
 back c = toZ-ofZ w32 _ (add-result c) ∙ plus c
 
--- src/terms.rt:68:5
 cast-result : tie.Need-cast-result
 cast-result c = rw (back c) (tt, record { fits = omega (arith, coded (c .args .shift) (c .pre) .small) })
 
--- src/terms.rt:64:1
 returns : tie.Need-returns
 returns c = ap natAbs (back c)
 

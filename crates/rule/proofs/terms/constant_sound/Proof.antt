@@ -6,19 +6,15 @@ use Rattle.rule.proofs.terms.constant_sound.Tie as tie
 use Rattle.rule.proofs.terms.constant_sound.Reads as reads
 use Rattle.rule.proofs.terms.constant_sound.Lts as lts
 
--- src/terms.rt:57:16
 shared-slice-read-form : tie.Need-shared-slice-read-form
 shared-slice-read-form c = search needs
 
--- src/terms.rt:58:18
 add-code : tie.Need-add-code
 add-code c = search needs
 
--- src/terms.rt:58:16
 shared-slice-read-code : tie.Need-shared-slice-read-code
 shared-slice-read-code c = search needs
 
--- src/terms.rt:53:1
 returns : tie.Need-returns
 returns c = law.constant-sound (now (c .before .before .args .s)) (c .before .before .args .at)
 

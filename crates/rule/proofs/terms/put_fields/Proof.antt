@@ -15,38 +15,30 @@ use Rattle.rule.proofs.terms.put_fields.Reads as reads
 use Rattle.rule.proofs.terms.put_fields.Lts as lts
 use Rattle.fields.proofs.put_u32.Reads as put-u32-reads
 
--- src/terms.rt:76:5
 slice-write-t : tie.Need-slice-write-t
 slice-write-t c = search needs
 
--- src/terms.rt:77:5
 slice-write-t-2 : tie.Need-slice-write-t-2
 slice-write-t-2 c = simp length-set (omega arith)
 
--- src/terms.rt:78:21
 sub-put-u32 : tie.Need-sub-put-u32
 sub-put-u32 c = simp length-set (omega arith)
 
--- src/terms.rt:78:21
 part-put-u32-start : tie.Need-part-put-u32-start
 part-put-u32-start c = simp length-set (omega arith)
 
--- src/terms.rt:78:21
 part-put-u32-end : tie.Need-part-put-u32-end
 part-put-u32-end c = search needs
 
--- src/terms.rt:78:5
 put-u32-requires : tie.Need-put-u32-requires
 put-u32-requires c κs = simp (length-take, length-drop, length-set) (omega arith)
 
--- src/terms.rt:72:1
 same-length : tie.Need-same-length
 same-length c =
     let start = c .before .before .before .before .before in
     let put-u32 = c .before .before .put-u32 in
     same-len-mid 2 (length (set (set (now (start .args .t)) 0 (start .args .form)) 1 (start .args .code)) - 2) (set (set (now (start .args .t)) 0 (start .args .form)) 1 (start .args .code)) (put-u32 .last .0) (put-u32 .kept .0) ∙ simp length-set
 
--- src/terms.rt:72:1
 returns : tie.Need-returns
 returns c =
     let start = c .before .before .before .before .before in

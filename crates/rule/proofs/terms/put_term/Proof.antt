@@ -18,40 +18,31 @@ use Rattle.fields.proofs.pattern.Reads as pattern-reads
 use Rattle.rule.proofs.terms.code_of.Reads as code-of-reads
 use Rattle.rule.proofs.terms.put_fields.Reads as put-fields-reads
 
--- src/terms.rt:71:24
 enum-known-x : tie.Need-enum-known-x
 enum-known-x c = search needs
 
--- src/terms.rt:71:50
 pattern-requires : tie.Need-pattern-requires
 pattern-requires c κs = search needs
 
--- src/terms.rt:71:30
 put-fields-requires : tie.Need-put-fields-requires
 put-fields-requires c κs = search needs
 
--- src/terms.rt:72:25
 enum-known-x-2 : tie.Need-enum-known-x-2
 enum-known-x-2 c = search needs
 
--- src/terms.rt:72:62
 code-of-requires : tie.Need-code-of-requires
 code-of-requires c κs = ap shiftFits (toZ-ofZ w32 (c .before .before .x2 .given .0 .1 .0) (record { sfits = c .before .known-told2 .given .1 .0 .1 }))
     ∙ reading-fits 8 _ _ (sym (ap (termFits 8) (c .before .before .x2 .given .1)) ∙ c .before .before .before .before .before .pre .1) .1
 
--- src/terms.rt:72:78
 cast-put-fields : tie.Need-cast-put-fields
 cast-put-fields c = omega (arith, reading-fits 8 _ _ (sym (ap (termFits 8) (c .before .before .before .x2 .given .1)) ∙ c .before .before .before .before .before .before .pre .1) .0)
 
--- src/terms.rt:72:45
 put-fields-requires-2 : tie.Need-put-fields-requires-2
 put-fields-requires-2 c κs = search needs
 
--- src/terms.rt:66:1
 same-length : tie.Need-same-length
 same-length c = search needs
 
--- src/terms.rt:66:1
 returns : tie.Need-returns
 returns c = (
   c .before .before .put-fields .ensures
@@ -60,11 +51,9 @@ returns c = (
   law.constant-word (c .before .before .before .before .before .before .x .given .1) (fits-w32 (c .before .before .before .before .before .before .x .given .0 .0) (record { sfits = c .before .before .before .before .before .known-told .given .0 .1 })),
 )
 
--- src/terms.rt:66:1
 same-length-2 : tie.Need-same-length-2
 same-length-2 c = search needs
 
--- src/terms.rt:66:1
 returns-2 : tie.Need-returns-2
 returns-2 c = (
   c .before .before .put-fields2 .ensures

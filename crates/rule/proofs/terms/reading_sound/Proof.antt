@@ -8,23 +8,18 @@ use Rattle.rule.proofs.terms.reading_sound.Reads as reads
 use Rattle.rule.proofs.terms.reading_sound.Lts as lts
 use Rattle.rule.proofs.terms.channel_on.Reads as channel-on-reads
 
--- src/terms.rt:46:16
 shared-slice-read-form : tie.Need-shared-slice-read-form
 shared-slice-read-form c = search needs
 
--- src/terms.rt:47:18
 add-code : tie.Need-add-code
 add-code c = search needs
 
--- src/terms.rt:47:16
 shared-slice-read-code : tie.Need-shared-slice-read-code
 shared-slice-read-code c = search needs
 
--- src/terms.rt:48:9
 channel-on-requires : tie.Need-channel-on-requires
 channel-on-requires c κs = search needs
 
--- src/terms.rt:42:1
 returns : tie.Need-returns
 returns c =
     let start = c .before .before .before .before in

@@ -11,15 +11,12 @@ use Rattle.rule.proofs.terms.shift_of.Tie as tie
 use Rattle.rule.proofs.terms.shift_of.Reads as reads
 use Rattle.rule.proofs.terms.shift_of.Lts as lts
 
--- src/terms.rt:19:6
 cast-result : tie.Need-cast-result
 cast-result c = search needs
 
--- src/terms.rt:19:5
 sub-result : tie.Need-sub-result
 sub-result c = rw (toZ-pos w32 (c .args .code) (omega arith)) (sfits-of (mag-sub (c .args .code) 4 2147483648 (omega arith) (omega arith)))
 
--- src/terms.rt:16:1
 returns : tie.Need-returns
 unfolding shiftOf
 returns c = toZ-ofZ w32 _ (sub-result c) ∙ rw (toZ-pos w32 (c .args .code) (omega arith)) refl

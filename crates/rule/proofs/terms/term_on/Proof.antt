@@ -13,33 +13,26 @@ use Rattle.fields.proofs.i32_at.Reads as i32-at-reads
 use Rattle.rule.proofs.terms.channel_on.Reads as channel-on-reads
 use Rattle.rule.proofs.terms.shift_on.Reads as shift-on-reads
 
--- src/terms.rt:68:8
 shared-slice-read-if1 : tie.Need-shared-slice-read-if1
 shared-slice-read-if1 c = search needs
 
--- src/terms.rt:69:49
 add-i32-at : tie.Need-add-i32-at
 add-i32-at c = search needs
 
--- src/terms.rt:69:31
 i32-at-requires : tie.Need-i32-at-requires
 i32-at-requires c κs = search needs
 
--- src/terms.rt:69:9
 returns : tie.Need-returns
 returns c =
     let start = c .before .before .before .before in
     law.constant-on (now (start .args .s)) (start .args .at) (c .before .if1 .taken) (toZ-ofZ w32 (c .i32-at .result) (record { sfits = c .i32-at .ok }) ∙ c .i32-at .ensures)
 
--- src/terms.rt:72:18
 channel-on-requires : tie.Need-channel-on-requires
 channel-on-requires c κs = search needs
 
--- src/terms.rt:73:16
 shift-on-requires : tie.Need-shift-on-requires
 shift-on-requires c κs = search needs
 
--- src/terms.rt:64:1
 returns-2 : tie.Need-returns-2
 returns-2 c =
     let start = c .before .before .before .before .before in

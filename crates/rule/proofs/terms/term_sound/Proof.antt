@@ -9,19 +9,15 @@ use Rattle.rule.proofs.terms.term_sound.Lts as lts
 use Rattle.rule.proofs.terms.constant_sound.Reads as constant-sound-reads
 use Rattle.rule.proofs.terms.reading_sound.Reads as reading-sound-reads
 
--- src/terms.rt:67:8
 constant-sound-requires : tie.Need-constant-sound-requires
 constant-sound-requires c κs = search needs
 
--- src/terms.rt:68:9
 returns : tie.Need-returns
 returns c = law.sound-constant (c .before .before .before .args .v) (termAt (now (c .before .before .before .args .s)) (c .before .before .before .args .at)) (c .before .constant-sound .ensures) (c .if1 .taken)
 
--- src/terms.rt:70:5
 reading-sound-requires : tie.Need-reading-sound-requires
 reading-sound-requires c κs = search needs
 
--- src/terms.rt:63:1
 returns-2 : tie.Need-returns-2
 returns-2 c = law.sound-reading (c .before .before .before .before .args .v) (termAt (now (c .before .before .before .before .args .s)) (c .before .before .before .before .args .at)) (c .before .before .constant-sound .ensures) (c .before .if1 .left) (c .reading-sound .ensures)
 

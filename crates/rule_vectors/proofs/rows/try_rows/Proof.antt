@@ -14,51 +14,39 @@ Inv-loop text from i₀ i = Unit {0}
 abbrev μ-loop : tie.MeasureT-loop
 μ-loop text from i₀ i = length text - i
 
--- src/rows.rt:75:5
 loop-holds : tie.Need-loop-holds Inv-loop μ-loop
 loop-holds c = search needs
 
--- src/rows.rt:76:13
 line-end-requires : tie.Need-line-end-requires Inv-loop μ-loop
 line-end-requires c κs = search needs
 
--- src/rows.rt:78:20
 add-result : tie.Need-add-result Inv-loop μ-loop
 add-result c = search needs
 
--- src/rows.rt:78:13
 returns : tie.Need-returns Inv-loop μ-loop
 returns c = search needs
 
--- src/rows.rt:80:17
 sub-try-row : tie.Need-sub-try-row Inv-loop μ-loop
 sub-try-row c = search needs
 
--- src/rows.rt:80:17
 part-try-row-start : tie.Need-part-try-row-start Inv-loop μ-loop
 part-try-row-start c = search needs
 
--- src/rows.rt:80:17
 part-try-row-end : tie.Need-part-try-row-end Inv-loop μ-loop
 part-try-row-end c = search needs
 
--- src/rows.rt:80:9
 try-row-requires : tie.Need-try-row-requires Inv-loop μ-loop
 try-row-requires c κs = search needs
 
--- src/rows.rt:81:13
 add-i : tie.Need-add-i Inv-loop μ-loop
 add-i c = search needs
 
--- src/rows.rt:75:5
 loop-less : tie.Need-loop-less Inv-loop μ-loop
 loop-less c = search needs
 
--- src/rows.rt:75:5
 loop-again : tie.Need-loop-again Inv-loop μ-loop
 loop-again c = search needs
 
--- src/rows.rt:73:1
 returns-2 : tie.Need-returns-2 Inv-loop μ-loop
 returns-2 c = search needs
 

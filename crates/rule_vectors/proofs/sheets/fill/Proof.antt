@@ -14,35 +14,27 @@ Inv-loop sheet₀ at count x i₀ sheet i = length sheet ≡ length sheet₀
 abbrev μ-loop : tie.MeasureT-loop
 μ-loop sheet₀ at count x i₀ sheet i = at + count - i
 
--- src/sheets.rt:87:5
 loop-holds : tie.Need-loop-holds Inv-loop μ-loop
 loop-holds c = search needs
 
--- src/sheets.rt:87:15
 add-loop : tie.Need-add-loop Inv-loop μ-loop
 add-loop c = search needs
 
--- src/sheets.rt:88:9
 set-byte-requires : tie.Need-set-byte-requires Inv-loop μ-loop
 set-byte-requires c κs = search needs
 
--- src/sheets.rt:89:9
 add-i : tie.Need-add-i Inv-loop μ-loop
 add-i c = search needs
 
--- src/sheets.rt:87:5
 loop-less : tie.Need-loop-less Inv-loop μ-loop
 loop-less c = search needs
 
--- src/sheets.rt:87:5
 loop-again : tie.Need-loop-again Inv-loop μ-loop
 loop-again c = search needs
 
--- src/sheets.rt:83:1
 same-length : tie.Need-same-length Inv-loop μ-loop
 same-length c = search needs
 
--- src/sheets.rt:83:1
 returns : tie.Need-returns Inv-loop μ-loop
 returns c = search needs
 

@@ -16,43 +16,33 @@ Inv-loop name count sheet₀ n₀ sheet n = length sheet ≡ length sheet₀
 abbrev μ-loop : tie.MeasureT-loop
 μ-loop name count sheet₀ n₀ sheet n = 65 - n
 
--- src/main.rt:211:5
 set-byte-requires : tie.Need-set-byte-requires Inv-loop μ-loop
 set-byte-requires c κs = search needs
 
--- src/main.rt:212:5
 set-byte-requires-2 : tie.Need-set-byte-requires-2 Inv-loop μ-loop
 set-byte-requires-2 c κs = search needs
 
--- src/main.rt:214:5
 loop-holds : tie.Need-loop-holds Inv-loop μ-loop
 loop-holds c = search needs
 
--- src/main.rt:215:9
 put-requires : tie.Need-put-requires Inv-loop μ-loop
 put-requires c κs = search needs
 
--- src/main.rt:216:9
 add-n : tie.Need-add-n Inv-loop μ-loop
 add-n c = search needs
 
--- src/main.rt:214:5
 loop-less : tie.Need-loop-less Inv-loop μ-loop
 loop-less c = search needs
 
--- src/main.rt:214:5
 loop-again : tie.Need-loop-again Inv-loop μ-loop
 loop-again c = search needs
 
--- src/main.rt:218:5
 try-sheet-requires : tie.Need-try-sheet-requires Inv-loop μ-loop
 try-sheet-requires c κs = search needs
 
--- src/main.rt:210:1
 same-length : tie.Need-same-length Inv-loop μ-loop
 same-length c = search needs
 
--- src/main.rt:210:1
 returns : tie.Need-returns Inv-loop μ-loop
 returns c = search needs
 

@@ -16,55 +16,42 @@ Inv-loop sheet size₀ t3 t4 t5 size = size ≤ length sheet
 abbrev μ-loop : tie.MeasureT-loop
 μ-loop sheet size₀ t3 t4 t5 size = length sheet - size
 
--- src/main.rt:195:5
 loop-holds : tie.Need-loop-holds Inv-loop μ-loop
 loop-holds c = search needs
 
--- src/main.rt:196:13
 slice-aggregate-say : tie.Need-slice-aggregate-say Inv-loop μ-loop
 slice-aggregate-say c = search needs
 
--- src/main.rt:196:9
 say-requires : tie.Need-say-requires Inv-loop μ-loop
 say-requires c κs = search needs
 
--- src/main.rt:197:9
 say-number-requires : tie.Need-say-number-requires Inv-loop μ-loop
 say-number-requires c κs = search needs
 
--- src/main.rt:198:19
 slice-aggregate-try-sheet : tie.Need-slice-aggregate-try-sheet Inv-loop μ-loop
 slice-aggregate-try-sheet c = search needs
 
--- src/main.rt:198:24
 slice-aggregate-try-sheet-2 : tie.Need-slice-aggregate-try-sheet-2 Inv-loop μ-loop
 slice-aggregate-try-sheet-2 c = simp length-take (omega arith)
 
--- src/main.rt:198:9
 try-sheet-requires : tie.Need-try-sheet-requires Inv-loop μ-loop
 try-sheet-requires c κs = search needs
 
--- src/main.rt:199:9
 add-size : tie.Need-add-size Inv-loop μ-loop
 add-size c = search needs
 
--- src/main.rt:195:5
 loop-less : tie.Need-loop-less Inv-loop μ-loop
 loop-less c = search needs
 
--- src/main.rt:195:5
 loop-again : tie.Need-loop-again Inv-loop μ-loop
 loop-again c = search needs
 
--- src/main.rt:201:15
 slice-aggregate-try-sheet-3 : tie.Need-slice-aggregate-try-sheet-3 Inv-loop μ-loop
 slice-aggregate-try-sheet-3 c = search needs
 
--- src/main.rt:201:5
 try-sheet-requires-2 : tie.Need-try-sheet-requires-2 Inv-loop μ-loop
 try-sheet-requires-2 c κs = search needs
 
--- src/main.rt:193:1
 returns : tie.Need-returns Inv-loop μ-loop
 returns c = search needs
 

@@ -13,51 +13,39 @@ use Rattle.settling.proofs.comparisons.put_truths.Reads as put-truths-r
 use Rattle.settling.proofs.comparisons.steady.Reads as steady-reads
 use Rattle.words.proofs.parts.repeat_marks.Reads as repeat-marks-reads
 
--- src/comparisons.rt:71:9
 put-truths-requires : tie.Need-put-truths-requires
 put-truths-requires c κs = search needs
 
--- src/comparisons.rt:72:9
 same-length : tie.Need-same-length
 same-length c = search needs
 
--- src/comparisons.rt:72:9
 returns : tie.Need-returns
 returns c = search needs
 
--- src/comparisons.rt:74:9
 steady-requires : tie.Need-steady-requires
 steady-requires c κs = search needs
 
--- src/comparisons.rt:75:9
 put-truths-requires-2 : tie.Need-put-truths-requires-2
 put-truths-requires-2 c κs = search needs
 
--- src/comparisons.rt:76:9
 same-length-2 : tie.Need-same-length-2
 same-length-2 c = search needs
 
--- src/comparisons.rt:76:9
 returns-2 : tie.Need-returns-2
 returns-2 c = search needs
 
--- src/comparisons.rt:79:16
 add-once : tie.Need-add-once
 add-once c = search needs
 
--- src/comparisons.rt:80:5
 put-truths-requires-3 : tie.Need-put-truths-requires-3
 put-truths-requires-3 c κs = search needs
 
--- src/comparisons.rt:81:5
 repeat-marks-requires : tie.Need-repeat-marks-requires
 repeat-marks-requires c κs = search needs
 
--- src/comparisons.rt:58:1
 same-length-3 : tie.Need-same-length-3
 same-length-3 c = search needs
 
--- src/comparisons.rt:58:1
 returns-3 : tie.Need-returns-3
 returns-3 c =
     let start = c .before .before .before .before .before .before .before .before .before .before .before .before .before .before in

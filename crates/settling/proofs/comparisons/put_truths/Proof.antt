@@ -18,18 +18,15 @@ Inv-loop scratch₀ plan sizes comparison i count t₀ scratch t = law.Upward sc
 abbrev μ-loop : tie.MeasureT-loop
 μ-loop scratch₀ plan sizes comparison i count t₀ scratch t = count - t
 
--- src/comparisons.rt:50:5
 loop-holds : tie.Need-loop-holds Inv-loop μ-loop
 loop-holds c = law.upward-none _ _ _ _
 
--- src/comparisons.rt:51:33
 test-at-requires : tie.Need-test-at-requires Inv-loop μ-loop
 test-at-requires c κs =
     let start = c .before .before .before .before .before in
     let loop-test = c .before .loop-test in
     (start .pre .0, start .pre .1, omega (arith, loop-test .taken, start .pre .4))
 
--- src/comparisons.rt:51:9
 put-mark-requires : tie.Need-put-mark-requires Inv-loop μ-loop
 put-mark-requires c κs =
     let start = c .before .before .before .before .before .before in
@@ -37,18 +34,15 @@ put-mark-requires c κs =
     let loop-test = c .before .before .loop-test in
     (loop .inv .1 .long ∙ start .pre .2, start .pre .3, omega (arith, loop-test .taken, start .pre .4))
 
--- src/comparisons.rt:52:9
 add-t : tie.Need-add-t Inv-loop μ-loop
 add-t c =
     let start = c .before .before .before .before .before .before .before .before .before in
     let loop-test = c .before .before .before .before .before .loop-test in
     omega (arith, loop-test .taken, start .pre .4)
 
--- src/comparisons.rt:50:5
 loop-less : tie.Need-loop-less Inv-loop μ-loop
 loop-less c = omega (arith, c .before .before .before .before .before .loop-test .taken)
 
--- src/comparisons.rt:50:5
 loop-again : tie.Need-loop-again Inv-loop μ-loop
 loop-again c =
     let loop = c .before .before .before .before .before .before .loop in
@@ -57,11 +51,9 @@ loop-again c =
     let put-mark = c .before .before .put-mark in
     law.upward-next _ _ _ (loop .inv) (loop-test .taken) (test-at .ensures) (put-mark .ensures)
 
--- src/comparisons.rt:38:1
 same-length : tie.Need-same-length Inv-loop μ-loop
 same-length c = search needs
 
--- src/comparisons.rt:38:1
 returns : tie.Need-returns Inv-loop μ-loop
 returns c =
     let loop = c .before .loop in

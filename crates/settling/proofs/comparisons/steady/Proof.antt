@@ -17,39 +17,30 @@ Inv-loop plan sizes comparison from end t₀ t = law.Looked plan comparison from
 abbrev μ-loop : tie.MeasureT-loop
 μ-loop plan sizes comparison from end t₀ t = end - t
 
--- src/comparisons.rt:24:15
 add-end : tie.Need-add-end Inv-loop μ-loop
 add-end c = search needs
 
--- src/comparisons.rt:26:5
 loop-holds : tie.Need-loop-holds Inv-loop μ-loop
 loop-holds c = law.looked-first (now (c .before .before .args .plan)) (c .before .before .args .comparison) (c .before .before .args .from) (c .before .before .args .sizes .cycle)
 
--- src/comparisons.rt:27:23
 judge-cycle-requires : tie.Need-judge-cycle-requires Inv-loop μ-loop
 judge-cycle-requires c κs = (c .before .before .before .before .pre .0, c .before .before .before .before .pre .1, omega (arith, c .before .loop .inv .0, c .before .before .before .before .pre .2), omega (arith, c .loop-test .taken, c .before .before .before .before .pre .3, c .before .before .before .before .pre .0 .a-cycle))
 
--- src/comparisons.rt:27:12
 is-changes-requires : tie.Need-is-changes-requires Inv-loop μ-loop
 is-changes-requires c κs = search needs
 
--- src/comparisons.rt:28:13
 returns : tie.Need-returns Inv-loop μ-loop
 returns c = law.looked-changes (now (c .before .before .before .before .before .before .before .args .plan)) (c .before .before .before .before .before .before .before .args .comparison) (c .before .before .before .before .before .before .before .args .from) (c .before .before .before .before .before .before .before .args .sizes .cycle) (c .before .before .before .before .loop .inv) (c .before .before .before .loop-test .taken) (c .before .before .judge-cycle .ensures) (c .before .is-changes .ensures) (c .if1 .taken)
 
--- src/comparisons.rt:30:9
 add-t : tie.Need-add-t Inv-loop μ-loop
 add-t c = omega (arith, c .before .before .before .loop-test .taken, c .before .before .before .before .before .before .before .pre .3)
 
--- src/comparisons.rt:26:5
 loop-less : tie.Need-loop-less Inv-loop μ-loop
 loop-less c = omega arith
 
--- src/comparisons.rt:26:5
 loop-again : tie.Need-loop-again Inv-loop μ-loop
 loop-again c = law.looked-on (now (c .before .before .before .before .before .before .before .args .plan)) (c .before .before .before .before .before .before .before .args .comparison) (c .before .before .before .before .before .before .before .args .from) (c .before .before .before .before .before .before .before .args .sizes .cycle) (c .before .before .before .before .loop .inv) (c .before .before .before .loop-test .taken) (c .before .before .judge-cycle .ensures) (c .before .is-changes .ensures) (c .if1 .left)
 
--- src/comparisons.rt:20:1
 returns-2 : tie.Need-returns-2 Inv-loop μ-loop
 returns-2 c = law.looked-all (now (c .before .before .before .before .args .plan)) (c .before .before .before .before .args .comparison) (c .before .before .before .before .args .from) (c .before .before .before .before .args .sizes .cycle) (c .before .loop .inv) (c .loop-test .left)
 

@@ -10,24 +10,20 @@ use Rattle.settling.proofs.copies.before.Reads as reads
 use Rattle.settling.proofs.copies.before.Lts as lts
 use Rattle.words.proofs.parts.mark_at.Reads as mark-at-reads
 
--- src/copies.rt:91:29
 sub-mark-at : tie.Need-sub-mark-at
 sub-mark-at c = search needs
 
--- src/copies.rt:91:9
 mark-at-requires : tie.Need-mark-at-requires
 mark-at-requires c κs =
     let start = c .before .before in
     (start .pre .0, start .pre .1, omega (arith, start .pre .2))
 
--- src/copies.rt:84:1
 returns : tie.Need-returns
 returns c =
     let start = c .before .before in
     let if1 = c .if1 in
     moved-first (start .args .first) (markAt (now (start .args .scratch)) (start .args .a)) (start .args .row) (if1 .taken)
 
--- src/copies.rt:84:1
 returns-2 : tie.Need-returns-2
 returns-2 c =
     let start = c .before .before .before in

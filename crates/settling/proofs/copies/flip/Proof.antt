@@ -5,7 +5,6 @@ use Rattle.settling.proofs.copies.flip.Tie as tie
 use Rattle.settling.proofs.copies.flip.Reads as reads
 use Rattle.settling.proofs.copies.flip.Lts as lts
 
--- src/copies.rt:19:1
 returns : tie.Need-returns
 returns c = xor-flips (c .args .mark) (c .args .opposite)
 

@@ -18,18 +18,15 @@ Inv-loop scratch₀ i a count row₀ scratch row = law.Upward scratch₀ i (λ r
 abbrev μ-loop : tie.MeasureT-loop
 μ-loop scratch₀ i a count row₀ scratch row = count - row
 
--- src/copies.rt:52:5
 loop-holds : tie.Need-loop-holds Inv-loop μ-loop
 loop-holds c = law.upward-none _ _ _ _
 
--- src/copies.rt:53:40
 add-mark-at : tie.Need-add-mark-at Inv-loop μ-loop
 add-mark-at c =
     let start = c .before .before .before .before in
     let loop-test = c .before .loop-test in
     omega (arith, loop-test .taken, start .pre .3)
 
--- src/copies.rt:53:13
 mark-at-requires : tie.Need-mark-at-requires Inv-loop μ-loop
 mark-at-requires c κs =
     let start = c .before .before .before .before in
@@ -37,7 +34,6 @@ mark-at-requires c κs =
     let loop-test = c .before .loop-test in
     (loop .inv .1 .long ∙ start .pre .0, omega (arith, start .pre .1, start .pre .2), omega (arith, loop-test .taken, start .pre .3))
 
--- src/copies.rt:54:9
 put-mark-requires : tie.Need-put-mark-requires Inv-loop μ-loop
 put-mark-requires c κs =
     let start = c .before .before .before .before .before .before in
@@ -45,18 +41,15 @@ put-mark-requires c κs =
     let loop-test = c .before .before .before .loop-test in
     (loop .inv .1 .long ∙ start .pre .0, start .pre .1, omega (arith, loop-test .taken, start .pre .3))
 
--- src/copies.rt:55:9
 add-row : tie.Need-add-row Inv-loop μ-loop
 add-row c =
     let start = c .before .before .before .before .before .before .before .before .before in
     let loop-test = c .before .before .before .before .before .before .loop-test in
     omega (arith, loop-test .taken, start .pre .3)
 
--- src/copies.rt:52:5
 loop-less : tie.Need-loop-less Inv-loop μ-loop
 loop-less c = omega (arith, c .before .before .before .before .before .before .loop-test .taken)
 
--- src/copies.rt:52:5
 loop-again : tie.Need-loop-again Inv-loop μ-loop
 loop-again c =
     let start = c .before .before .before .before .before .before .before .before .before in
@@ -66,11 +59,9 @@ loop-again c =
     let put-mark = c .before .before .put-mark in
     law.upward-next _ _ _ (loop .inv) (loop-test .taken) (mark-at .ensures ∙ loop .inv .1 .lower _ (start .pre .2) _) (put-mark .ensures)
 
--- src/copies.rt:47:1
 same-length : tie.Need-same-length Inv-loop μ-loop
 same-length c = search needs
 
--- src/copies.rt:47:1
 returns : tie.Need-returns Inv-loop μ-loop
 returns c =
     let loop = c .before .loop in

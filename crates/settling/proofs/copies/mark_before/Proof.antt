@@ -16,19 +16,15 @@ Inv-loop scratch₀ i a count row₀ scratch row = law.Moving scratch₀ i a cou
 abbrev μ-loop : tie.MeasureT-loop
 μ-loop scratch₀ i a count row₀ scratch row = row
 
--- src/copies.rt:76:5
 loop-holds : tie.Need-loop-holds Inv-loop μ-loop
 loop-holds c = law.moving-none _ _ _ _ (c .before .pre .3)
 
--- src/copies.rt:77:9
 sub-row : tie.Need-sub-row Inv-loop μ-loop
 sub-row c = omega (arith, c .loop-test .taken)
 
--- src/copies.rt:78:40
 sub-mark-at : tie.Need-sub-mark-at Inv-loop μ-loop
 sub-mark-at c = omega (arith, c .before .loop-test .taken)
 
--- src/copies.rt:78:13
 mark-at-requires : tie.Need-mark-at-requires Inv-loop μ-loop
 mark-at-requires c κs =
     let start = c .before .before .before .before in
@@ -36,7 +32,6 @@ mark-at-requires c κs =
     let loop-test = c .before .loop-test in
     (loop .inv .2 .long ∙ start .pre .0, omega (arith, start .pre .1, start .pre .2), omega (arith, loop .inv .1, loop-test .taken, start .pre .4))
 
--- src/copies.rt:79:9
 put-mark-requires : tie.Need-put-mark-requires Inv-loop μ-loop
 put-mark-requires c κs =
     let start = c .before .before .before .before .before .before in
@@ -44,11 +39,9 @@ put-mark-requires c κs =
     let loop-test = c .before .before .before .loop-test in
     (loop .inv .2 .long ∙ start .pre .0, start .pre .1, omega (arith, loop .inv .1, loop-test .taken, start .pre .4))
 
--- src/copies.rt:76:5
 loop-less : tie.Need-loop-less Inv-loop μ-loop
 loop-less c = omega (arith, c .before .before .before .before .before .before .loop-test .taken)
 
--- src/copies.rt:76:5
 loop-again : tie.Need-loop-again Inv-loop μ-loop
 loop-again c =
     let start = c .before .before .before .before .before .before .before .before .before in
@@ -58,11 +51,9 @@ loop-again c =
     let put-mark = c .before .before .put-mark in
     law.moving-next (start .pre .2) (loop .inv) (loop-test .taken) (mark-at .ensures) (put-mark .ensures)
 
--- src/copies.rt:71:1
 same-length : tie.Need-same-length Inv-loop μ-loop
 same-length c = search needs
 
--- src/copies.rt:71:1
 returns : tie.Need-returns Inv-loop μ-loop
 returns c =
     let loop = c .before .loop in

@@ -19,11 +19,9 @@ Inv-loop scratch₀ i a b count of opposite row₀ scratch row = law.Upward scra
 abbrev μ-loop : tie.MeasureT-loop
 μ-loop scratch₀ i a b count of opposite row₀ scratch row = count - row
 
--- src/copies.rt:39:5
 loop-holds : tie.Need-loop-holds Inv-loop μ-loop
 loop-holds c = law.upward-none _ _ _ _
 
--- src/copies.rt:40:25
 mark-at-requires : tie.Need-mark-at-requires Inv-loop μ-loop
 mark-at-requires c κs =
     let start = c .before .before .before .before in
@@ -31,11 +29,9 @@ mark-at-requires c κs =
     let loop-test = c .before .loop-test in
     (loop .inv .1 .long ∙ start .pre .0, omega (arith, start .pre .1, start .pre .3), omega (arith, loop-test .taken, start .pre .4))
 
--- src/copies.rt:40:20
 flip-requires : tie.Need-flip-requires Inv-loop μ-loop
 flip-requires c κs = search needs
 
--- src/copies.rt:40:62
 mark-at-requires-2 : tie.Need-mark-at-requires-2 Inv-loop μ-loop
 mark-at-requires-2 c κs =
     let start = c .before .before .before .before .before .before .before in
@@ -43,15 +39,12 @@ mark-at-requires-2 c κs =
     let loop-test = c .before .before .before .before .loop-test in
     (loop .inv .1 .long ∙ start .pre .0, omega (arith, start .pre .1, start .pre .2), omega (arith, loop-test .taken, start .pre .4))
 
--- src/copies.rt:40:57
 flip-requires-2 : tie.Need-flip-requires-2 Inv-loop μ-loop
 flip-requires-2 c κs = search needs
 
--- src/copies.rt:41:35
 flip-requires-3 : tie.Need-flip-requires-3 Inv-loop μ-loop
 flip-requires-3 c κs = search needs
 
--- src/copies.rt:41:9
 put-mark-requires : tie.Need-put-mark-requires Inv-loop μ-loop
 put-mark-requires c κs =
     let start = c .before .before .before .before .before .before .before .before .before .before .before in
@@ -59,20 +52,17 @@ put-mark-requires c κs =
     let loop-test = c .before .before .before .before .before .before .before .before .loop-test in
     (loop .inv .1 .long ∙ start .pre .0, start .pre .1, omega (arith, loop-test .taken, start .pre .4))
 
--- src/copies.rt:42:9
 add-row : tie.Need-add-row Inv-loop μ-loop
 add-row c =
     let start = c .before .before .before .before .before .before .before .before .before .before .before .before .before .before in
     let loop-test = c .before .before .before .before .before .before .before .before .before .before .before .loop-test in
     omega (arith, loop-test .taken, start .pre .4)
 
--- src/copies.rt:39:5
 loop-less : tie.Need-loop-less Inv-loop μ-loop
 loop-less c =
     let loop-test = c .before .before .before .before .before .before .before .before .before .before .before .loop-test in
     omega (arith, loop-test .taken)
 
--- src/copies.rt:39:5
 loop-again : tie.Need-loop-again Inv-loop μ-loop
 loop-again c =
     let start = c .before .before .before .before .before .before .before .before .before .before .before .before .before .before in
@@ -86,11 +76,9 @@ loop-again c =
     let put-mark = c .before .before .put-mark in
     law.upward-next _ _ _ (loop .inv) (loop-test .taken) (joined-on _ _ _ _ _ (start .args .of) (start .args .opposite) (start .pre .2) (start .pre .3) (loop .inv .1 .lower) (mark-at .ensures) (flip .ensures) (mark-at2 .ensures) (flip2 .ensures) (flip3 .ensures)) (put-mark .ensures)
 
--- src/copies.rt:26:1
 same-length : tie.Need-same-length Inv-loop μ-loop
 same-length c = search needs
 
--- src/copies.rt:26:1
 returns : tie.Need-returns Inv-loop μ-loop
 returns c =
     let loop = c .before .loop in

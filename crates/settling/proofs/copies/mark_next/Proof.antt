@@ -10,31 +10,24 @@ use Rattle.settling.proofs.copies.mark_after.Reads as mark-after-reads
 use Rattle.words.proofs.parts.mark_at.Reads as mark-at-reads
 use Rattle.words.proofs.parts.put_mark.Reads as put-mark-reads
 
--- src/copies.rt:64:16
 add-last : tie.Need-add-last
 add-last c = search needs
 
--- src/copies.rt:64:16
 sub-last : tie.Need-sub-last
 sub-last c = search needs
 
--- src/copies.rt:65:9
 mark-at-requires : tie.Need-mark-at-requires
 mark-at-requires c κs = search needs
 
--- src/copies.rt:66:5
 mark-after-requires : tie.Need-mark-after-requires
 mark-after-requires c κs = search needs
 
--- src/copies.rt:67:5
 put-mark-requires : tie.Need-put-mark-requires
 put-mark-requires c κs = search needs
 
--- src/copies.rt:60:1
 same-length : tie.Need-same-length
 same-length c = search needs
 
--- src/copies.rt:60:1
 returns : tie.Need-returns
 returns c =
     let start = c .before .before .before .before .before .before .before .before .before .before .before .before in

@@ -13,31 +13,24 @@ use Rattle.table.proofs.sweeps.agree.Reads as agree-reads
 use Rattle.words.proofs.parts.mark_at.Reads as mark-at-reads
 use Rattle.words.proofs.parts.put_mark.Reads as put-mark-reads
 
--- src/copies.rt:102:17
 add-count : tie.Need-add-count
 add-count c = search needs
 
--- src/copies.rt:103:15
 before-requires : tie.Need-before-requires
 before-requires c κs = search needs
 
--- src/copies.rt:103:65
 sub-mark-at : tie.Need-sub-mark-at
 sub-mark-at c = search needs
 
--- src/copies.rt:103:45
 mark-at-requires : tie.Need-mark-at-requires
 mark-at-requires c κs = search needs
 
--- src/copies.rt:103:9
 agree-requires : tie.Need-agree-requires
 agree-requires c κs = search needs
 
--- src/copies.rt:104:9
 same-length : tie.Need-same-length
 same-length c = search needs
 
--- src/copies.rt:104:9
 returns : tie.Need-returns
 returns c =
     let start = c .before .before .before .before .before .before .before .before in
@@ -47,19 +40,15 @@ returns c =
     let if1 = c .if1 in
     before-open (now (start .args .scratch)) (start .args .a) (start .args .laid .start) (start .args .first) _ (before2 .ensures) (mark-at .ensures) (agree .ensures) (if1 .taken)
 
--- src/copies.rt:106:5
 mark-before-requires : tie.Need-mark-before-requires
 mark-before-requires c κs = search needs
 
--- src/copies.rt:107:5
 put-mark-requires : tie.Need-put-mark-requires
 put-mark-requires c κs = search needs
 
--- src/copies.rt:97:1
 same-length-2 : tie.Need-same-length-2
 same-length-2 c = search needs
 
--- src/copies.rt:97:1
 returns-2 : tie.Need-returns-2
 returns-2 c =
     let start = c .before .before .before .before .before .before .before .before .before .before .before .before .before .before .before .before in

@@ -8,24 +8,20 @@ use Rattle.settling.proofs.operators.mark_ahead.Lts as lts
 use Rattle.settling.proofs.operators.mark_back.Reads as mark-back-reads
 use Rattle.settling.proofs.operators.seen_round.Reads as seen-round-reads
 
--- src/operators.rt:126:9
 seen-round-requires : tie.Need-seen-round-requires
 seen-round-requires c κs =
     let start = c .before .before in
     (start .pre .0, law.names-few (start .args .operator) (start .pre .1) (start .pre .2), start .pre .4, start .pre .5)
 
--- src/operators.rt:127:5
 mark-back-requires : tie.Need-mark-back-requires
 mark-back-requires c κs =
     let start = c .before .before .before .before in
     let seen-round = c .before .seen-round in
     (start .pre .0, start .pre .1, start .pre .2, start .pre .4, start .pre .5, law.seen-round _ _ _ _ (seen-round .ensures))
 
--- src/operators.rt:122:1
 same-length : tie.Need-same-length
 same-length c = search needs
 
--- src/operators.rt:122:1
 returns : tie.Need-returns
 returns c =
     let start = c .before .before .before .before .before .before .before in

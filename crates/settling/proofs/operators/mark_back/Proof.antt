@@ -20,19 +20,15 @@ Inv-loop scratch₀ i operator end beside₀ row₀ scratch beside row = (P C : 
 abbrev μ-loop : tie.MeasureT-loop
 μ-loop scratch₀ i operator end beside₀ row₀ scratch beside row = row
 
--- src/operators.rt:125:19
 add-row : tie.Need-add-row Inv-loop μ-loop
 add-row c = omega (arith, c .before .before .pre .4)
 
--- src/operators.rt:126:5
 loop-holds : tie.Need-loop-holds Inv-loop μ-loop
 loop-holds c = λ P C e seen. back-first P C _ _ _ e seen
 
--- src/operators.rt:127:9
 sub-row : tie.Need-sub-row Inv-loop μ-loop
 sub-row c = omega (arith, c .loop-test .taken)
 
--- src/operators.rt:128:13
 step-on-requires : tie.Need-step-on-requires Inv-loop μ-loop
 step-on-requires c κs =
     let start = c .before .before .before .before .before in
@@ -40,7 +36,6 @@ step-on-requires c κs =
     let loop-test = c .before .loop-test in
     (loop .inv (start .args .laid .start) (start .args .laid .cycle) refl (start .pre .5) .done .long ∙ start .pre .0, names-few (start .args .operator) (start .pre .1) (start .pre .2), omega (arith, loop .inv (start .args .laid .start) (start .args .laid .cycle) refl (start .pre .5) .few, loop-test .taken, start .pre .4))
 
--- src/operators.rt:129:9
 watched-truth-requires : tie.Need-watched-truth-requires Inv-loop μ-loop
 watched-truth-requires c κs =
     let start = c .before .before .before .before .before .before .before in
@@ -48,7 +43,6 @@ watched-truth-requires c κs =
     let loop-test = c .before .before .before .loop-test in
     (loop .inv (start .args .laid .start) (start .args .laid .cycle) refl (start .pre .5) .done .long ∙ start .pre .0, names-few (start .args .operator) (start .pre .1) (start .pre .2), omega (arith, loop .inv (start .args .laid .start) (start .args .laid .cycle) refl (start .pre .5) .few, loop-test .taken, start .pre .4))
 
--- src/operators.rt:130:9
 put-mark-requires : tie.Need-put-mark-requires Inv-loop μ-loop
 put-mark-requires c κs =
     let start = c .before .before .before .before .before .before .before .before .before in
@@ -56,13 +50,11 @@ put-mark-requires c κs =
     let loop-test = c .before .before .before .before .before .loop-test in
     (loop .inv (start .args .laid .start) (start .args .laid .cycle) refl (start .pre .5) .done .long ∙ start .pre .0, start .pre .1, omega (arith, loop .inv (start .args .laid .start) (start .args .laid .cycle) refl (start .pre .5) .few, loop-test .taken, start .pre .4))
 
--- src/operators.rt:126:5
 loop-less : tie.Need-loop-less Inv-loop μ-loop
 loop-less c =
     let loop-test = c .before .before .before .before .before .before .before .before .loop-test in
     omega (arith, loop-test .taken)
 
--- src/operators.rt:126:5
 loop-again : tie.Need-loop-again Inv-loop μ-loop
 loop-again c =
     let start = c .before .before .before .before .before .before .before .before .before .before .before .before in
@@ -73,14 +65,12 @@ loop-again c =
     let put-mark = c .before .before .put-mark in
     λ P C e seen. back-next P C _ _ _ (start .pre .2) (loop .inv P C e seen) (loop-test .taken) (step-on .ensures) (watched-truth .ensures) (put-mark .ensures)
 
--- src/operators.rt:120:1
 same-length : tie.Need-same-length Inv-loop μ-loop
 same-length c =
     let start = c .before .before .before .before in
     let loop = c .before .loop in
     search (needs, loop .inv (start .args .laid .start) (start .args .laid .cycle) refl (start .pre .5) .done .long)
 
--- src/operators.rt:120:1
 returns : tie.Need-returns Inv-loop μ-loop
 returns c =
     let start = c .before .before .before .before in

@@ -18,11 +18,9 @@ Inv-loop scratch₀ i operator first count beside₀ row₀ scratch beside row =
 abbrev μ-loop : tie.MeasureT-loop
 μ-loop scratch₀ i operator first count beside₀ row₀ scratch beside row = count - row
 
--- src/operators.rt:76:5
 loop-holds : tie.Need-loop-holds Inv-loop μ-loop
 loop-holds c = onward-first _ _ _ _ _
 
--- src/operators.rt:77:13
 step-on-requires : tie.Need-step-on-requires Inv-loop μ-loop
 step-on-requires c κs =
     let start = c .before .before .before .before in
@@ -30,7 +28,6 @@ step-on-requires c κs =
     let loop-test = c .before .loop-test in
     (loop .inv .done .long ∙ start .pre .0, names-few (start .args .operator) (start .pre .1) (start .pre .2), omega (arith, loop-test .taken, start .pre .3))
 
--- src/operators.rt:78:9
 watched-truth-requires : tie.Need-watched-truth-requires Inv-loop μ-loop
 watched-truth-requires c κs =
     let start = c .before .before .before .before .before .before in
@@ -38,7 +35,6 @@ watched-truth-requires c κs =
     let loop-test = c .before .before .before .loop-test in
     (loop .inv .done .long ∙ start .pre .0, names-few (start .args .operator) (start .pre .1) (start .pre .2), omega (arith, loop-test .taken, start .pre .3))
 
--- src/operators.rt:79:9
 put-mark-requires : tie.Need-put-mark-requires Inv-loop μ-loop
 put-mark-requires c κs =
     let start = c .before .before .before .before .before .before .before .before in
@@ -46,20 +42,17 @@ put-mark-requires c κs =
     let loop-test = c .before .before .before .before .before .loop-test in
     (loop .inv .done .long ∙ start .pre .0, start .pre .1, omega (arith, loop-test .taken, start .pre .3))
 
--- src/operators.rt:80:9
 add-row : tie.Need-add-row Inv-loop μ-loop
 add-row c =
     let start = c .before .before .before .before .before .before .before .before .before .before .before in
     let loop-test = c .before .before .before .before .before .before .before .before .loop-test in
     omega (arith, loop-test .taken, start .pre .3)
 
--- src/operators.rt:76:5
 loop-less : tie.Need-loop-less Inv-loop μ-loop
 loop-less c =
     let loop-test = c .before .before .before .before .before .before .before .before .loop-test in
     omega (arith, loop-test .taken)
 
--- src/operators.rt:76:5
 loop-again : tie.Need-loop-again Inv-loop μ-loop
 loop-again c =
     let start = c .before .before .before .before .before .before .before .before .before .before .before in
@@ -70,11 +63,9 @@ loop-again c =
     let put-mark = c .before .before .put-mark in
     onward-next _ _ _ _ _ (start .pre .2) (loop .inv) (loop-test .taken) (step-on .ensures) (watched-truth .ensures) (put-mark .ensures)
 
--- src/operators.rt:70:1
 same-length : tie.Need-same-length Inv-loop μ-loop
 same-length c = search needs
 
--- src/operators.rt:70:1
 returns : tie.Need-returns Inv-loop μ-loop
 returns c =
     let loop = c .before .loop in

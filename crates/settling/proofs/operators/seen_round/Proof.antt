@@ -19,32 +19,26 @@ Inv-loop scratch operator start beside₀ row₀ beside row = (C : ℕ) → star
 abbrev μ-loop : tie.MeasureT-loop
 μ-loop scratch operator start beside₀ row₀ beside row = row
 
--- src/operators.rt:91:55
 end-of-requires : tie.Need-end-of-requires Inv-loop μ-loop
 end-of-requires c κs = search needs
 
--- src/operators.rt:91:9
 watched-truth-requires : tie.Need-watched-truth-requires Inv-loop μ-loop
 watched-truth-requires c κs =
     let start = c .before .before in
     (start .pre .0, start .pre .1, omega (arith, start .pre .2, start .pre .3))
 
--- src/operators.rt:92:19
 add-row : tie.Need-add-row Inv-loop μ-loop
 add-row c = omega (arith, c .before .before .before .before .pre .3)
 
--- src/operators.rt:93:5
 loop-holds : tie.Need-loop-holds Inv-loop μ-loop
 loop-holds c =
     let end-of = c .before .before .end-of in
     let watched-truth = c .before .watched-truth in
     λ C e. round-first _ C _ _ e (end-of .ensures) (watched-truth .ensures)
 
--- src/operators.rt:94:9
 sub-row : tie.Need-sub-row Inv-loop μ-loop
 sub-row c = omega (arith, c .loop-test .taken)
 
--- src/operators.rt:95:13
 step-on-requires : tie.Need-step-on-requires Inv-loop μ-loop
 step-on-requires c κs =
     let start = c .before .before .before .before .before .before in
@@ -52,7 +46,6 @@ step-on-requires c κs =
     let loop-test = c .loop-test in
     (start .pre .0, start .pre .1, omega (arith, loop .inv (start .args .laid .cycle) refl .few, loop-test .taken, start .pre .3))
 
--- src/operators.rt:96:9
 watched-truth-requires-2 : tie.Need-watched-truth-requires-2 Inv-loop μ-loop
 watched-truth-requires-2 c κs =
     let start = c .before .before .before .before .before .before .before in
@@ -60,11 +53,9 @@ watched-truth-requires-2 c κs =
     let loop-test = c .before .loop-test in
     (start .pre .0, start .pre .1, omega (arith, loop .inv (start .args .laid .cycle) refl .few, loop-test .taken, start .pre .3))
 
--- src/operators.rt:93:5
 loop-less : tie.Need-loop-less Inv-loop μ-loop
 loop-less c = omega (arith, c .before .before .loop-test .taken)
 
--- src/operators.rt:93:5
 loop-again : tie.Need-loop-again Inv-loop μ-loop
 loop-again c =
     let loop = c .before .before .before .loop in
@@ -73,7 +64,6 @@ loop-again c =
     let watched-truth2 = c .watched-truth2 in
     λ C e. round-next _ C _ _ (loop .inv C e) (loop-test .taken) (step-on .ensures) (watched-truth2 .ensures)
 
--- src/operators.rt:86:1
 returns : tie.Need-returns Inv-loop μ-loop
 returns c =
     let start = c .before .before .before .before .before .before in

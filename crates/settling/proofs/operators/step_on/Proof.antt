@@ -11,44 +11,36 @@ use Rattle.marks.proofs.operators.mark_one.Reads as mark-one-reads
 use Rattle.marks.proofs.operators.mark_two.Reads as mark-two-reads
 use Rattle.words.proofs.parts.mark_at.Reads as mark-at-reads
 
--- src/operators.rt:31:23
 enum-known-operator : tie.Need-enum-known-operator
 enum-known-operator c = search needs
 
--- src/operators.rt:31:50
 mark-at-requires : tie.Need-mark-at-requires
 mark-at-requires c κs =
     let start = c .before .before .before .before in
     let operator = c .before .operator in
     (start .pre .0, law.one-named mostParts (start .pre .1) (operator .given .1), start .pre .2)
 
--- src/operators.rt:31:35
 mark-one-requires : tie.Need-mark-one-requires
 mark-one-requires c κs = search needs
 
--- src/operators.rt:32:23
 enum-known-operator-2 : tie.Need-enum-known-operator-2
 enum-known-operator-2 c = search needs
 
--- src/operators.rt:34:13
 mark-at-requires-2 : tie.Need-mark-at-requires-2
 mark-at-requires-2 c κs =
     let start = c .before .before .before .before in
     let operator2 = c .before .operator2 in
     (start .pre .0, law.two-named mostParts (start .pre .1) (operator2 .given .1) .0, start .pre .2)
 
--- src/operators.rt:35:13
 mark-at-requires-3 : tie.Need-mark-at-requires-3
 mark-at-requires-3 c κs =
     let start = c .before .before .before .before .before in
     let operator2 = c .before .before .operator2 in
     (start .pre .0, law.two-named mostParts (start .pre .1) (operator2 .given .1) .1, start .pre .2)
 
--- src/operators.rt:32:38
 mark-two-requires : tie.Need-mark-two-requires
 mark-two-requires c κs = search needs
 
--- src/operators.rt:26:1
 returns : tie.Need-returns
 returns c =
     let start = c .before .before .before .before .before .before in
@@ -57,7 +49,6 @@ returns c =
     let mark-one = c .mark-one in
     law.step-one (markAt (now (start .args .scratch))) (start .args .row) (start .args .beside) (operator .given .1) (mark-at .ensures) (mark-one .ensures)
 
--- src/operators.rt:26:1
 returns-2 : tie.Need-returns-2
 returns-2 c =
     let start = c .before .before .before .before .before .before .before in

@@ -12,34 +12,27 @@ use Rattle.settling.proofs.operators.step_on.Reads as step-on-reads
 use Rattle.table.proofs.sweeps.agree.Reads as agree-reads
 use Rattle.words.proofs.parts.mark_at.Reads as mark-at-reads
 
--- src/operators.rt:136:56
 add-mark-onward : tie.Need-add-mark-onward
 add-mark-onward c = search needs
 
--- src/operators.rt:136:9
 mark-onward-requires : tie.Need-mark-onward-requires
 mark-onward-requires c κs = search needs
 
--- src/operators.rt:137:11
 mark-at-requires : tie.Need-mark-at-requires
 mark-at-requires c κs = search needs
 
--- src/operators.rt:137:35
 step-on-requires : tie.Need-step-on-requires
 step-on-requires c κs =
     let start = c .before .before .before .before .before .before .before .before .before in
     let mark-onward = c .before .before .before .before .before .mark-onward in
     (mark-onward .ensures .1 .long ∙ start .pre .0, names-few (start .args .operator) (start .pre .1) (start .pre .2), omega (arith, start .pre .4, start .pre .5))
 
--- src/operators.rt:137:5
 agree-requires : tie.Need-agree-requires
 agree-requires c κs = search needs
 
--- src/operators.rt:131:1
 same-length : tie.Need-same-length
 same-length c = search needs
 
--- src/operators.rt:131:1
 returns : tie.Need-returns
 returns c =
     let start = c .before .before .before .before .before .before .before .before .before .before .before in

@@ -10,47 +10,36 @@ use Rattle.settling.proofs.copies.mark_joined.Reads as mark-joined-read
 use Rattle.settling.proofs.copies.mark_next.Reads as mark-next-reads
 use Rattle.settling.proofs.copies.try_before.Reads as try-before-reads
 
--- src/operators.rt:147:25
 enum-told : tie.Need-enum-told
 enum-told c = search needs
 
--- src/operators.rt:147:43
 add-mark-joined : tie.Need-add-mark-joined
 add-mark-joined c = search needs
 
--- src/operators.rt:147:13
 mark-joined-requires : tie.Need-mark-joined-requires
 mark-joined-requires c κs = search needs
 
--- src/operators.rt:151:23
 enum-told-2 : tie.Need-enum-told-2
 enum-told-2 c = search needs
 
--- src/operators.rt:151:13
 mark-next-requires : tie.Need-mark-next-requires
 mark-next-requires c κs = search needs
 
--- src/operators.rt:154:40
 enum-told-3 : tie.Need-enum-told-3
 enum-told-3 c = search needs
 
--- src/operators.rt:154:29
 try-before-requires : tie.Need-try-before-requires
 try-before-requires c κs = search needs
 
--- src/operators.rt:155:44
 enum-told-4 : tie.Need-enum-told-4
 enum-told-4 c = search needs
 
--- src/operators.rt:155:33
 try-before-requires-2 : tie.Need-try-before-requires-2
 try-before-requires-2 c κs = search needs
 
--- src/operators.rt:141:1
 same-length : tie.Need-same-length
 same-length c = search needs
 
--- src/operators.rt:141:1
 returns : tie.Need-returns
 returns c =
     let start = c .before .before .before .before .before .before .before .before in
@@ -58,11 +47,9 @@ returns c =
     let mark-joined = c .before .before .mark-joined in
     not-tried (start .args .laid .start) (start .args .laid .cycle) (start .pre .3) (now (start .args .scratch)) (start .args .a) (start .args .a) (enum-told .given .1) (mark-joined .ensures)
 
--- src/operators.rt:141:1
 same-length-2 : tie.Need-same-length-2
 same-length-2 c = search needs
 
--- src/operators.rt:141:1
 returns-2 : tie.Need-returns-2
 returns-2 c =
     let start = c .before .before .before .before .before .before .before in
@@ -70,11 +57,9 @@ returns-2 c =
     let mark-next = c .before .before .mark-next in
     next-tried (start .args .laid .start) (start .args .laid .cycle) (start .pre .3) (now (start .args .scratch)) (start .args .a) (enum-told2 .given .1) (mark-next .ensures)
 
--- src/operators.rt:141:1
 same-length-3 : tie.Need-same-length-3
 same-length-3 c = search needs
 
--- src/operators.rt:141:1
 returns-3 : tie.Need-returns-3
 returns-3 c =
     let start = c .before .before .before .before .before .before .before in
@@ -82,11 +67,9 @@ returns-3 c =
     let try-before = c .before .before .try-before in
     yesterday-tried (start .args .laid .start) (start .args .laid .cycle) (now (start .args .scratch)) (start .args .a) (enum-told3 .given .1) (try-before .ensures)
 
--- src/operators.rt:141:1
 same-length-4 : tie.Need-same-length-4
 same-length-4 c = search needs
 
--- src/operators.rt:141:1
 returns-4 : tie.Need-returns-4
 returns-4 c =
     let start = c .before .before .before .before .before .before .before in

@@ -10,33 +10,27 @@ use Rattle.settling.proofs.operators.try_operator.Lts as lts
 use Rattle.settling.proofs.operators.try_one.Reads as try-one-reads
 use Rattle.settling.proofs.operators.try_two.Reads as try-two-reads
 
--- src/operators.rt:193:23
 enum-known-operator : tie.Need-enum-known-operator
 enum-known-operator c = search needs
 
--- src/operators.rt:193:35
 try-one-requires : tie.Need-try-one-requires
 try-one-requires c κs =
     let start = c .before .before .before .before .before in
     let operator = c .before .before .operator in
     (start .pre .0, start .pre .1, law.one-named (start .args .i) (start .pre .2) (operator .given .1), start .pre .3, start .pre .4)
 
--- src/operators.rt:194:23
 enum-known-operator-2 : tie.Need-enum-known-operator-2
 enum-known-operator-2 c = search needs
 
--- src/operators.rt:194:38
 try-two-requires : tie.Need-try-two-requires
 try-two-requires c κs =
     let start = c .before .before .before .before .before in
     let operator2 = c .before .before .operator2 in
     (start .pre .0, start .pre .1, law.two-named (start .args .i) (start .pre .2) (operator2 .given .1) .0, law.two-named (start .args .i) (start .pre .2) (operator2 .given .1) .1, start .pre .3, start .pre .4)
 
--- src/operators.rt:188:1
 same-length : tie.Need-same-length
 same-length c = search needs
 
--- src/operators.rt:188:1
 returns : tie.Need-returns
 returns c =
     let start = c .before .before .before .before .before .before .before .before in
@@ -44,11 +38,9 @@ returns c =
     let try-one = c .before .before .try-one in
     tried-as (start .args .laid .start) (start .args .laid .cycle) (now (start .args .scratch)) (operator .given .1) (try-one .ensures)
 
--- src/operators.rt:188:1
 same-length-2 : tie.Need-same-length-2
 same-length-2 c = search needs
 
--- src/operators.rt:188:1
 returns-2 : tie.Need-returns-2
 returns-2 c =
     let start = c .before .before .before .before .before .before .before .before in

@@ -9,22 +9,18 @@ use Rattle.settling.proofs.operators.watched_truth.Reads as reads
 use Rattle.settling.proofs.operators.watched_truth.Lts as lts
 use Rattle.words.proofs.parts.mark_at.Reads as mark-at-reads
 
--- src/operators.rt:47:26
 enum-known-operator : tie.Need-enum-known-operator
 enum-known-operator c = search needs
 
--- src/operators.rt:47:32
 mark-at-requires : tie.Need-mark-at-requires
 mark-at-requires c κs =
     let start = c .before .before .before .before in
     let operator = c .before .operator in
     (start .pre .0, law.one-named mostParts (start .pre .1) (operator .given .1), start .pre .2)
 
--- src/operators.rt:48:35
 enum-told : tie.Need-enum-told
 enum-told c = search needs
 
--- src/operators.rt:42:1
 returns : tie.Need-returns
 returns c =
     let start = c .before .before .before .before .before in
@@ -32,7 +28,6 @@ returns c =
     let mark-at = c .mark-at in
     law.sees-named (markAt (now (start .args .scratch))) (start .args .own) (start .args .row) (operator .given .1) (mark-at .ensures)
 
--- src/operators.rt:42:1
 returns-2 : tie.Need-returns-2
 returns-2 c = search needs
 

@@ -17,17 +17,14 @@ use Rattle.settling.proofs.comparisons.put_marks.Reads as put-marks-rea
 use Rattle.settling.proofs.comparisons.steady.Reads as steady-reads
 use Rattle.verdict.proofs.atoms.comparison_of.Reads as comparison-of-reads
 
--- src/parts.rt:35:9
 comparison-of-requires : tie.Need-comparison-of-requires
 comparison-of-requires c κs = (c .before .before .args .sizes .channels, c .before .before .pre .4)
 
--- src/parts.rt:36:9
 laid-sizes-requires : tie.Need-laid-sizes-requires
 laid-sizes-requires c κs =
     let start = c .before .before .before in
     (few-passes (start .pre .0) (start .args .passes) (start .pre .1), start .pre .0 .few-rows)
 
--- src/parts.rt:38:9
 steady-requires : tie.Need-steady-requires
 steady-requires c κs =
     let start = c .before .before .before .before in
@@ -35,7 +32,6 @@ steady-requires c κs =
     let laid-sizes = c .laid-sizes in
     (start .pre .0, atom-fit (start .args .sizes) _ (start .pre .4) (comparison-of .ensures), omega (arith, ap (λ (q : Sizes). q .start) (laid-sizes .ensures), laid-rows (now (start .args .plan)) (start .pre .0) (start .args .passes) (start .pre .1) .2), omega (arith, ap (λ (q : Sizes). q .start) (laid-sizes .ensures), laid-rows (now (start .args .plan)) (start .pre .0) (start .args .passes) (start .pre .1) .0))
 
--- src/parts.rt:39:9
 returns : tie.Need-returns
 returns c =
     let start = c .before .before .before .before .before .before in
@@ -46,14 +42,12 @@ returns c =
     let if1 = c .if1 in
     atom-open (now (start .args .plan)) (start .pre .0) (start .args .passes) (start .pre .1) (as-bytes (now (start .args .plan)) (λ i. omega (arith, shared-slice-known .given i))) (start .args .atom) (start .pre .4) (comparison-of .ensures) (ap (λ (q : Sizes). q .start) (laid-sizes .ensures)) (ap (λ (q : Sizes). q .cycle) (laid-sizes .ensures)) (steady .ensures) (start .args .i) (if1 .taken)
 
--- src/parts.rt:48:9
 add-put-marks : tie.Need-add-put-marks
 add-put-marks c =
     let start = c .before .before .before .before .before .before .before .before in
     let laid-sizes = c .before .before .before .before .laid-sizes in
     omega (arith, ap (λ (q : Sizes). q .start) (laid-sizes .ensures), ap (λ (q : Sizes). q .cycle) (laid-sizes .ensures), laid-rows (now (start .args .plan)) (start .pre .0) (start .args .passes) (start .pre .1) .0)
 
--- src/parts.rt:41:5
 put-marks-requires : tie.Need-put-marks-requires
 put-marks-requires c κs =
     let start = c .before .before .before .before .before .before .before .before in
@@ -61,11 +55,9 @@ put-marks-requires c κs =
     let laid-sizes = c .before .before .before .before .laid-sizes in
     (start .pre .0, atom-fit (start .args .sizes) _ (start .pre .4) (comparison-of .ensures), start .pre .2, start .pre .3, omega (arith, ap (λ (q : Sizes). q .start) (laid-sizes .ensures), ap (λ (q : Sizes). q .cycle) (laid-sizes .ensures), laid-rows (now (start .args .plan)) (start .pre .0) (start .args .passes) (start .pre .1) .0), omega (arith, ap (λ (q : Sizes). q .start) (laid-sizes .ensures), ap (λ (q : Sizes). q .cycle) (laid-sizes .ensures)))
 
--- src/parts.rt:24:1
 same-length : tie.Need-same-length
 same-length c = search needs
 
--- src/parts.rt:24:1
 returns-2 : tie.Need-returns-2
 returns-2 c =
     let start = c .before .before .before .before .before .before .before .before .before .before .before in

@@ -11,19 +11,15 @@ use Rattle.cltlb.proofs.view_of.Reads as view-of-reads
 use Rattle.rule.proofs.take.Reads as take-reads
 use Rattle.settling.proofs.parts.try_view.Reads as try-view-reads
 
--- src/parts.rt:82:9
 take-requires : tie.Need-take-requires
 take-requires c κs = search needs
 
--- src/parts.rt:83:21
 enum-known-taken : tie.Need-enum-known-taken
 enum-known-taken c = search needs
 
--- src/parts.rt:84:9
 enum-told : tie.Need-enum-told
 enum-told c = search needs
 
--- src/parts.rt:84:9
 returns : tie.Need-returns
 returns c =
     let start = c .before .before .before .before .before .before in
@@ -31,11 +27,9 @@ returns c =
     let enum-told = c .enum-told in
     absurd (always-taken (now (start .args .rule)) (now (start .args .plan)) (start .pre .0) _ (start .pre .3) (take .ensures .isTake) (enum-told .given .1))
 
--- src/parts.rt:86:47
 view-of-requires : tie.Need-view-of-requires
 view-of-requires c κs = search needs
 
--- src/parts.rt:86:5
 try-view-requires : tie.Need-try-view-requires
 try-view-requires c κs =
     let start = c .before .before .before .before .before .before .before .before .before in
@@ -44,11 +38,9 @@ try-view-requires c κs =
     let view-of = c .view-of in
     (start .pre .0 .fits, start .pre .1, start .pre .2 .room, few-parts (now (start .args .rule)) (now (start .args .plan)) (start .pre .0) (start .pre .3), taken-fitting (now (start .args .rule)) (now (start .args .plan)) (start .pre .0) _ (start .pre .3) (take .ensures .isTake) (taken .given .1) (view-of .ensures))
 
--- src/parts.rt:70:1
 same-length : tie.Need-same-length
 same-length c = search needs
 
--- src/parts.rt:70:1
 returns-2 : tie.Need-returns-2
 returns-2 c =
     let start = c .before .before .before .before .before .before .before .before .before .before .before .before in

@@ -18,28 +18,23 @@ use Rattle.laid_out.proofs.numbers.laid_sizes.Reads as laid-sizes-reads
 use Rattle.settling.proofs.operators.try_operator.Reads as try-operator-reads
 use Rattle.settling.proofs.parts.try_atom.Reads as try-atom-reads
 
--- src/parts.rt:66:20
 enum-known-view : tie.Need-enum-known-view
 enum-known-view c = search needs
 
--- src/parts.rt:66:29
 try-atom-requires : tie.Need-try-atom-requires
 try-atom-requires c κs =
     let start = c .before .before .before .before .before .before in
     let view = c .before .before .view in
     (start .pre .0, start .pre .1, start .pre .2, start .pre .3, atom-fits (start .args .sizes .channels) (start .args .i) _ (subst (λ (q : View). viewFits (start .args .sizes .channels) (start .args .i) q ≡ true) (view .given .1) (start .pre .4)))
 
--- src/parts.rt:67:24
 enum-known-view-2 : tie.Need-enum-known-view-2
 enum-known-view-2 c = search needs
 
--- src/parts.rt:67:59
 laid-sizes-requires : tie.Need-laid-sizes-requires
 laid-sizes-requires c κs =
     let start = c .before .before .before .before .before .before in
     (few-passes (start .pre .0) (start .args .passes) (start .pre .1), start .pre .0 .few-rows)
 
--- src/parts.rt:67:37
 try-operator-requires : tie.Need-try-operator-requires
 try-operator-requires c κs =
     let start = c .before .before .before .before .before .before .before in
@@ -48,22 +43,18 @@ try-operator-requires c κs =
     let laid-sizes = c .laid-sizes in
     (start .pre .2, start .pre .3, operator-fits (start .args .sizes .channels) (start .args .i) _ (subst (λ (q : View). viewFits (start .args .sizes .channels) (start .args .i) q ≡ true) (view2 .given .1) (start .pre .4)), operator-room (now (start .args .plan)) (start .pre .0) (start .args .passes) (start .pre .1) (as-bytes (now (start .args .plan)) (λ i. omega (arith, shared-slice-known .given i))) (laid-sizes .ensures) .0, operator-room (now (start .args .plan)) (start .pre .0) (start .args .passes) (start .pre .1) (as-bytes (now (start .args .plan)) (λ i. omega (arith, shared-slice-known .given i))) (laid-sizes .ensures) .1)
 
--- src/parts.rt:54:1
 same-length : tie.Need-same-length
 same-length c = search needs
 
--- src/parts.rt:54:1
 returns : tie.Need-returns
 returns c =
     let view = c .before .before .before .before .before .view in
     let try-atom = c .before .before .try-atom in
     tried-view _ (view .given .1) (try-atom .ensures)
 
--- src/parts.rt:54:1
 same-length-2 : tie.Need-same-length-2
 same-length-2 c = search needs
 
--- src/parts.rt:54:1
 returns-2 : tie.Need-returns-2
 returns-2 c =
     let start = c .before .before .before .before .before .before .before .before .before .before in

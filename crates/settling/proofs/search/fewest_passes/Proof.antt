@@ -21,14 +21,12 @@ Inv-loop rule plan scratch₀ n sizes passes₀ i₀ scratch passes i = Searchin
 abbrev μ-loop : tie.MeasureT-loop
 μ-loop rule plan scratch₀ n sizes passes₀ i₀ scratch passes i = (n - i) + (256 - passes)
 
--- src/search.rt:23:5
 loop-holds : tie.Need-loop-holds Inv-loop μ-loop
 loop-holds c =
     let start = c .before .before .before in
     let shared-slice-known2 = c .before .shared-slice-known2 in
     searching-first (now (start .args .rule)) (now (start .args .plan)) (start .pre .0) (as-bytes (now (start .args .plan)) (λ i. omega (arith, shared-slice-known2 .given i))) (start .pre .1)
 
--- src/search.rt:24:12
 try-part-requires : tie.Need-try-part-requires Inv-loop μ-loop
 try-part-requires c κs =
     let start = c .before .before .before .before .before .before in
@@ -36,15 +34,12 @@ try-part-requires c κs =
     let loop-test = c .before .loop-test in
     (start .pre .0, loop .inv .can, loop .inv .made, loop-test .taken)
 
--- src/search.rt:25:13
 add-i : tie.Need-add-i Inv-loop μ-loop
 add-i c = search needs
 
--- src/search.rt:23:5
 loop-less : tie.Need-loop-less Inv-loop μ-loop
 loop-less c = omega (arith, c .before .before .before .before .before .loop-test .taken)
 
--- src/search.rt:23:5
 loop-again : tie.Need-loop-again Inv-loop μ-loop
 loop-again c =
     let start = c .before .before .before .before .before .before .before .before .before .before in
@@ -54,7 +49,6 @@ loop-again c =
     let if1 = c .if1 in
     part-closes (now (start .args .rule)) (now (start .args .plan)) (start .pre .0) (loop .inv) (try-part .ensures .0) (loop-test .taken) (if1 .taken) (try-part .ensures .2 (if1 .taken))
 
--- src/search.rt:27:17
 next-passes-requires : tie.Need-next-passes-requires Inv-loop μ-loop
 next-passes-requires c κs =
     let start = c .before .before .before .before .before .before .before .before .before .before in
@@ -62,18 +56,15 @@ next-passes-requires c κs =
     let loop-test = c .before .before .before .before .before .loop-test in
     (start .pre .0, loop-test .taken, few-passes (now (start .args .rule)) (now (start .args .plan)) (start .pre .0) (loop .passes) (loop .inv .can))
 
--- src/search.rt:28:17
 can-be-laid-requires : tie.Need-can-be-laid-requires Inv-loop μ-loop
 can-be-laid-requires c κs =
     let start = c .before .before .before .before .before .before .before .before .before .before .before in
     let next-passes = c .next-passes in
     (start .pre .0 .fits, next-passes .ensures .1)
 
--- src/search.rt:29:17
 same-length : tie.Need-same-length Inv-loop μ-loop
 same-length c = search needs
 
--- src/search.rt:29:17
 returns : tie.Need-returns Inv-loop μ-loop
 returns c =
     let start = c .before .before .before .before .before .before .before .before .before .before .before .before .before in
@@ -86,14 +77,12 @@ returns c =
     let if2 = c .if2 in
     no-more (now (start .args .rule)) (now (start .args .plan)) (start .pre .0) (loop .inv) (try-part .ensures .0) (loop-test .taken) (if1 .left) (next-passes .ensures .0) (next-passes .ensures .2) (can-be-laid .ensures) (if2 .taken)
 
--- src/search.rt:31:17
 laid-sizes-requires : tie.Need-laid-sizes-requires Inv-loop μ-loop
 laid-sizes-requires c κs =
     let start = c .before .before .before .before .before .before .before .before .before .before .before .before .before in
     let loop = c .before .before .before .before .before .before .before .before .before .loop in
     (few-passes (now (start .args .rule)) (now (start .args .plan)) (start .pre .0) (loop .passes) (loop .inv .can), start .pre .0 .fits .few-rows)
 
--- src/search.rt:33:24
 add-from : tie.Need-add-from Inv-loop μ-loop
 add-from c =
     let start = c .before .before .before .before .before .before .before .before .before .before .before .before .before .before .before in
@@ -103,13 +92,11 @@ add-from c =
     let laid-sizes = c .before .laid-sizes in
     omega (arith, more-room (now (start .args .rule)) (now (start .args .plan)) (start .pre .0) (next-passes .ensures .0) (passed (can-be-laid .ensures) (if2 .left)) (laid-sizes .ensures) .1)
 
--- src/search.rt:34:55
 sub-repeat-rows : tie.Need-sub-repeat-rows Inv-loop μ-loop
 sub-repeat-rows c =
     let next-passes = c .before .before .before .before .before .next-passes in
     omega (arith, next-passes .ensures .0)
 
--- src/search.rt:34:54
 mul-repeat-rows : tie.Need-mul-repeat-rows Inv-loop μ-loop
 mul-repeat-rows c =
     let start = c .before .before .before .before .before .before .before .before .before .before .before .before .before .before .before .before in
@@ -119,7 +106,6 @@ mul-repeat-rows c =
     let laid-sizes = c .before .before .laid-sizes in
     omega (arith, more-room (now (start .args .rule)) (now (start .args .plan)) (start .pre .0) (next-passes .ensures .0) (passed (can-be-laid .ensures) (if2 .left)) (laid-sizes .ensures) .1)
 
--- src/search.rt:34:47
 add-repeat-rows : tie.Need-add-repeat-rows Inv-loop μ-loop
 add-repeat-rows c =
     let start = c .before .before .before .before .before .before .before .before .before .before .before .before .before .before .before .before in
@@ -129,7 +115,6 @@ add-repeat-rows c =
     let laid-sizes = c .before .before .laid-sizes in
     omega (arith, more-room (now (start .args .rule)) (now (start .args .plan)) (start .pre .0) (next-passes .ensures .0) (passed (can-be-laid .ensures) (if2 .left)) (laid-sizes .ensures) .1)
 
--- src/search.rt:34:13
 repeat-rows-requires : tie.Need-repeat-rows-requires Inv-loop μ-loop
 repeat-rows-requires c κs =
     let start = c .before .before .before .before .before .before .before .before .before .before .before .before .before .before .before .before in
@@ -140,7 +125,6 @@ repeat-rows-requires c κs =
     let laid-sizes = c .before .before .laid-sizes in
     (try-part .ensures .1 .room, more-room (now (start .args .rule)) (now (start .args .plan)) (start .pre .0) (next-passes .ensures .0) (passed (can-be-laid .ensures) (if2 .left)) (laid-sizes .ensures) .0, omega arith, more-room (now (start .args .rule)) (now (start .args .plan)) (start .pre .0) (next-passes .ensures .0) (passed (can-be-laid .ensures) (if2 .left)) (laid-sizes .ensures) .1)
 
--- src/search.rt:23:5
 loop-less-2 : tie.Need-loop-less-2 Inv-loop μ-loop
 loop-less-2 c =
     let start = c .before .before .before .before .before .before .before .before .before .before .before .before .before .before .before .before .before .before .before in
@@ -148,7 +132,6 @@ loop-less-2 c =
     let next-passes = c .before .before .before .before .before .before .before .before .next-passes in
     omega (arith, few-passes (now (start .args .rule)) (now (start .args .plan)) (start .pre .0) (loop .passes) (loop .inv .can), next-passes .ensures .0)
 
--- src/search.rt:23:5
 loop-again-2 : tie.Need-loop-again-2 Inv-loop μ-loop
 loop-again-2 c =
     let start = c .before .before .before .before .before .before .before .before .before .before .before .before .before .before .before .before .before .before .before in
@@ -164,11 +147,9 @@ loop-again-2 c =
     let repeat-rows = c .before .before .repeat-rows in
     more-laid (now (start .args .rule)) (now (start .args .plan)) (start .pre .0) (loop .inv) (try-part .ensures .0) (loop-test .taken) (if1 .left) (next-passes .ensures .0) (next-passes .ensures .2) (as-bytes (now (start .args .plan)) (λ i. omega (arith, shared-slice-known2 .given i))) (passed (can-be-laid .ensures) (if2 .left)) (try-part .ensures .1) (laid-sizes .ensures) (repeat-rows .ensures)
 
--- src/search.rt:17:1
 same-length-2 : tie.Need-same-length-2 Inv-loop μ-loop
 same-length-2 c = search needs
 
--- src/search.rt:17:1
 returns-2 : tie.Need-returns-2 Inv-loop μ-loop
 returns-2 c =
     let start = c .before .before .before .before .before in

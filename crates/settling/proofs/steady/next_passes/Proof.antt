@@ -13,51 +13,40 @@ use Rattle.rule.proofs.take.Reads as take-reads
 use Rattle.settling.proofs.steady.steady_after.Reads as steady-after-reads
 use Rattle.verdict.proofs.atoms.comparison_of.Reads as comparison-of-reads
 
--- src/steady.rt:51:9
 take-requires : tie.Need-take-requires
 take-requires c κs = search needs
 
--- src/steady.rt:52:21
 enum-known-taken : tie.Need-enum-known-taken
 enum-known-taken c = search needs
 
--- src/steady.rt:53:16
 enum-told : tie.Need-enum-told
 enum-told c = search needs
 
--- src/steady.rt:53:16
 add-result : tie.Need-add-result
 add-result c = search needs
 
--- src/steady.rt:53:9
 returns : tie.Need-returns
 returns c =
     let start = c .before .before .before .before .before in
     (none-over (now (start .args .rule)) (now (start .args .plan)) (start .args .passes) .0, omega (arith, start .pre .2), none-over (now (start .args .rule)) (now (start .args .plan)) (start .args .passes) .1)
 
--- src/steady.rt:55:28
 view-of-requires : tie.Need-view-of-requires
 view-of-requires c κs = search needs
 
--- src/steady.rt:55:20
 enum-known-atom : tie.Need-enum-known-atom
 enum-known-atom c = search needs
 
--- src/steady.rt:56:16
 enum-told-2 : tie.Need-enum-told-2
 enum-told-2 c = search needs
 
--- src/steady.rt:56:16
 add-result-2 : tie.Need-add-result-2
 add-result-2 c = search needs
 
--- src/steady.rt:56:9
 returns-2 : tie.Need-returns-2
 returns-2 c =
     let start = c .before .before .before .before .before .before .before .before .before in
     (none-over (now (start .args .rule)) (now (start .args .plan)) (start .args .passes) .0, omega (arith, start .pre .2), none-over (now (start .args .rule)) (now (start .args .plan)) (start .args .passes) .1)
 
--- src/steady.rt:58:31
 comparison-of-requires : tie.Need-comparison-of-requires
 comparison-of-requires c κs =
     let start = c .before .before .before .before .before .before .before .before .before .before in
@@ -67,11 +56,9 @@ comparison-of-requires c κs =
     let view-of = c .before .before .before .view-of in
     (start .args .sizes .channels, part-atom-fits (now (start .args .rule)) (now (start .args .plan)) (start .pre .0) (as-bytes (now (start .args .plan)) (λ i. omega (arith, shared-slice-known2 .given i))) (start .args .i) (start .pre .1) (take .ensures .isTake) (taken .given .1) (view-of .ensures) (c .before .atom .given .1))
 
--- src/steady.rt:58:52
 add-steady-after : tie.Need-add-steady-after
 add-steady-after c = search needs
 
--- src/steady.rt:58:5
 steady-after-requires : tie.Need-steady-after-requires
 steady-after-requires c κs =
     let start = c .before .before .before .before .before .before .before .before .before .before .before in
@@ -83,7 +70,6 @@ steady-after-requires c κs =
     let comparison-of = c .comparison-of in
     (start .pre .0 .fits, part-terms (now (start .args .rule)) (now (start .args .plan)) (start .pre .0) (as-bytes (now (start .args .plan)) (λ i. omega (arith, shared-slice-known2 .given i))) (start .args .i) (start .pre .1) (take .ensures .isTake) (taken .given .1) (view-of .ensures) (atom .given .1) (comparison-of .ensures), omega (arith, start .pre .2))
 
--- src/steady.rt:40:1
 returns-3 : tie.Need-returns-3
 returns-3 c =
     let start = c .before .before .before .before .before .before .before .before .before .before .before .before in

@@ -17,71 +17,54 @@ Inv-loop plan sizes comparison passes start cycle low₀ high₀ step₀ low hig
 abbrev μ-loop : tie.MeasureT-loop
 μ-loop plan sizes comparison passes start cycle low₀ high₀ step₀ low high step = high - low
 
--- src/steady.rt:31:21
 sub-high : tie.Need-sub-high Inv-loop μ-loop
 sub-high c = omega (arith, c .before .pre .0 .few-rows)
 
--- src/steady.rt:31:20
 div-high : tie.Need-div-high Inv-loop μ-loop
 div-high c = omega (arith, c .before .pre .0 .a-cycle)
 
--- src/steady.rt:33:5
 loop-holds : tie.Need-loop-holds Inv-loop μ-loop
 loop-holds c = law.enclosing-first (now (c .before .args .plan)) (c .before .args .sizes) (c .before .args .comparison) (c .before .args .passes) (c .before .pre .0) (c .before .pre .2)
 
--- src/steady.rt:34:36
 sub-smaller : tie.Need-sub-smaller Inv-loop μ-loop
 sub-smaller c = omega (arith, c .loop-test .taken)
 
--- src/steady.rt:34:13
 smaller-requires : tie.Need-smaller-requires Inv-loop μ-loop
 smaller-requires c κs = search needs
 
--- src/steady.rt:35:17
 add-k : tie.Need-add-k Inv-loop μ-loop
 add-k c = omega (arith, law.few-between (now (c .before .before .before .before .args .plan)) (c .before .before .before .before .args .sizes) (c .before .before .before .before .args .comparison) (c .before .before .before .before .args .passes) (c .before .before .before .before .pre .0) (c .before .before .loop .inv) (c .before .loop-test .taken) (c .smaller .ensures) .0)
 
--- src/steady.rt:36:52
 mul-steady : tie.Need-mul-steady Inv-loop μ-loop
 mul-steady c = omega (arith, law.few-between (now (c .before .before .before .before .args .plan)) (c .before .before .before .before .args .sizes) (c .before .before .before .before .args .comparison) (c .before .before .before .before .args .passes) (c .before .before .before .before .pre .0) (c .before .before .loop .inv) (c .before .loop-test .taken) (c .smaller .ensures) .1)
 
--- src/steady.rt:36:44
 add-steady : tie.Need-add-steady Inv-loop μ-loop
 add-steady c = omega (arith, law.few-between (now (c .before .before .before .before .args .plan)) (c .before .before .before .before .args .sizes) (c .before .before .before .before .args .comparison) (c .before .before .before .before .args .passes) (c .before .before .before .before .pre .0) (c .before .before .loop .inv) (c .before .loop-test .taken) (c .smaller .ensures) .2)
 
--- src/steady.rt:36:12
 steady-requires : tie.Need-steady-requires Inv-loop μ-loop
 steady-requires c κs = (c .before .before .before .before .pre .0, c .before .before .before .before .pre .1, omega arith, law.few-between (now (c .before .before .before .before .args .plan)) (c .before .before .before .before .args .sizes) (c .before .before .before .before .args .comparison) (c .before .before .before .before .args .passes) (c .before .before .before .before .pre .0) (c .before .before .loop .inv) (c .before .loop-test .taken) (c .smaller .ensures) .2)
 
--- src/steady.rt:33:5
 loop-less : tie.Need-loop-less Inv-loop μ-loop
 loop-less c = omega (arith, c .before .before .before .loop-test .taken, c .before .before .smaller .ensures)
 
--- src/steady.rt:33:5
 loop-again : tie.Need-loop-again Inv-loop μ-loop
 loop-again c = law.from-above (now (c .before .before .before .before .before .before .args .plan)) (c .before .before .before .before .before .before .args .sizes) (c .before .before .before .before .before .before .args .comparison) (c .before .before .before .before .before .before .args .passes) (c .before .before .before .before .before .before .pre .0) (c .before .before .before .before .loop .inv) (c .before .before .before .loop-test .taken) (c .before .before .smaller .ensures)
 
--- src/steady.rt:39:19
 add-low : tie.Need-add-low Inv-loop μ-loop
 add-low c = omega (arith, law.few-between (now (c .before .before .before .before .before .before .args .plan)) (c .before .before .before .before .before .before .args .sizes) (c .before .before .before .before .before .before .args .comparison) (c .before .before .before .before .before .before .args .passes) (c .before .before .before .before .before .before .pre .0) (c .before .before .before .before .loop .inv) (c .before .before .before .loop-test .taken) (c .before .before .smaller .ensures) .0)
 
--- src/steady.rt:40:20
 mul-step : tie.Need-mul-step Inv-loop μ-loop
 mul-step c = omega (arith, c .before .before .smaller .ensures, c .before .before .before .before .loop .inv .short)
 
--- src/steady.rt:40:20
 add-step : tie.Need-add-step Inv-loop μ-loop
 add-step c = omega (arith, c .before .before .smaller .ensures, c .before .before .before .before .loop .inv .short)
 
--- src/steady.rt:33:5
 loop-less-2 : tie.Need-loop-less-2 Inv-loop μ-loop
 loop-less-2 c = omega (arith, c .before .before .before .loop-test .taken)
 
--- src/steady.rt:33:5
 loop-again-2 : tie.Need-loop-again-2 Inv-loop μ-loop
 loop-again-2 c = law.from-below (now (c .before .before .before .before .before .before .args .plan)) (c .before .before .before .before .before .before .args .sizes) (c .before .before .before .before .before .before .args .comparison) (c .before .before .before .before .before .before .args .passes) (c .before .before .before .before .before .before .pre .0) (c .before .before .before .before .loop .inv) (c .before .before .before .loop-test .taken) (c .before .before .smaller .ensures) (c .before .before .before .before .before .before .pre .1) (c .before .steady .ensures) (c .if1 .left)
 
--- src/steady.rt:24:1
 returns : tie.Need-returns Inv-loop μ-loop
 returns c = (c .before .loop .inv .from, c .before .loop .inv .few, c .before .loop .inv .over)
 

@@ -29,49 +29,38 @@ Inv-parts table n w answer₀ part₀ answer part = (part ≤ n) × (answer ≡ 
 abbrev μ-parts : tie.MeasureT-parts
 μ-parts table n w answer₀ part₀ answer part = n - part
 
--- src/table.rt:41:5
 parts-holds : tie.Need-parts-holds Inv-loop μ-loop Inv-parts μ-parts
 parts-holds c = (omega arith, refl, turn-first _ _)
 
--- src/table.rt:42:9
 loop-holds : tie.Need-loop-holds Inv-loop μ-loop Inv-parts μ-parts
 unfolding bytesOutcome
 loop-holds c = (omega arith, c .before .parts .inv .1, c .before .parts .inv .2 ∙ turn-next _ _ _ (c .parts-test .taken) ∙ search-first _ _ _ _)
 
--- src/table.rt:43:20
 mark-byte-requires : tie.Need-mark-byte-requires Inv-loop μ-loop Inv-parts μ-parts
 mark-byte-requires c κs = (c .before .before .before .before .before .pre, c .before .before .parts-test .taken, c .loop-test .taken)
 
--- src/table.rt:42:13
 add-row : tie.Need-add-row Inv-loop μ-loop Inv-parts μ-parts
 add-row c = omega arith
 
--- src/table.rt:42:9
 loop-less : tie.Need-loop-less Inv-loop μ-loop Inv-parts μ-parts
 loop-less c = omega arith
 
--- src/table.rt:42:9
 loop-again : tie.Need-loop-again Inv-loop μ-loop Inv-parts μ-parts
 unfolding aboveOne
 loop-again c = (omega arith, c .before .before .before .loop .inv .1, c .before .before .before .loop .inv .2 ∙ search-next _ _ _ _ _ (c .before .before .loop-test .taken) (ap (ltb 1) (sym (c .before .mark-byte .ensures)) ∙ le-ltb _ _ (c .if1 .left)))
 
--- src/table.rt:41:17
 add-part : tie.Need-add-part Inv-loop μ-loop Inv-parts μ-parts
 add-part c = omega arith
 
--- src/table.rt:41:5
 parts-less : tie.Need-parts-less Inv-loop μ-loop Inv-parts μ-parts
 parts-less c = omega arith
 
--- src/table.rt:41:5
 parts-again : tie.Need-parts-again Inv-loop μ-loop Inv-parts μ-parts
 parts-again c = (omega arith, c .before .loop .inv .1, c .before .loop .inv .2 ∙ search-end _ _ _ _ _ (c .loop-test .left))
 
--- src/table.rt:36:1
 returns : tie.Need-returns Inv-loop μ-loop Inv-parts μ-parts
 returns c = c .before .parts .inv .1 ∙ sym (c .before .parts .inv .2 ∙ turn-end _ _ _ (c .parts-test .left))
 
--- src/table.rt:36:1
 returns-2 : tie.Need-returns-2 Inv-loop μ-loop Inv-parts μ-parts
 unfolding aboveOne
 returns-2 c = sym (c .before .before .before .loop .inv .2 ∙ search-found _ _ _ _ _ (c .before .before .loop-test .taken) (ap (ltb 1) (sym (c .before .mark-byte .ensures)) ∙ lt-ltb _ _ (c .if1 .taken)))

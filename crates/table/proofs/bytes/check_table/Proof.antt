@@ -12,69 +12,54 @@ use Rattle.fields.proofs.u16_at.Reads as u16-at-reads
 use Rattle.table.proofs.sweeps.all_marks.Reads as all-marks-reads
 use Rattle.table.proofs.bytes.check_bytes.Reads as check-bytes-reads
 
--- src/table.rt:58:9
 returns : tie.Need-returns
 returns c = refused.short _ _ _ (c .if1 .taken)
 
--- src/table.rt:60:8
 u16-at-requires : tie.Need-u16-at-requires
 u16-at-requires c κs = search needs
 
--- src/table.rt:61:9
 returns-2 : tie.Need-returns-2
 returns-2 c = refused.other-parts _ _ _ (c .before .before .if1 .left) (c .before .u16-at .ensures .0) (c .if2 .taken)
 
--- src/table.rt:63:8
 u16-at-requires-2 : tie.Need-u16-at-requires-2
 u16-at-requires-2 c κs = search needs
 
--- src/table.rt:64:9
 returns-3 : tie.Need-returns-3
 returns-3 c = refused.other-rows _ _ _ (c .before .before .before .before .if1 .left) (c .before .before .before .u16-at .ensures .0) (c .before .before .if2 .left) (c .before .u16-at2 .ensures .0) (c .if3 .taken)
 
--- src/table.rt:66:27
 mul-if4 : tie.Need-mul-if4
 mul-if4 c = omega (arith, area (c .before .before .before .before .before .before .args .n) (c .before .before .before .before .before .before .args .w) (c .before .before .before .before .before .before .pre .0) (c .before .before .before .before .before .before .pre .1))
 
--- src/table.rt:66:23
 add-if4 : tie.Need-add-if4
 add-if4 c = omega (arith, area (c .before .before .before .before .before .before .args .n) (c .before .before .before .before .before .before .args .w) (c .before .before .before .before .before .before .pre .0) (c .before .before .before .before .before .before .pre .1))
 
--- src/table.rt:66:35
 mul-if4-2 : tie.Need-mul-if4-2
 mul-if4-2 c = search needs
 
--- src/table.rt:66:23
 add-if4-2 : tie.Need-add-if4-2
 add-if4-2 c =
     let start = c .before .before .before .before .before .before in
     omega (arith, area (start .args .n) (start .args .w) (start .pre .0) (start .pre .1), start .pre .0)
 
--- src/table.rt:67:9
 returns-4 : tie.Need-returns-4
 returns-4 c = refused.other-length _ _ _ (c .before .before .before .before .before .if1 .left) (c .before .before .before .before .u16-at .ensures .0) (c .before .before .before .if2 .left) (c .before .before .u16-at2 .ensures .0) (c .before .if3 .left) (c .if4 .taken)
 
--- src/table.rt:69:28
 mul-all-marks : tie.Need-mul-all-marks
 mul-all-marks c = search needs
 
--- src/table.rt:69:8
 all-marks-requires : tie.Need-all-marks-requires
 all-marks-requires c κs =
     let start = c .before .before .before .before .before .before .before in
     let if4 = c .if4 in
     omega (arith, area (start .args .n) (start .args .w) (start .pre .0) (start .pre .1), start .pre .0, if4 .left)
 
--- src/table.rt:70:9
 returns-5 : tie.Need-returns-5
 returns-5 c = refused.all-bytes _ _ _ (sym (c .before .all-marks .ensures) ∙ c .if5 .taken)
     ∙ refused.fitting _ _ _ (c .before .before .before .before .before .before .before .if1 .left) (c .before .before .before .before .before .before .u16-at .ensures .0) (c .before .before .before .before .before .if2 .left) (c .before .before .before .before .u16-at2 .ensures .0) (c .before .before .before .if3 .left) (c .before .before .if4 .left)
 
--- src/table.rt:72:5
 check-bytes-requires : tie.Need-check-bytes-requires
 check-bytes-requires c κs = search needs
 
--- src/table.rt:53:1
 returns-6 : tie.Need-returns-6
 returns-6 c =
     let if1 = c .before .before .before .before .before .before .before .before .if1 in

@@ -9,11 +9,9 @@ use Rattle.table.proofs.bytes.mark_at.Reads as reads
 use Rattle.table.proofs.bytes.mark_at.Lts as lts
 use Rattle.table.proofs.bytes.mark_byte.Reads as mark-byte-reads
 
--- src/table.rt:26:5
 mark-byte-requires : tie.Need-mark-byte-requires
 mark-byte-requires c κs = search needs
 
--- src/table.rt:22:1
 returns : tie.Need-returns
 unfolding marked
 returns c = ap (λ x. eqb x 1) (c .mark-byte .ensures)

@@ -7,19 +7,15 @@ use Rattle.table.proofs.bytes.place.Tie as tie
 use Rattle.table.proofs.bytes.place.Reads as reads
 use Rattle.table.proofs.bytes.place.Lts as lts
 
--- src/bytes.rt:20:10
 mul-result : tie.Need-mul-result
 mul-result c = omega (arith, area (c .args .part) (c .args .w) (omega (arith, c .pre .1)) (c .pre .0))
 
--- src/bytes.rt:20:10
 add-result : tie.Need-add-result
 add-result c = omega (arith, area (c .args .part) (c .args .w) (omega (arith, c .pre .1)) (c .pre .0), c .pre .2)
 
--- src/bytes.rt:20:5
 add-result-2 : tie.Need-add-result-2
 add-result-2 c = omega (arith, area (c .args .part) (c .args .w) (omega (arith, c .pre .1)) (c .pre .0), c .pre .2)
 
--- src/bytes.rt:16:1
 returns : tie.Need-returns
 returns c = search needs
 

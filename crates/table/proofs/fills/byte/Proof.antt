@@ -5,11 +5,9 @@ use Rattle.table.proofs.Flips.{xor-flips}
 use Rattle.table.proofs.fills.byte.Statement.{statement}
 use Rattle.table.proofs.fills.byte.Tie as tie
 
--- src/fills.rt:18:1
 returns : tie.Need-returns
 returns c = ap byteOf (sym (c .if1 .taken) ∙ xor-flips (c .before .args .mark) (c .before .args .opposite))
 
--- src/fills.rt:18:1
 returns-2 : tie.Need-returns-2
 returns-2 c = ap byteOf (sym (c .if1 .left) ∙ xor-flips (c .before .args .mark) (c .before .args .opposite))
 

@@ -15,31 +15,24 @@ Inv-loop table₀ k₀ table k = Filled table₀ 0 (length table₀) (λ _. 0) t
 abbrev μ-loop : tie.MeasureT-loop
 μ-loop table₀ k₀ table k = length table₀ - k
 
--- src/fills.rt:142:5
 loop-holds : tie.Need-loop-holds Inv-loop μ-loop
 loop-holds c = filled-first _ _ _ _
 
--- src/fills.rt:143:9
 slice-write-table : tie.Need-slice-write-table Inv-loop μ-loop
 slice-write-table c = omega arith
 
--- src/fills.rt:144:9
 add-k : tie.Need-add-k Inv-loop μ-loop
 add-k c = omega (arith, c .before .loop .inv .1 .long)
 
--- src/fills.rt:142:5
 loop-less : tie.Need-loop-less Inv-loop μ-loop
 loop-less c = omega (arith, c .before .loop .inv .1 .long)
 
--- src/fills.rt:142:5
 loop-again : tie.Need-loop-again Inv-loop μ-loop
 loop-again c = filled-next _ _ _ _ (sym (zero-add (c .before .loop .k))) (omega arith) (omega (arith, c .before .loop .inv .1 .long)) (c .before .loop .inv) refl
 
--- src/fills.rt:137:1
 same-length : tie.Need-same-length Inv-loop μ-loop
 same-length c = c .before .loop .inv .1 .long
 
--- src/fills.rt:137:1
 returns : tie.Need-returns Inv-loop μ-loop
 returns c = stored-zeros _ _ _ (omega (arith, c .before .loop .inv .1 .long)) (c .before .loop .inv .1)
 

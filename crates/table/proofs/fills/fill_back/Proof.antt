@@ -19,61 +19,47 @@ Inv-loop table₀ m a b count end opposite mark₀ k₀ table mark k = Back tabl
 abbrev μ-loop : tie.MeasureT-loop
 μ-loop table₀ m a b count end opposite mark₀ k₀ table mark k = k
 
--- src/fills.rt:125:5
 loop-holds : tie.Need-loop-holds Inv-loop μ-loop
 loop-holds c =
     let args = c .before .args in
     back-first (now (args .table)) (args .m) (args .a) (args .b) (args .count) (args .opposite) (args .end)
 
--- src/fills.rt:126:9
 sub-k : tie.Need-sub-k Inv-loop μ-loop
 sub-k c = omega arith
 
--- src/fills.rt:128:24
 add-read : tie.Need-add-read Inv-loop μ-loop
 add-read c = omega arith
 
--- src/fills.rt:128:18
 slice-read-read : tie.Need-slice-read-read Inv-loop μ-loop
 slice-read-read c = omega (arith, c .before .before .loop .inv .2 .long)
 
--- src/fills.rt:128:13
 read-requires : tie.Need-read-requires Inv-loop μ-loop
 read-requires c κs = search needs
 
--- src/fills.rt:129:24
 add-read-2 : tie.Need-add-read-2 Inv-loop μ-loop
 add-read-2 c = omega arith
 
--- src/fills.rt:129:18
 slice-read-read-2 : tie.Need-slice-read-read-2 Inv-loop μ-loop
 slice-read-read-2 c = omega (arith, c .before .before .before .before .loop .inv .2 .long)
 
--- src/fills.rt:129:13
 read-requires-2 : tie.Need-read-requires-2 Inv-loop μ-loop
 read-requires-2 c κs = search needs
 
--- src/fills.rt:127:9
 step-requires : tie.Need-step-requires Inv-loop μ-loop
 step-requires c κs = search needs
 
--- src/fills.rt:132:24
 byte-requires : tie.Need-byte-requires Inv-loop μ-loop
 byte-requires c κs = search needs
 
--- src/fills.rt:132:15
 add-table : tie.Need-add-table Inv-loop μ-loop
 add-table c = omega arith
 
--- src/fills.rt:132:9
 slice-write-table : tie.Need-slice-write-table Inv-loop μ-loop
 slice-write-table c = omega (arith, c .before .before .before .before .before .before .before .loop .inv .2 .long)
 
--- src/fills.rt:125:5
 loop-less : tie.Need-loop-less Inv-loop μ-loop
 loop-less c = omega arith
 
--- src/fills.rt:125:5
 loop-again : tie.Need-loop-again Inv-loop μ-loop
 loop-again c =
     let args = c .before .before .before .before .before .before .before .before .before .args in
@@ -82,11 +68,9 @@ loop-again c =
     let stepped = c .before .step .ensures ∙ ap₂ (λ (y x : Bool). y || (x && loop .mark)) (c .before .before .read2 .ensures) (c .before .before .before .before .read .ensures) in
     back-next (now (args .table)) (args .m) (args .a) (args .b) (args .count) (args .opposite) (args .end) (pre .0) (pre .1) (pre .2) (c .before .before .before .before .before .before .loop-test .taken) (loop .inv) stepped (c .byte .ensures)
 
--- src/fills.rt:111:1
 same-length : tie.Need-same-length Inv-loop μ-loop
 same-length c = c .before .loop .inv .2 .long
 
--- src/fills.rt:111:1
 returns : tie.Need-returns Inv-loop μ-loop
 returns c =
     let args = c .before .before .before .args in

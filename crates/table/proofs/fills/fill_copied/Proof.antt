@@ -21,43 +21,33 @@ Inv-loop table₀ m a count opposite k₀ table k = Filled table₀ m count (λ 
 abbrev μ-loop : tie.MeasureT-loop
 μ-loop table₀ m a count opposite k₀ table k = count - k
 
--- src/fills.rt:46:5
 loop-holds : tie.Need-loop-holds Inv-loop μ-loop
 loop-holds c = filled-first _ _ _ _
 
--- src/fills.rt:47:40
 add-read : tie.Need-add-read Inv-loop μ-loop
 add-read c = omega arith
 
--- src/fills.rt:47:34
 slice-read-read : tie.Need-slice-read-read Inv-loop μ-loop
 slice-read-read c = omega (arith, c .before .before .loop .inv .1 .long)
 
--- src/fills.rt:47:29
 read-requires : tie.Need-read-requires Inv-loop μ-loop
 read-requires c κs = search needs
 
--- src/fills.rt:47:24
 byte-requires : tie.Need-byte-requires Inv-loop μ-loop
 byte-requires c κs = search needs
 
--- src/fills.rt:47:15
 add-table : tie.Need-add-table Inv-loop μ-loop
 add-table c = omega arith
 
--- src/fills.rt:47:9
 slice-write-table : tie.Need-slice-write-table Inv-loop μ-loop
 slice-write-table c = omega (arith, c .before .before .before .before .loop .inv .1 .long)
 
--- src/fills.rt:48:9
 add-k : tie.Need-add-k Inv-loop μ-loop
 add-k c = omega arith
 
--- src/fills.rt:46:5
 loop-less : tie.Need-loop-less Inv-loop μ-loop
 loop-less c = omega arith
 
--- src/fills.rt:46:5
 loop-again : tie.Need-loop-again Inv-loop μ-loop
 loop-again c =
     let args = c .before .before .before .before .before .before .args in
@@ -65,11 +55,9 @@ loop-again c =
     let before = still-mark (now (args .table)) (args .m) _ (loop .inv .1) (args .opposite) (args .a) (loop .k) (omega arith) in
     filled-next _ _ _ _ refl (c .before .before .before .before .before .before .pre .0) (c .before .before .before .loop-test .taken) (loop .inv) (c .byte .ensures ∙ ap byteOf (c .before .read .ensures ∙ before))
 
--- src/fills.rt:41:1
 same-length : tie.Need-same-length Inv-loop μ-loop
 same-length c = c .before .loop .inv .1 .long
 
--- src/fills.rt:41:1
 returns : tie.Need-returns Inv-loop μ-loop
 returns c = filled-end _ _ _ _ (c .loop-test .left) (c .before .loop .inv)
 

@@ -23,55 +23,42 @@ Inv-loop table₀ m a b count opposite k₀ table k = Filled table₀ m count (�
 abbrev μ-loop : tie.MeasureT-loop
 μ-loop table₀ m a b count opposite k₀ table k = count - k
 
--- src/fills.rt:58:5
 loop-holds : tie.Need-loop-holds Inv-loop μ-loop
 loop-holds c = filled-first _ _ _ _
 
--- src/fills.rt:60:24
 add-read : tie.Need-add-read Inv-loop μ-loop
 add-read c = omega arith
 
--- src/fills.rt:60:18
 slice-read-read : tie.Need-slice-read-read Inv-loop μ-loop
 slice-read-read c = omega (arith, c .before .before .loop .inv .1 .long)
 
--- src/fills.rt:60:13
 read-requires : tie.Need-read-requires Inv-loop μ-loop
 read-requires c κs = search needs
 
--- src/fills.rt:60:55
 add-read-2 : tie.Need-add-read-2 Inv-loop μ-loop
 add-read-2 c = omega arith
 
--- src/fills.rt:60:49
 slice-read-read-2 : tie.Need-slice-read-read-2 Inv-loop μ-loop
 slice-read-read-2 c = omega (arith, c .before .before .before .before .loop .inv .1 .long)
 
--- src/fills.rt:60:44
 read-requires-2 : tie.Need-read-requires-2 Inv-loop μ-loop
 read-requires-2 c κs = search needs
 
--- src/fills.rt:59:24
 byte-requires : tie.Need-byte-requires Inv-loop μ-loop
 byte-requires c κs = search needs
 
--- src/fills.rt:59:15
 add-table : tie.Need-add-table Inv-loop μ-loop
 add-table c = omega arith
 
--- src/fills.rt:59:9
 slice-write-table : tie.Need-slice-write-table Inv-loop μ-loop
 slice-write-table c = omega (arith, c .before .before .before .before .before .before .loop .inv .1 .long)
 
--- src/fills.rt:63:9
 add-k : tie.Need-add-k Inv-loop μ-loop
 add-k c = omega arith
 
--- src/fills.rt:58:5
 loop-less : tie.Need-loop-less Inv-loop μ-loop
 loop-less c = omega arith
 
--- src/fills.rt:58:5
 loop-again : tie.Need-loop-again Inv-loop μ-loop
 loop-again c =
     let args = c .before .before .before .before .before .before .before .before .args in
@@ -81,11 +68,9 @@ loop-again c =
     filled-next _ _ _ _ refl (c .before .before .before .before .before .before .before .before .pre .0) (c .before .before .before .before .before .loop-test .taken) (loop .inv)
     (c .byte .ensures ∙ ap₂ (λ (y x : Bool). byteOf (flipped (args .opposite) (y || x))) (c .before .before .before .read .ensures ∙ before-b) (c .before .read2 .ensures ∙ before-a))
 
--- src/fills.rt:53:1
 same-length : tie.Need-same-length Inv-loop μ-loop
 same-length c = c .before .loop .inv .1 .long
 
--- src/fills.rt:53:1
 returns : tie.Need-returns Inv-loop μ-loop
 returns c = filled-end _ _ _ _ (c .loop-test .left) (c .before .loop .inv)
 

@@ -20,61 +20,47 @@ Inv-loop table₀ m a b count opposite mark₀ k₀ table mark k = On table₀ m
 abbrev μ-loop : tie.MeasureT-loop
 μ-loop table₀ m a b count opposite mark₀ k₀ table mark k = count - k
 
--- src/fills.rt:74:5
 loop-holds : tie.Need-loop-holds Inv-loop μ-loop
 loop-holds c =
     let args = c .before .args in
     on-first (now (args .table)) (args .m) (args .a) (args .b) (args .count) (args .opposite)
 
--- src/fills.rt:76:24
 add-read : tie.Need-add-read Inv-loop μ-loop
 add-read c = omega arith
 
--- src/fills.rt:76:18
 slice-read-read : tie.Need-slice-read-read Inv-loop μ-loop
 slice-read-read c = omega (arith, c .before .before .loop .inv .2 .long)
 
--- src/fills.rt:76:13
 read-requires : tie.Need-read-requires Inv-loop μ-loop
 read-requires c κs = search needs
 
--- src/fills.rt:77:24
 add-read-2 : tie.Need-add-read-2 Inv-loop μ-loop
 add-read-2 c = omega arith
 
--- src/fills.rt:77:18
 slice-read-read-2 : tie.Need-slice-read-read-2 Inv-loop μ-loop
 slice-read-read-2 c = omega (arith, c .before .before .before .before .loop .inv .2 .long)
 
--- src/fills.rt:77:13
 read-requires-2 : tie.Need-read-requires-2 Inv-loop μ-loop
 read-requires-2 c κs = search needs
 
--- src/fills.rt:75:9
 step-requires : tie.Need-step-requires Inv-loop μ-loop
 step-requires c κs = search needs
 
--- src/fills.rt:80:24
 byte-requires : tie.Need-byte-requires Inv-loop μ-loop
 byte-requires c κs = search needs
 
--- src/fills.rt:80:15
 add-table : tie.Need-add-table Inv-loop μ-loop
 add-table c = omega arith
 
--- src/fills.rt:80:9
 slice-write-table : tie.Need-slice-write-table Inv-loop μ-loop
 slice-write-table c = omega (arith, c .before .before .before .before .before .before .before .loop .inv .2 .long)
 
--- src/fills.rt:81:9
 add-k : tie.Need-add-k Inv-loop μ-loop
 add-k c = omega arith
 
--- src/fills.rt:74:5
 loop-less : tie.Need-loop-less Inv-loop μ-loop
 loop-less c = omega arith
 
--- src/fills.rt:74:5
 loop-again : tie.Need-loop-again Inv-loop μ-loop
 loop-again c =
     let args = c .before .before .before .before .before .before .before .before .before .args in
@@ -83,11 +69,9 @@ loop-again c =
     let stepped = c .before .step .ensures ∙ ap₂ (λ (y x : Bool). y || (x && loop .mark)) (c .before .before .read2 .ensures) (c .before .before .before .before .read .ensures) in
     on-next (now (args .table)) (args .m) (args .a) (args .b) (args .count) (args .opposite) (pre .0) (pre .1) (pre .2) (c .before .before .before .before .before .before .loop-test .taken) (loop .inv) stepped (c .byte .ensures)
 
--- src/fills.rt:68:1
 same-length : tie.Need-same-length Inv-loop μ-loop
 same-length c = c .before .loop .inv .2 .long
 
--- src/fills.rt:68:1
 returns : tie.Need-returns Inv-loop μ-loop
 returns c =
     let args = c .before .before .before .args in

@@ -7,19 +7,15 @@ use Rattle.table.proofs.fills.put_mark.Reads as reads
 use Rattle.table.proofs.fills.put_mark.Lts as lts
 use Rattle.table.proofs.fills.byte.Reads as byte-reads
 
--- src/fills.rt:29:17
 byte-requires : tie.Need-byte-requires
 byte-requires c κs = search needs
 
--- src/fills.rt:29:5
 slice-write-table : tie.Need-slice-write-table
 slice-write-table c = search needs
 
--- src/fills.rt:25:1
 same-length : tie.Need-same-length
 same-length c = search needs
 
--- src/fills.rt:25:1
 returns : tie.Need-returns
 returns c = stored-one _ _ _ (c .before .before .pre) (c .byte .ensures)
 

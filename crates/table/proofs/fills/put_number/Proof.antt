@@ -9,27 +9,21 @@ use Rattle.table.proofs.fills.put_number.Reads as reads
 use Rattle.table.proofs.fills.put_number.Lts as lts
 use Rattle.fields.proofs.put_u16.Reads as put-u16-reads
 
--- src/fills.rt:37:13
 sub-put-u16 : tie.Need-sub-put-u16
 sub-put-u16 c = search needs
 
--- src/fills.rt:37:13
 part-put-u16-start : tie.Need-part-put-u16-start
 part-put-u16-start c = search needs
 
--- src/fills.rt:37:13
 part-put-u16-end : tie.Need-part-put-u16-end
 part-put-u16-end c = search needs
 
--- src/fills.rt:37:5
 put-u16-requires : tie.Need-put-u16-requires
 put-u16-requires c κs = search needs
 
--- src/fills.rt:33:1
 same-length : tie.Need-same-length
 same-length c = search needs
 
--- src/fills.rt:33:1
 returns : tie.Need-returns
 returns c =
     let start = c .before .before .before .before .before in

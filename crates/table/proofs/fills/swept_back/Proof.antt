@@ -19,53 +19,41 @@ Inv-loop table a b from count opposite mark₀ k₀ mark k = Swept table a b fro
 abbrev μ-loop : tie.MeasureT-loop
 μ-loop table a b from count opposite mark₀ k₀ mark k = k - from
 
--- src/fills.rt:98:17
 add-k : tie.Need-add-k Inv-loop μ-loop
 add-k c = omega arith
 
--- src/fills.rt:99:5
 loop-holds : tie.Need-loop-holds Inv-loop μ-loop
 loop-holds c =
     let args = c .before .args in
     swept-first (now (args .table)) (args .a) (args .b) (args .from) (args .count) (args .opposite)
 
--- src/fills.rt:100:9
 sub-k : tie.Need-sub-k Inv-loop μ-loop
 sub-k c = omega arith
 
--- src/fills.rt:102:24
 add-read : tie.Need-add-read Inv-loop μ-loop
 add-read c = omega arith
 
--- src/fills.rt:102:18
 shared-slice-read-read : tie.Need-shared-slice-read-read Inv-loop μ-loop
 shared-slice-read-read c = omega arith
 
--- src/fills.rt:102:13
 read-requires : tie.Need-read-requires Inv-loop μ-loop
 read-requires c κs = search needs
 
--- src/fills.rt:103:24
 add-read-2 : tie.Need-add-read-2 Inv-loop μ-loop
 add-read-2 c = omega arith
 
--- src/fills.rt:103:18
 shared-slice-read-read-2 : tie.Need-shared-slice-read-read-2 Inv-loop μ-loop
 shared-slice-read-read-2 c = omega arith
 
--- src/fills.rt:103:13
 read-requires-2 : tie.Need-read-requires-2 Inv-loop μ-loop
 read-requires-2 c κs = search needs
 
--- src/fills.rt:101:9
 step-requires : tie.Need-step-requires Inv-loop μ-loop
 step-requires c κs = search needs
 
--- src/fills.rt:99:5
 loop-less : tie.Need-loop-less Inv-loop μ-loop
 loop-less c = omega arith
 
--- src/fills.rt:99:5
 loop-again : tie.Need-loop-again Inv-loop μ-loop
 loop-again c =
     let args = c .before .before .before .before .before .before .before .before .args in
@@ -73,7 +61,6 @@ loop-again c =
     let stepped = c .step .ensures ∙ ap₂ (λ (y x : Bool). y || (x && loop .mark)) (c .before .read2 .ensures) (c .before .before .before .read .ensures) in
     swept-next (now (args .table)) (args .a) (args .b) (args .from) (args .count) (args .opposite) (c .before .before .before .before .before .loop-test .taken) (loop .inv) stepped
 
--- src/fills.rt:86:1
 returns : tie.Need-returns Inv-loop μ-loop
 returns c =
     let args = c .before .before .before .args in

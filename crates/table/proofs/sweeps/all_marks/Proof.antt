@@ -16,31 +16,24 @@ Inv-loop table at count all₀ k₀ all k = (k ≤ count) × (all ≡ allBelow (
 abbrev μ-loop : tie.MeasureT-loop
 μ-loop table at count all₀ k₀ all k = count - k
 
--- src/sweeps.rt:17:5
 loop-holds : tie.Need-loop-holds Inv-loop μ-loop
 loop-holds c = (omega arith, sweep-first _)
 
--- src/sweeps.rt:18:33
 add-all : tie.Need-add-all Inv-loop μ-loop
 add-all c = omega arith
 
--- src/sweeps.rt:18:27
 shared-slice-read-all : tie.Need-shared-slice-read-all Inv-loop μ-loop
 shared-slice-read-all c = omega arith
 
--- src/sweeps.rt:19:9
 add-k : tie.Need-add-k Inv-loop μ-loop
 add-k c = omega arith
 
--- src/sweeps.rt:17:5
 loop-less : tie.Need-loop-less Inv-loop μ-loop
 loop-less c = omega arith
 
--- src/sweeps.rt:17:5
 loop-again : tie.Need-loop-again Inv-loop μ-loop
 loop-again c = (omega arith, sweep-next _ _ (c .before .before .loop .inv .1) refl)
 
--- src/sweeps.rt:11:1
 returns : tie.Need-returns Inv-loop μ-loop
 returns c = sweep-end _ _ _ (c .before .loop .inv .0) (c .loop-test .left) (c .before .loop .inv .1)
 

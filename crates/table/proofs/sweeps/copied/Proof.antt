@@ -6,15 +6,12 @@ use Rattle.table.proofs.sweeps.copied.Tie as tie
 use Rattle.table.proofs.sweeps.copied.Reads as reads
 use Rattle.table.proofs.sweeps.copied.Lts as lts
 
--- src/sweeps.rt:81:5
 shared-slice-read-result : tie.Need-shared-slice-read-result
 shared-slice-read-result c = search needs
 
--- src/sweeps.rt:81:17
 shared-slice-read-result-2 : tie.Need-shared-slice-read-result-2
 shared-slice-read-result-2 c = search needs
 
--- src/sweeps.rt:77:1
 returns : tie.Need-returns
 returns c = same-bytes _ _ (lone-byte (c .before .before .pre .0)) (lone-byte (c .before .before .pre .1))
 

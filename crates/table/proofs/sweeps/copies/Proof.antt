@@ -12,40 +12,32 @@ use Rattle.table.proofs.sweeps.copies.Reads as reads
 use Rattle.table.proofs.sweeps.copies.Lts as lts
 use Rattle.table.proofs.sweeps.copies_each.Reads as copies-each-reads
 
--- src/sweeps.rt:122:9
 copies-each-requires : tie.Need-copies-each-requires
 copies-each-requires c κs = search needs
 
--- src/sweeps.rt:122:9
 returns : tie.Need-returns
 returns c = search needs
 
--- src/sweeps.rt:125:30
 sub-copies-each : tie.Need-sub-copies-each
 sub-copies-each c = search needs
 
--- src/sweeps.rt:125:5
 copies-each-requires-2 : tie.Need-copies-each-requires-2
 copies-each-requires-2 c κs =
     let start = c .before .before in
     (some-bytes (start .pre .0) 0 _ (omega arith) (omega arith), some-bytes (start .pre .1) 0 _ (omega arith) (omega arith), start .pre .2)
 
--- src/sweeps.rt:125:74
 add-copies-each : tie.Need-add-copies-each
 add-copies-each c = search needs
 
--- src/sweeps.rt:125:84
 add-copies-each-2 : tie.Need-add-copies-each-2
 add-copies-each-2 c = search needs
 
--- src/sweeps.rt:125:55
 copies-each-requires-3 : tie.Need-copies-each-requires-3
 copies-each-requires-3 c κs =
     let start = c .before .before .before in
     let if1 = c .before .if1 in
     (some-bytes (start .pre .0) _ 16 (omega (arith, if1 .left)) refl, some-bytes (start .pre .1) _ 16 (omega (arith, if1 .left)) refl, start .pre .2)
 
--- src/sweeps.rt:117:1
 returns-2 : tie.Need-returns-2
 returns-2 c =
     let start = c .before .before .before .before in

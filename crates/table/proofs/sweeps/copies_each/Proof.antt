@@ -15,35 +15,27 @@ Inv-loop table m a count all₀ k₀ all k = (k ≤ count) × (all ≡ allBelow 
 abbrev μ-loop : tie.MeasureT-loop
 μ-loop table m a count all₀ k₀ all k = count - k
 
--- src/sweeps.rt:91:5
 loop-holds : tie.Need-loop-holds Inv-loop μ-loop
 loop-holds c = (omega arith, sweep-first _)
 
--- src/sweeps.rt:92:28
 add-all : tie.Need-add-all Inv-loop μ-loop
 add-all c = let own = c .before .before .pre .0 .there in omega arith
 
--- src/sweeps.rt:92:22
 shared-slice-read-all : tie.Need-shared-slice-read-all Inv-loop μ-loop
 shared-slice-read-all c = let own = c .before .before .before .pre .0 .there in omega arith
 
--- src/sweeps.rt:92:44
 add-all-2 : tie.Need-add-all-2 Inv-loop μ-loop
 add-all-2 c = let other = c .before .before .before .pre .1 .there in omega arith
 
--- src/sweeps.rt:92:38
 shared-slice-read-all-2 : tie.Need-shared-slice-read-all-2 Inv-loop μ-loop
 shared-slice-read-all-2 c = let other = c .before .before .before .before .pre .1 .there in omega arith
 
--- src/sweeps.rt:93:9
 add-k : tie.Need-add-k Inv-loop μ-loop
 add-k c = let own = c .before .before .before .before .pre .0 .there in omega arith
 
--- src/sweeps.rt:91:5
 loop-less : tie.Need-loop-less Inv-loop μ-loop
 loop-less c = omega arith
 
--- src/sweeps.rt:91:5
 loop-again : tie.Need-loop-again Inv-loop μ-loop
 loop-again c =
     let start = c .before .before .before .before in
@@ -51,7 +43,6 @@ loop-again c =
     let loop-test = c .before .before .loop-test in
     (omega arith, sweep-next _ _ (loop .inv .1) (same-bytes _ _ (start .pre .0 .low _ (loop-test .taken)) (start .pre .1 .low _ (loop-test .taken))))
 
--- src/sweeps.rt:85:1
 returns : tie.Need-returns Inv-loop μ-loop
 returns c = sweep-end _ _ _ (c .before .loop .inv .0) (c .loop-test .left) (c .before .loop .inv .1)
 

@@ -8,15 +8,12 @@ use Rattle.table.proofs.sweeps.down.Lts as lts
 use Rattle.table.proofs.sweeps.higher.Reads as higher-reads
 use Rattle.table.proofs.sweeps.lower.Reads as lower-reads
 
--- src/sweeps.rt:73:19
 higher-requires : tie.Need-higher-requires
 higher-requires c κs = search needs
 
--- src/sweeps.rt:73:10
 lower-requires : tie.Need-lower-requires
 lower-requires c κs = search needs
 
--- src/sweeps.rt:69:1
 returns : tie.Need-returns
 returns c = down-bytes _ _ _ _ (c .before .before .pre) (c .before .higher .ensures) (c .lower .ensures)
 

@@ -3,11 +3,9 @@ use borrow.Author.Tests.{lt-ltb, le-ltb}
 use Rattle.table.proofs.sweeps.lower.Statement.{statement}
 use Rattle.table.proofs.sweeps.lower.Tie as tie
 
--- src/sweeps.rt:54:1
 returns : tie.Need-returns
 returns c = simp (lt-ltb _ _ (c .if1 .taken))
 
--- src/sweeps.rt:54:1
 returns-2 : tie.Need-returns-2
 returns-2 c = simp (le-ltb _ _ (c .if1 .left))
 

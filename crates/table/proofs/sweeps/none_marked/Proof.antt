@@ -14,39 +14,32 @@ Inv-loop table m count all₀ k₀ all k = (k ≤ count) × (all ≡ allBelow (�
 abbrev μ-loop : tie.MeasureT-loop
 μ-loop table m count all₀ k₀ all k = count - k
 
--- src/sweeps.rt:24:5
 loop-holds : tie.Need-loop-holds Inv-loop μ-loop
 loop-holds c = (omega arith, sweep-first _)
 
--- src/sweeps.rt:25:29
 add-all : tie.Need-add-all Inv-loop μ-loop
 add-all c =
     let start = c .before .before in
     omega (arith, start .pre .0, start .pre .1)
 
--- src/sweeps.rt:25:23
 shared-slice-read-all : tie.Need-shared-slice-read-all Inv-loop μ-loop
 shared-slice-read-all c =
     let start = c .before .before .before in
     omega (arith, start .pre .0)
 
--- src/sweeps.rt:26:9
 add-k : tie.Need-add-k Inv-loop μ-loop
 add-k c =
     let start = c .before .before .before in
     omega (arith, start .pre .0, start .pre .1)
 
--- src/sweeps.rt:24:5
 loop-less : tie.Need-loop-less Inv-loop μ-loop
 loop-less c = omega arith
 
--- src/sweeps.rt:24:5
 loop-again : tie.Need-loop-again Inv-loop μ-loop
 loop-again c =
     let loop = c .before .before .loop in
     (omega arith, sweep-next _ _ (loop .inv .1) refl)
 
--- src/sweeps.rt:18:1
 returns : tie.Need-returns Inv-loop μ-loop
 returns c =
     let loop = c .before .loop in

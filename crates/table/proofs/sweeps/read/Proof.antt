@@ -4,7 +4,6 @@ use Rattle.table.proofs.Flips.{xor-flips}
 use Rattle.table.proofs.sweeps.read.Statement.{statement}
 use Rattle.table.proofs.sweeps.read.Tie as tie
 
--- src/sweeps.rt:25:1
 returns : tie.Need-returns
 returns c = xor-flips (eqb (c .args .x) 1) (c .args .opposite)
 

@@ -11,51 +11,40 @@ use Rattle.table.proofs.sweeps.stepped.Lts as lts
 use Rattle.table.proofs.sweeps.down.Reads as down-reads
 use Rattle.table.proofs.sweeps.up.Reads as up-reads
 
--- src/sweeps.rt:125:14
 shared-slice-read-down : tie.Need-shared-slice-read-down
 shared-slice-read-down c = search needs
 
--- src/sweeps.rt:125:24
 shared-slice-read-down-2 : tie.Need-shared-slice-read-down-2
 shared-slice-read-down-2 c = search needs
 
--- src/sweeps.rt:125:34
 shared-slice-read-down-3 : tie.Need-shared-slice-read-down-3
 shared-slice-read-down-3 c = search needs
 
--- src/sweeps.rt:125:44
 shared-slice-read-down-4 : tie.Need-shared-slice-read-down-4
 shared-slice-read-down-4 c = search needs
 
--- src/sweeps.rt:125:9
 down-requires : tie.Need-down-requires
 down-requires c κs =
     let start = c .before .before .before .before .before .before in
     (lone-byte (start .pre .0), lone-byte (start .pre .1), lone-byte (start .pre .2), lone-byte (start .pre .3))
 
--- src/sweeps.rt:127:12
 shared-slice-read-up : tie.Need-shared-slice-read-up
 shared-slice-read-up c = search needs
 
--- src/sweeps.rt:127:22
 shared-slice-read-up-2 : tie.Need-shared-slice-read-up-2
 shared-slice-read-up-2 c = search needs
 
--- src/sweeps.rt:127:32
 shared-slice-read-up-3 : tie.Need-shared-slice-read-up-3
 shared-slice-read-up-3 c = search needs
 
--- src/sweeps.rt:127:42
 shared-slice-read-up-4 : tie.Need-shared-slice-read-up-4
 shared-slice-read-up-4 c = search needs
 
--- src/sweeps.rt:127:9
 up-requires : tie.Need-up-requires
 up-requires c κs =
     let start = c .before .before .before .before .before .before in
     (lone-byte (start .pre .0), lone-byte (start .pre .1), lone-byte (start .pre .2), lone-byte (start .pre .3))
 
--- src/sweeps.rt:113:1
 returns : tie.Need-returns
 returns c =
     let start = c .before .before .before .before .before .before .before in
@@ -63,7 +52,6 @@ returns c =
     let down = c .down in
     asked-for (λ o. stepOf o (markIn (now (start .args .table)) (start .args .m)) (markIn (now (start .args .table)) (start .args .a)) (markIn (now (start .args .table)) (start .args .b)) (markIn (now (start .args .table)) (start .args .next))) (if1 .taken) (down .ensures)
 
--- src/sweeps.rt:113:1
 returns-2 : tie.Need-returns-2
 returns-2 c =
     let start = c .before .before .before .before .before .before .before in

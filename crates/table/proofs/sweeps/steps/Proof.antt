@@ -11,48 +11,38 @@ use Rattle.table.proofs.sweeps.steps.Reads as reads
 use Rattle.table.proofs.sweeps.steps.Lts as lts
 use Rattle.table.proofs.sweeps.steps_each.Reads as steps-each-reads
 
--- src/sweeps.rt:217:9
 steps-each-requires : tie.Need-steps-each-requires
 steps-each-requires c κs = search needs
 
--- src/sweeps.rt:217:9
 returns : tie.Need-returns
 returns c = search needs
 
--- src/sweeps.rt:220:38
 sub-steps-each : tie.Need-sub-steps-each
 sub-steps-each c = search needs
 
--- src/sweeps.rt:220:5
 steps-each-requires-2 : tie.Need-steps-each-requires-2
 steps-each-requires-2 c κs =
     let start = c .before .before in
     (some-bytes (start .pre .0) 0 _ (omega arith) (omega arith), some-bytes (start .pre .1) 0 _ (omega arith) (omega arith), some-bytes (start .pre .2) 0 _ (omega arith) (omega arith), some-bytes (start .pre .3) 0 _ (omega arith) (omega arith), start .pre .4)
 
--- src/sweeps.rt:223:13
 add-steps-each : tie.Need-add-steps-each
 add-steps-each c = search needs
 
--- src/sweeps.rt:224:13
 add-steps-each-2 : tie.Need-add-steps-each-2
 add-steps-each-2 c = search needs
 
--- src/sweeps.rt:225:13
 add-steps-each-3 : tie.Need-add-steps-each-3
 add-steps-each-3 c = search needs
 
--- src/sweeps.rt:226:13
 add-steps-each-4 : tie.Need-add-steps-each-4
 add-steps-each-4 c = search needs
 
--- src/sweeps.rt:221:11
 steps-each-requires-3 : tie.Need-steps-each-requires-3
 steps-each-requires-3 c κs =
     let start = c .before .before .before in
     let if1 = c .before .if1 in
     (some-bytes (start .pre .0) _ 16 (omega (arith, if1 .left)) refl, some-bytes (start .pre .1) _ 16 (omega (arith, if1 .left)) refl, some-bytes (start .pre .2) _ 16 (omega (arith, if1 .left)) refl, some-bytes (start .pre .3) _ 16 (omega (arith, if1 .left)) refl, start .pre .4)
 
--- src/sweeps.rt:204:1
 returns-2 : tie.Need-returns-2
 returns-2 c =
     let start = c .before .before .before .before in

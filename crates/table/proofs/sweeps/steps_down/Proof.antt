@@ -14,62 +14,48 @@ Inv-loop table m a b next count all₀ k₀ all k = (k ≤ count) × (all ≡ al
 abbrev μ-loop : tie.MeasureT-loop
 μ-loop table m a b next count all₀ k₀ all k = count - k
 
--- src/sweeps.rt:152:5
 loop-holds : tie.Need-loop-holds Inv-loop μ-loop
 loop-holds c = (omega arith, sweep-first _)
 
--- src/sweeps.rt:153:32
 add-down : tie.Need-add-down Inv-loop μ-loop
 add-down c = let there = c .before .before .before .pre .0 .there in omega arith
 
--- src/sweeps.rt:153:26
 shared-slice-read-down : tie.Need-shared-slice-read-down Inv-loop μ-loop
 shared-slice-read-down c = let there = c .before .before .before .before .pre .0 .there in omega arith
 
--- src/sweeps.rt:153:46
 add-down-2 : tie.Need-add-down-2 Inv-loop μ-loop
 add-down-2 c = let there = c .before .before .before .before .pre .1 .there in omega arith
 
--- src/sweeps.rt:153:40
 shared-slice-read-down-2 : tie.Need-shared-slice-read-down-2 Inv-loop μ-loop
 shared-slice-read-down-2 c = let there = c .before .before .before .before .before .pre .1 .there in omega arith
 
--- src/sweeps.rt:153:60
 add-down-3 : tie.Need-add-down-3 Inv-loop μ-loop
 add-down-3 c = let there = c .before .before .before .before .before .pre .2 .there in omega arith
 
--- src/sweeps.rt:153:54
 shared-slice-read-down-3 : tie.Need-shared-slice-read-down-3 Inv-loop μ-loop
 shared-slice-read-down-3 c = let there = c .before .before .before .before .before .before .pre .2 .there in omega arith
 
--- src/sweeps.rt:153:74
 add-down-4 : tie.Need-add-down-4 Inv-loop μ-loop
 add-down-4 c = let there = c .before .before .before .before .before .before .pre .3 .there in omega arith
 
--- src/sweeps.rt:153:68
 shared-slice-read-down-4 : tie.Need-shared-slice-read-down-4 Inv-loop μ-loop
 shared-slice-read-down-4 c = let there = c .before .before .before .before .before .before .before .pre .3 .there in omega arith
 
--- src/sweeps.rt:153:21
 down-requires : tie.Need-down-requires Inv-loop μ-loop
 down-requires c κs =
     let start = c .before .before .before .before .before .before .before in
     let loop-test = c .before .before .before .before .loop-test in
     let here = loop-test .taken in (start .pre .0 .low _ here, start .pre .1 .low _ here, start .pre .2 .low _ here, start .pre .3 .low _ here)
 
--- src/sweeps.rt:154:9
 add-k : tie.Need-add-k Inv-loop μ-loop
 add-k c = let there = c .before .before .before .before .before .before .before .before .pre .0 .there in omega arith
 
--- src/sweeps.rt:152:5
 loop-less : tie.Need-loop-less Inv-loop μ-loop
 loop-less c = omega arith
 
--- src/sweeps.rt:152:5
 loop-again : tie.Need-loop-again Inv-loop μ-loop
 loop-again c = (omega arith, sweep-next _ _ (c .before .before .before .before .before .before .loop .inv .1) (c .down .ensures))
 
--- src/sweeps.rt:146:1
 returns : tie.Need-returns Inv-loop μ-loop
 returns c = sweep-end _ _ _ (c .before .loop .inv .0) (c .loop-test .left) (c .before .loop .inv .1)
 

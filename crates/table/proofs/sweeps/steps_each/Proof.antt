@@ -11,15 +11,12 @@ use Rattle.table.proofs.sweeps.steps_each.Lts as lts
 use Rattle.table.proofs.sweeps.steps_down.Reads as steps-down-reads
 use Rattle.table.proofs.sweeps.steps_up.Reads as steps-up-reads
 
--- src/sweeps.rt:174:9
 steps-down-requires : tie.Need-steps-down-requires
 steps-down-requires c κs = search needs
 
--- src/sweeps.rt:176:9
 steps-up-requires : tie.Need-steps-up-requires
 steps-up-requires c κs = search needs
 
--- src/sweeps.rt:161:1
 returns : tie.Need-returns
 returns c =
     let start = c .before .before .before in
@@ -27,7 +24,6 @@ returns c =
     let steps-down = c .steps-down in
     asked-for (λ o. stepsOf o (λ k. markIn (now (start .args .table)) (start .args .m + k)) (λ k. markIn (now (start .args .table)) (start .args .a + k)) (λ k. markIn (now (start .args .table)) (start .args .b + k)) (λ k. markIn (now (start .args .table)) (start .args .next + k)) (start .args .count)) (if1 .taken) (steps-down .ensures)
 
--- src/sweeps.rt:161:1
 returns-2 : tie.Need-returns-2
 returns-2 c =
     let start = c .before .before .before in

@@ -14,62 +14,48 @@ Inv-loop table m a b next count all₀ k₀ all k = (k ≤ count) × (all ≡ al
 abbrev μ-loop : tie.MeasureT-loop
 μ-loop table m a b next count all₀ k₀ all k = count - k
 
--- src/sweeps.rt:138:5
 loop-holds : tie.Need-loop-holds Inv-loop μ-loop
 loop-holds c = (omega arith, sweep-first _)
 
--- src/sweeps.rt:139:30
 add-up : tie.Need-add-up Inv-loop μ-loop
 add-up c = let there = c .before .before .before .pre .0 .there in omega arith
 
--- src/sweeps.rt:139:24
 shared-slice-read-up : tie.Need-shared-slice-read-up Inv-loop μ-loop
 shared-slice-read-up c = let there = c .before .before .before .before .pre .0 .there in omega arith
 
--- src/sweeps.rt:139:44
 add-up-2 : tie.Need-add-up-2 Inv-loop μ-loop
 add-up-2 c = let there = c .before .before .before .before .pre .1 .there in omega arith
 
--- src/sweeps.rt:139:38
 shared-slice-read-up-2 : tie.Need-shared-slice-read-up-2 Inv-loop μ-loop
 shared-slice-read-up-2 c = let there = c .before .before .before .before .before .pre .1 .there in omega arith
 
--- src/sweeps.rt:139:58
 add-up-3 : tie.Need-add-up-3 Inv-loop μ-loop
 add-up-3 c = let there = c .before .before .before .before .before .pre .2 .there in omega arith
 
--- src/sweeps.rt:139:52
 shared-slice-read-up-3 : tie.Need-shared-slice-read-up-3 Inv-loop μ-loop
 shared-slice-read-up-3 c = let there = c .before .before .before .before .before .before .pre .2 .there in omega arith
 
--- src/sweeps.rt:139:72
 add-up-4 : tie.Need-add-up-4 Inv-loop μ-loop
 add-up-4 c = let there = c .before .before .before .before .before .before .pre .3 .there in omega arith
 
--- src/sweeps.rt:139:66
 shared-slice-read-up-4 : tie.Need-shared-slice-read-up-4 Inv-loop μ-loop
 shared-slice-read-up-4 c = let there = c .before .before .before .before .before .before .before .pre .3 .there in omega arith
 
--- src/sweeps.rt:139:21
 up-requires : tie.Need-up-requires Inv-loop μ-loop
 up-requires c κs =
     let start = c .before .before .before .before .before .before .before in
     let loop-test = c .before .before .before .before .loop-test in
     let here = loop-test .taken in (start .pre .0 .low _ here, start .pre .1 .low _ here, start .pre .2 .low _ here, start .pre .3 .low _ here)
 
--- src/sweeps.rt:140:9
 add-k : tie.Need-add-k Inv-loop μ-loop
 add-k c = let there = c .before .before .before .before .before .before .before .before .pre .0 .there in omega arith
 
--- src/sweeps.rt:138:5
 loop-less : tie.Need-loop-less Inv-loop μ-loop
 loop-less c = omega arith
 
--- src/sweeps.rt:138:5
 loop-again : tie.Need-loop-again Inv-loop μ-loop
 loop-again c = (omega arith, sweep-next _ _ (c .before .before .before .before .before .before .loop .inv .1) (c .up .ensures))
 
--- src/sweeps.rt:132:1
 returns : tie.Need-returns Inv-loop μ-loop
 returns c = sweep-end _ _ _ (c .before .loop .inv .0) (c .loop-test .left) (c .before .loop .inv .1)
 

@@ -8,15 +8,12 @@ use Rattle.table.proofs.sweeps.up.Lts as lts
 use Rattle.table.proofs.sweeps.higher.Reads as higher-reads
 use Rattle.table.proofs.sweeps.lower.Reads as lower-reads
 
--- src/sweeps.rt:65:20
 lower-requires : tie.Need-lower-requires
 lower-requires c κs = search needs
 
--- src/sweeps.rt:65:10
 higher-requires : tie.Need-higher-requires
 higher-requires c κs = search needs
 
--- src/sweeps.rt:61:1
 returns : tie.Need-returns
 returns c = up-bytes _ _ _ _ (c .before .before .pre) (c .before .lower .ensures) (c .higher .ensures)
 

@@ -5,11 +5,9 @@ use borrow.Author.Needs.{needs}
 use Rattle.words.proofs.bits.bit.Statement.{statement}
 use Rattle.words.proofs.bits.bit.Tie as tie
 
--- src/bits.rt:11:6
 shr-result : tie.Need-shr-result
 shr-result c = search needs
 
--- src/bits.rt:7:1
 returns : tie.Need-returns
 unfolding bitOf
 returns c = refl

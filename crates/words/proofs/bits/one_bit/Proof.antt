@@ -4,11 +4,9 @@ use borrow.Author.Needs.{needs}
 use Rattle.words.proofs.bits.one_bit.Statement.{statement}
 use Rattle.words.proofs.bits.one_bit.Tie as tie
 
--- src/bits.rt:19:5
 shl-result : tie.Need-shl-result
 shl-result c = search needs
 
--- src/bits.rt:15:1
 returns : tie.Need-returns
 returns c = one-shifted (c .args .part) (c .pre)
 

@@ -5,32 +5,27 @@ use borrow.Author.Needs.{needs}
 use Rattle.words.proofs.bits.with_bit.Statement.{statement}
 use Rattle.words.proofs.bits.with_bit.Tie as tie
 
--- src/bits.rt:27:9
 one-bit-requires : tie.Need-one-bit-requires
 one-bit-requires c κs = search needs
 
--- src/bits.rt:28:15
 rem-result : tie.Need-rem-result
 rem-result c =
     let start = c .before .before in
     let one-bit = c .before .one-bit in
     one-positive (start .args .part) (start .pre) (one-bit .ensures)
 
--- src/bits.rt:28:15
 add-result : tie.Need-add-result
 add-result c =
     let start = c .before .before in
     let one-bit = c .before .one-bit in
     omega (arith, one-fits (start .args .part) (start .pre) (one-bit .ensures) (start .args .word))
 
--- src/bits.rt:28:41
 rem-result-2 : tie.Need-rem-result-2
 rem-result-2 c =
     let start = c .before .before in
     let one-bit = c .before .one-bit in
     one-positive (start .args .part) (start .pre) (one-bit .ensures)
 
--- src/bits.rt:23:1
 returns : tie.Need-returns
 returns c =
     let start = c .before .before in
@@ -38,7 +33,6 @@ returns c =
     let if1 = c .if1 in
     set-as (start .args .part) (start .pre) (one-bit .ensures) (start .args .word) (start .args .mark) (if1 .taken)
 
--- src/bits.rt:23:1
 returns-2 : tie.Need-returns-2
 returns-2 c =
     let start = c .before .before in

@@ -6,15 +6,12 @@ use borrow.Author.Needs.{needs}
 use Rattle.words.proofs.parts.mark_at.Statement.{statement}
 use Rattle.words.proofs.parts.mark_at.Tie as tie
 
--- src/parts.rt:15:9
 word-at-requires : tie.Need-word-at-requires
 word-at-requires c κs = search needs
 
--- src/parts.rt:15:5
 bit-requires : tie.Need-bit-requires
 bit-requires c κs = search needs
 
--- src/parts.rt:11:1
 returns : tie.Need-returns
 unfolding markAt
 returns c =

@@ -4,23 +4,18 @@ use borrow.Author.Needs.{needs}
 use Rattle.words.proofs.parts.put_mark.Statement.{statement}
 use Rattle.words.proofs.parts.put_mark.Tie as tie
 
--- src/parts.rt:23:9
 word-at-requires : tie.Need-word-at-requires
 word-at-requires c κs = search needs
 
--- src/parts.rt:24:28
 with-bit-requires : tie.Need-with-bit-requires
 with-bit-requires c κs = search needs
 
--- src/parts.rt:24:5
 put-word-requires : tie.Need-put-word-requires
 put-word-requires c κs = search needs
 
--- src/parts.rt:19:1
 same-length : tie.Need-same-length
 same-length c = search needs
 
--- src/parts.rt:19:1
 returns : tie.Need-returns
 returns c =
     let start = c .before .before .before .before .before .before .before .before in

@@ -13,18 +13,15 @@ Inv-loop scratch₀ part cycle from end row₀ scratch row = MarksRepeating scra
 abbrev μ-loop : tie.MeasureT-loop
 μ-loop scratch₀ part cycle from end row₀ scratch row = end - row
 
--- src/parts.rt:33:5
 loop-holds : tie.Need-loop-holds Inv-loop μ-loop
 loop-holds c = marks-none _ _ _ _ _ (c .before .pre .4)
 
--- src/parts.rt:34:43
 sub-mark-at : tie.Need-sub-mark-at Inv-loop μ-loop
 sub-mark-at c =
     let start = c .before .before .before .before in
     let loop = c .before .before .loop in
     omega (arith, loop .inv .0, start .pre .3)
 
--- src/parts.rt:34:13
 mark-at-requires : tie.Need-mark-at-requires Inv-loop μ-loop
 mark-at-requires c κs =
     let start = c .before .before .before .before in
@@ -32,7 +29,6 @@ mark-at-requires c κs =
     let loop-test = c .before .loop-test in
     (loop .inv .2 .long ∙ start .pre .0, start .pre .1, omega (arith, loop-test .taken, start .pre .5))
 
--- src/parts.rt:35:9
 put-mark-requires : tie.Need-put-mark-requires Inv-loop μ-loop
 put-mark-requires c κs =
     let start = c .before .before .before .before .before .before in
@@ -40,18 +36,15 @@ put-mark-requires c κs =
     let loop-test = c .before .before .before .loop-test in
     (loop .inv .2 .long ∙ start .pre .0, start .pre .1, omega (arith, loop-test .taken, start .pre .5))
 
--- src/parts.rt:36:9
 add-row : tie.Need-add-row Inv-loop μ-loop
 add-row c =
     let start = c .before .before .before .before .before .before .before .before .before in
     let loop-test = c .before .before .before .before .before .before .loop-test in
     omega (arith, loop-test .taken, start .pre .5)
 
--- src/parts.rt:33:5
 loop-less : tie.Need-loop-less Inv-loop μ-loop
 loop-less c = omega (arith, c .before .before .before .before .before .before .loop-test .taken)
 
--- src/parts.rt:33:5
 loop-again : tie.Need-loop-again Inv-loop μ-loop
 loop-again c =
     let start = c .before .before .before .before .before .before .before .before .before in
@@ -61,11 +54,9 @@ loop-again c =
     let put-mark = c .before .before .put-mark in
     marks-next (start .pre .2) (start .pre .3) (loop .inv) (loop-test .taken) (mark-at .ensures) (put-mark .ensures)
 
--- src/parts.rt:28:1
 same-length : tie.Need-same-length Inv-loop μ-loop
 same-length c = search needs
 
--- src/parts.rt:28:1
 returns : tie.Need-returns Inv-loop μ-loop
 returns c =
     let loop = c .before .loop in

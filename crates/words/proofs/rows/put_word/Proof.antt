@@ -8,63 +8,48 @@ use borrow.Author.Needs.{needs}
 use Rattle.words.proofs.rows.put_word.Statement.{statement}
 use Rattle.words.proofs.rows.put_word.Tie as tie
 
--- src/rows.rt:25:26
 mul-put-u32 : tie.Need-mul-put-u32
 mul-put-u32 c = search needs
 
--- src/rows.rt:25:13
 sub-put-u32 : tie.Need-sub-put-u32
 sub-put-u32 c = search needs
 
--- src/rows.rt:25:13
 part-put-u32-start : tie.Need-part-put-u32-start
 part-put-u32-start c = search needs
 
--- src/rows.rt:25:13
 part-put-u32-end : tie.Need-part-put-u32-end
 part-put-u32-end c = search needs
 
--- src/rows.rt:25:38
 cast-put-u32 : tie.Need-cast-put-u32
 cast-put-u32 c = search needs
 
--- src/rows.rt:25:5
 put-u32-requires : tie.Need-put-u32-requires
 put-u32-requires c κs = search needs
 
--- src/rows.rt:26:26
 mul-put-u32-2 : tie.Need-mul-put-u32-2
 mul-put-u32-2 c = search needs
 
--- src/rows.rt:26:26
 add-put-u32 : tie.Need-add-put-u32
 add-put-u32 c = search needs
 
--- src/rows.rt:26:13
 sub-put-u32-2 : tie.Need-sub-put-u32-2
 sub-put-u32-2 c = search needs
 
--- src/rows.rt:26:13
 part-put-u32-start-2 : tie.Need-part-put-u32-start-2
 part-put-u32-start-2 c = search needs
 
--- src/rows.rt:26:13
 part-put-u32-end-2 : tie.Need-part-put-u32-end-2
 part-put-u32-end-2 c = search needs
 
--- src/rows.rt:26:42
 cast-put-u32-2 : tie.Need-cast-put-u32-2
 cast-put-u32-2 c = search needs
 
--- src/rows.rt:26:5
 put-u32-requires-2 : tie.Need-put-u32-requires-2
 put-u32-requires-2 c κs = search needs
 
--- src/rows.rt:21:1
 same-length : tie.Need-same-length
 same-length c = search needs
 
--- src/rows.rt:21:1
 returns : tie.Need-returns
 returns c =
     let start = c .before .before .before .before .before .before .before .before .before in

@@ -13,18 +13,15 @@ Inv-loop scratch₀ cycle from end row₀ scratch row = Repeating scratch₀ cyc
 abbrev μ-loop : tie.MeasureT-loop
 μ-loop scratch₀ cycle from end row₀ scratch row = end - row
 
--- src/rows.rt:35:5
 loop-holds : tie.Need-loop-holds Inv-loop μ-loop
 loop-holds c = rows-none _ _ _ _
 
--- src/rows.rt:36:37
 sub-word-at : tie.Need-sub-word-at Inv-loop μ-loop
 sub-word-at c =
     let start = c .before .before .before .before in
     let loop = c .before .before .loop in
     omega (arith, loop .inv .0, start .pre .2)
 
--- src/rows.rt:36:13
 word-at-requires : tie.Need-word-at-requires Inv-loop μ-loop
 word-at-requires c κs =
     let start = c .before .before .before .before in
@@ -32,7 +29,6 @@ word-at-requires c κs =
     let loop-test = c .before .loop-test in
     (loop .inv .2 .long ∙ start .pre .0, omega (arith, loop-test .taken, start .pre .3))
 
--- src/rows.rt:37:9
 put-word-requires : tie.Need-put-word-requires Inv-loop μ-loop
 put-word-requires c κs =
     let start = c .before .before .before .before .before .before in
@@ -40,18 +36,15 @@ put-word-requires c κs =
     let loop-test = c .before .before .before .loop-test in
     (loop .inv .2 .long ∙ start .pre .0, omega (arith, loop-test .taken, start .pre .3))
 
--- src/rows.rt:38:9
 add-row : tie.Need-add-row Inv-loop μ-loop
 add-row c =
     let start = c .before .before .before .before .before .before .before .before .before in
     let loop-test = c .before .before .before .before .before .before .loop-test in
     omega (arith, loop-test .taken, start .pre .3)
 
--- src/rows.rt:35:5
 loop-less : tie.Need-loop-less Inv-loop μ-loop
 loop-less c = omega (arith, c .before .before .before .before .before .before .loop-test .taken)
 
--- src/rows.rt:35:5
 loop-again : tie.Need-loop-again Inv-loop μ-loop
 loop-again c =
     let start = c .before .before .before .before .before .before .before .before .before in
@@ -61,11 +54,9 @@ loop-again c =
     let put-word = c .before .before .put-word in
     rows-next (start .pre .1) (start .pre .2) (loop .inv) (loop-test .taken) (word-at .ensures) (put-word .ensures)
 
--- src/rows.rt:30:1
 same-length : tie.Need-same-length Inv-loop μ-loop
 same-length c = search needs
 
--- src/rows.rt:30:1
 returns : tie.Need-returns Inv-loop μ-loop
 returns c =
     let loop = c .before .loop in
