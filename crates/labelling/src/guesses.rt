@@ -31,6 +31,10 @@ use verdict::atoms::comparison_of;
 use verdict::bounds::larger;
 use verdict::rows::test_at;
 use verdict::terms::reach_of;
+use verdict::weeks::WEEK;
+
+// The minutes of so many weeks that no number is larger.
+const WEEKS: u64 = 426090 * WEEK;
 
 // Whether the left number is below the right one.
 fn guess_less(values: &[u8], x: Column, y: Column, table: &mut [u8], m: usize, count: usize)
@@ -52,6 +56,29 @@ fn guess_same(values: &[u8], x: Column, y: Column, table: &mut [u8], m: usize, c
     let mut k = 0;
     while k < count {
         put_mark(table, m + k, number(values, x, k) == number(values, y, k));
+        k += 1;
+    }
+}
+
+// Whether the left number is less than so many minutes after the right one. Weeks are added that it stays above 0, rather than tell two
+// ways apart on each row.
+fn guess_within(
+    values: &[u8],
+    minutes: u64,
+    x: Column,
+    y: Column,
+    table: &mut [u8],
+    m: usize,
+    count: usize,
+)
+    requires { ⌜ (InLanes (now values) x y count) × (InMarks (now table) m count) ⌝ }
+    ensures { λ _. ⌜ length (now (table .exit)) ≡ length (now (table .entry)) ⌝ }
+{
+    let mut k = 0;
+    while k < count {
+        let a = number(values, x, k);
+        let b = number(values, y, k);
+        put_mark(table, m + k, (a + WEEKS - b) % WEEK < minutes);
         k += 1;
     }
 }
@@ -94,7 +121,7 @@ fn guess_values(
     match relation {
         Relation::Below => guess_less(values, x, y, table, m, count),
         Relation::Same => guess_same(values, x, y, table, m, count),
-        Relation::Within(_) => guess_seen(values, relation, x, y, table, m, count),
+        Relation::Within(minutes) => guess_within(values, minutes, x, y, table, m, count),
         Relation::Pinned => guess_seen(values, relation, x, y, table, m, count),
     }
 }
