@@ -45,12 +45,12 @@
  * made. At the end come three plans with a top; pinned-rule.bin, pinned-plan.bin
  * and pinned-marks.bin are the rule and the first of these with the table made
  * for it, and pinned-hasty.bin is the second plan. Build and run, from the
- * repository's root, so that the files come to stand in target/:
+ * repository's root, so that the files come to stand in out/:
  *
- *   rt staticlib endless_run
- *   cc -std=c11 -Wall -Wextra -o target/planner examples/planner.c \
- *      target/staticlib/libendless_run.a
- *   cd target && ./planner
+ *   tools/library
+ *   cc -std=c11 -Wall -Wextra -o out/planner examples/planner.c \
+ *      out/libendless_run.a
+ *   cd out && ./planner
  */
 #include "../include/endless_run.h"
 

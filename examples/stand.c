@@ -28,10 +28,10 @@
  *
  * Build and run, from the repository's root:
  *
- *   rt staticlib endless_run
- *   cc -std=c11 -Wall -Wextra -o target/stand examples/stand.c \
- *      target/staticlib/libendless_run.a
- *   target/stand -t 4095,0 examples/stand/pinned.bin examples/stand/stayed.bin \
+ *   tools/library
+ *   cc -std=c11 -Wall -Wextra -o out/stand examples/stand.c \
+ *      out/libendless_run.a
+ *   out/stand -t 4095,0 examples/stand/pinned.bin examples/stand/stayed.bin \
  *      < examples/stand/rows.txt
  */
 #include "../include/endless_run.h"

@@ -145,10 +145,10 @@ extern "C" {
  * buffer for the plan of endless_run_settle() is 32 bytes longer. In version 8
  * its scratch has 2048 bytes, where it had 16516: the old length is refused with
  * 13, and in one of the new length the answers and the plan are as in version 7.
- * In version 9 there are the live functions, with their state and refusals 16 and
- * 17; the other functions answer as in version 8.
+ * The live functions, with their state and refusals 16 and 17, come with version
+ * 9: until then they may change.
  */
-#define ENDLESS_RUN_VERSION 9
+#define ENDLESS_RUN_VERSION 8
 
 /* The kind byte of a part. The comments give its operand: two terms, one part,
    two parts a and b in this order, a term and two minutes of the week, or a
@@ -700,8 +700,9 @@ static inline size_t endless_run_plan_length(const uint8_t *plan)
     return ENDLESS_RUN_PLAN_LENGTH(channels, lead, start + cycle);
 }
 
-/* What endless_run_message() and the five functions like it say of a refusal, by
-   its number; of any other number, that it is no answer. */
+/* What endless_run_message(), endless_run_judge_message(),
+   endless_run_make_message() and endless_run_settle_message() say of a refusal,
+   by its number; of any other number, that it is no answer. */
 static inline const char *endless_run_refusal_message(unsigned number)
 {
     switch (number) {
@@ -712,8 +713,7 @@ static inline const char *endless_run_refusal_message(unsigned number)
     case ENDLESS_RUN_OPERAND:
         return "an operand of the rule breaks the layout";
     case ENDLESS_RUN_PLAN_SIZES:
-        return "the plan's or the live state's sizes or the length are wrong, "
-               "or a top is negative";
+        return "the plan's sizes or its length are wrong, or a top is negative";
     case ENDLESS_RUN_CHANNELS:
         return "the plan's number of channels is not the rule's";
     case ENDLESS_RUN_START_DRIFT:
@@ -739,11 +739,6 @@ static inline const char *endless_run_refusal_message(unsigned number)
     case ENDLESS_RUN_NO_LAYOUT:
         return "no number of passes laid out makes every part close, "
                "within 256 rows and readings of 4 bytes";
-    case ENDLESS_RUN_NOT_LIVE:
-        return "the rule looks ahead, or has another number of channels than the live state";
-    case ENDLESS_RUN_PLACE_OR_ROW:
-        return "there is no such place, it is taken or empty, "
-               "or a row has another number of readings than the live state has channels";
     default:
         return "not an answer of the checker";
     }
@@ -757,7 +752,7 @@ static inline const char *endless_run_refusal_message(unsigned number)
  * lasts as long as the program and is not to be freed or written. It begins in
  * lower case, has no full stop or line end, and names no part and no row: each
  * refusal has one text, chosen by its number alone. A number that is neither 0
- * or 1 nor a refusal of number 1 to 17 gets a text that says that it is no
+ * or 1 nor a refusal of number 1 to 15 gets a text that says that it is no
  * answer. The wording may change without a new version.
  */
 static inline const char *endless_run_message(uint64_t answer)
@@ -807,18 +802,36 @@ static inline const char *endless_run_settle_message(uint64_t answer)
     return endless_run_refusal_message(endless_run_number(answer));
 }
 
+/* What endless_run_live_message() and endless_run_told_message() say of a refusal:
+   of 4 as of a live state, of 16 and 17, and of the others what
+   endless_run_message() says. */
+static inline const char *endless_run_live_refusal_message(unsigned number)
+{
+    switch (number) {
+    case ENDLESS_RUN_PLAN_SIZES:
+        return "the live state's number of channels or of tops is wrong, or a top is negative";
+    case ENDLESS_RUN_NOT_LIVE:
+        return "the rule looks ahead, or has another number of channels than the live state";
+    case ENDLESS_RUN_PLACE_OR_ROW:
+        return "there is no such place, it is taken or empty, "
+               "or a row has another number of readings than the live state has channels";
+    default:
+        return endless_run_refusal_message(number);
+    }
+}
+
 /* The same for an answer of endless_run_live_start(), _add(), _drop() or _row(),
    where 0 says that it was done. The texts of the refusals are those of
-   endless_run_message(). */
+   endless_run_message(), but for 4, 16 and 17. */
 static inline const char *endless_run_live_message(uint64_t answer)
 {
     if (answer == 0)
         return "done: the live state is as was asked";
-    return endless_run_refusal_message(endless_run_number(answer));
+    return endless_run_live_refusal_message(endless_run_number(answer));
 }
 
 /* The same for an answer of endless_run_live_answer(). The texts of the refusals
-   are those of endless_run_message(). */
+   are those of endless_run_live_message(). */
 static inline const char *endless_run_told_message(uint64_t answer)
 {
     switch (endless_run_told(answer)) {
@@ -831,7 +844,7 @@ static inline const char *endless_run_told_message(uint64_t answer)
     case ENDLESS_RUN_LIVE_EMPTY:
         return "empty: there is no rule in the place";
     default:
-        return endless_run_refusal_message(endless_run_number(answer));
+        return endless_run_live_refusal_message(endless_run_number(answer));
     }
 }
 

@@ -56,19 +56,31 @@ bool count_answers(const char *name, const char *fault, uint64_t expected, uint6
     return false;
 }
 
-bool unpacks(uint64_t answer)
+/* Do the header's functions give back what the answer is made of, refusals being numbered
+   from 1 to `most`? */
+static bool taken_apart(uint64_t answer, unsigned most)
 {
     unsigned number = endless_run_number(answer);
     uint64_t packed = number * ((uint64_t)1 << 32) + endless_run_part(answer) * 65536u +
                       endless_run_row(answer);
     if (endless_run_is_refusal(answer))
-        return number >= 1 && number <= 17 && packed == answer &&
+        return number >= 1 && number <= most && packed == answer &&
                endless_run_verdict(answer) == 0 && endless_run_finding(answer) == -1 &&
                endless_run_passes(answer) == -1 && endless_run_told(answer) == -1;
     return packed == 0 && endless_run_verdict(answer) == (answer == 1) &&
            endless_run_finding(answer) == (answer <= 2 ? (int)answer : -1) &&
            endless_run_told(answer) == (answer <= 3 ? (int)answer : -1) &&
            endless_run_passes(answer) == (int)answer;
+}
+
+bool unpacks(uint64_t answer)
+{
+    return taken_apart(answer, 15);
+}
+
+bool unpacks_live(uint64_t answer)
+{
+    return taken_apart(answer, 17);
 }
 
 static const char *fault_in_answer(struct asked asked, uint64_t second, uint64_t answer)

@@ -19,8 +19,10 @@ void expect(const char *name, bool right);
 bool count_answers(const char *name, const char *fault, uint64_t expected, uint64_t checker,
                    uint64_t second);
 
-/* Do the header's functions give back what the answer is made of? */
+/* Do the header's functions give back what the answer is made of: one about a plan, and one
+   of a live call? */
 bool unpacks(uint64_t answer);
+bool unpacks_live(uint64_t answer);
 
 /* Ask the checker, and count one test. The answer must be the expected one, the
    second evaluator's, and as the published truth has it; every byte lent must

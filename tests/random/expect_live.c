@@ -32,7 +32,7 @@ static const char *fault_in_place(uint64_t place)
         return "live answer wrote to the state, or beside it";
     if (asked.answer != second_live_answer(&second, place))
         return "a place tells otherwise";
-    return unpacks(asked.answer) ? NULL : "the header does not take what is told apart";
+    return unpacks_live(asked.answer) ? NULL : "the header does not take what is told apart";
 }
 
 /* All four, and one above in turn. */
@@ -62,7 +62,7 @@ static const char *fault_in_call(struct asked asked, uint64_t of_second, uint64_
         return "bytes lent were written, or bytes beside the state";
     if (asked.answer != answer)
         return "wrong answer";
-    if (!unpacks(asked.answer))
+    if (!unpacks_live(asked.answer))
         return "the header does not take the answer apart";
     if (answer != 0 && memcmp(&state, &before, sizeof state) != 0)
         return "a refused call wrote to the state";

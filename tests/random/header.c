@@ -146,7 +146,7 @@ static void windows(void)
         *kind_byte(&rule, 0) = ENDLESS_RUN_KIND_PINNED + 1;
         expect_check("no kind", &rule, &plan, &marks, refusal(2, 0, 0));
     }
-    expect("version", ENDLESS_RUN_VERSION == 9 && ENDLESS_RUN_WEEK == 7 * 24 * 60);
+    expect("version", ENDLESS_RUN_VERSION == 8 && ENDLESS_RUN_WEEK == 7 * 24 * 60);
 }
 
 /* Kind 14 by the header's constants, under tops and under none: of y, which is 7 or 0, and
@@ -390,11 +390,11 @@ static void live(void)
 /* ---- Messages ---- */
 
 /* A word of each refusal's text. */
-enum { REFUSALS = 17 };
+enum { REFUSALS = 15 };
 static const char *const words[REFUSALS + 1] = {
     "",           "rule's",    "1 to 14",  "operand", "plan's",  "channels",   "lead-in or start",
     "mark table", "mark byte", "equation", "passes",  "witness", "pinned",     "buffer",
-    "no mark table", "no number of passes", "looks ahead", "no such place",
+    "no mark table", "no number of passes",
 };
 
 static bool says(const char *text, const char *word)
@@ -410,8 +410,9 @@ static bool same_text(const char *a, const char *b)
 /* Texts that tell apart what they are for. */
 static void messages(void)
 {
-    static const uint64_t no_answer[] = { 256, UINT32_MAX, (uint64_t)18 << 32, UINT64_MAX };
-    const char *texts[REFUSALS + 15];
+    static const uint64_t no_answer[] = { 256, UINT32_MAX, (uint64_t)16 << 32, UINT64_MAX };
+    static const uint64_t no_live_answer[] = { 256, UINT32_MAX, (uint64_t)18 << 32, UINT64_MAX };
+    const char *texts[REFUSALS + 18];
     int count = 0;
     for (int number = 1; number <= REFUSALS; number++) {
         const char *text = endless_run_message(refusal(number, 0, 0));
@@ -424,12 +425,23 @@ static void messages(void)
                same_text(text, endless_run_make_message(refusal(number, 63, 255))));
         expect("settle's message of a refusal",
                same_text(text, endless_run_settle_message(refusal(number, 63, 255))));
-        expect("live messages of a refusal",
-               same_text(text, endless_run_live_message(refusal(number, 63, 255))) &&
-                   same_text(text, endless_run_told_message(refusal(number, 63, 255))));
         texts[count++] = text;
     }
     const char *none = texts[count++] = endless_run_message(2); /* of judge alone */
+    for (int number = 1; number <= ENDLESS_RUN_PLACE_OR_ROW; number++) {
+        const char *text = endless_run_live_message(refusal(number, 0, 0));
+        bool of_live = number == ENDLESS_RUN_PLAN_SIZES || number >= ENDLESS_RUN_NOT_LIVE;
+        expect("live messages of a refusal",
+               same_text(text, endless_run_message(refusal(number, 0, 0))) == !of_live &&
+                   same_text(text, endless_run_live_message(refusal(number, 63, 255))) &&
+                   same_text(text, endless_run_told_message(refusal(number, 63, 255))));
+        if (of_live)
+            texts[count++] = text;
+    }
+    expect("live messages: what is refused",
+           says(endless_run_live_message(refusal(4, 0, 0)), "live state") &&
+               says(endless_run_live_message(refusal(16, 0, 0)), "looks ahead") &&
+               says(endless_run_live_message(refusal(17, 0, 0)), "no such place"));
     const char *const *checked = texts + count;
     texts[count++] = endless_run_message(0);
     texts[count++] = endless_run_message(1);
@@ -474,9 +486,11 @@ static void messages(void)
                same_text(none, endless_run_message(no_answer[i])) &&
                    same_text(none, endless_run_judge_message(no_answer[i])) &&
                    same_text(none, endless_run_make_message(no_answer[i])) &&
-                   same_text(none, endless_run_settle_message(no_answer[i])) &&
-                   same_text(none, endless_run_live_message(no_answer[i])) &&
-                   same_text(none, endless_run_told_message(no_answer[i])));
+                   same_text(none, endless_run_settle_message(no_answer[i])));
+    for (size_t i = 0; i < sizeof no_live_answer / sizeof no_live_answer[0]; i++)
+        expect("live messages: none",
+               same_text(none, endless_run_live_message(no_live_answer[i])) &&
+                   same_text(none, endless_run_told_message(no_live_answer[i])));
 }
 
 void test_header(void)

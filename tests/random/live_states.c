@@ -324,7 +324,7 @@ static void returned(const char *name, struct asked asked, const struct endless_
                      const struct endless_run_live *after)
 {
     bool refused = endless_run_is_refusal(asked.answer);
-    expect(name, asked.unchanged && unpacks(asked.answer) &&
+    expect(name, asked.unchanged && unpacks_live(asked.answer) &&
                      (!refused || memcmp(before, after, sizeof *before) == 0));
 }
 

@@ -1,4 +1,6 @@
 // The whole check: a rule sheet, a plan and a mark table, accepted with the rule's truth at position 0, or refused.
+#![tactic(auto)]
+
 ghost use Rattle.std.specs.Prelude.{◌≡◌, cond, length};
 ghost use Rattle.plan.specs.Layout.{readings};
 ghost use Rattle.plan.specs.inner.Sizes.{all_rows, all_stored, most_array};
@@ -19,7 +21,7 @@ use rule::Taken;
 use table::bytes::{check_table, mark_at};
 
 // What the check answers: accepted, with the whole rule's truth at position 0, or the first refusal that applies.
-#[derive(Drop)]
+#[derive(Clone, Copy)]
 pub enum Checked {
     Accepted(bool),
     Refused(Refusal),

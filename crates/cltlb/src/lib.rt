@@ -1,5 +1,7 @@
 // The logic CLTLB over the whole numbers with < and =, windows of the week, and pinned readings: the terms and parts that a rule is
 // made of, and how the logic looks at a part. What they mean is in specs/.
+#![tactic(auto)]
+
 ghost use Rattle.std.specs.Prelude.{◌≡◌};
 ghost use Rattle.cltlb.specs.Views.{one_view, two_view, view_of};
 ghost use Rattle.cltlb.specs.Fits.{term_fits, window_fits, atom_fits, names_lower, view_fits};
@@ -9,7 +11,7 @@ pub const WEEK: usize = 10080;
 
 // A term (the field's arithmetic temporal term) is a constant, or the reading of a channel, which is a variable, at the present
 // position plus a shift.
-#[derive(Drop)]
+#[derive(Clone, Copy)]
 pub enum Term {
     Constant(i32),
     Reading { channel: usize, shift: i32 },
@@ -18,7 +20,7 @@ pub enum Term {
 // A part of a rule, that is, a subformula of its formula: a comparison of two terms, a window of the week or that a reading is pinned
 // (an atomic constraint), or an operator over parts that are named by their numbers. A window is true where the reading, in minutes,
 // lies in the part of the week that begins at `from` and ends before `to`.
-#[derive(Drop)]
+#[derive(Clone, Copy)]
 pub enum Part {
     Less(Term, Term),
     Equal(Term, Term),
@@ -45,7 +47,7 @@ pub enum Part {
 }
 
 // What a part says of readings alone: the field's atomic constraint.
-#[derive(Drop)]
+#[derive(Clone, Copy)]
 pub enum Atom {
     Less(Term, Term),
     Equal(Term, Term),
@@ -62,7 +64,7 @@ pub enum Atom {
 }
 
 // An operator over one part.
-#[derive(Drop)]
+#[derive(Clone, Copy)]
 pub enum Unary {
     Not,
     Next,
@@ -71,7 +73,7 @@ pub enum Unary {
 }
 
 // An operator over two parts.
-#[derive(Drop)]
+#[derive(Clone, Copy)]
 pub enum Binary {
     And,
     Or,
@@ -82,14 +84,14 @@ pub enum Binary {
 }
 
 // An operator with the parts that it names.
-#[derive(Drop)]
+#[derive(Clone, Copy)]
 pub enum Operator {
     One(Unary, usize),
     Two(Binary, usize, usize),
 }
 
 // A part as the logic looks at it: an atom, or an operator with the parts that it names.
-#[derive(Drop)]
+#[derive(Clone, Copy)]
 pub enum View {
     Atom(Atom),
     Operator(Operator),

@@ -1,9 +1,13 @@
 // What the programs share: a file and an argument read, and the line of a refusal.
-ghost use Rattle.std.specs.Prelude.{◌≡◌, ℕ, ◌≤◌, List};
-ghost use Rattle.io.specs.Counts.{IsPrefixLen};
+#![tactic(auto)]
+
+ghost use Rattle.std.specs.Prelude.{◌≡◌, ℕ, ◌≤◌, List, length, take};
 ghost use Rattle.command.specs.Argument.{with_digit, argument_of};
 
-use libc::STDOUT_FILENO;
+use std::env::Env;
+use std::io::Read;
+use std::rt::Files;
+use std::{fs, io};
 
 // Room for a rule sheet and for a plan: one byte more than the longest that is right, so that a longer file is refused by its length.
 pub const RULE_ROOM: usize = 837;
@@ -11,16 +15,32 @@ pub const RULE_ROOM: usize = 837;
 pub const PLAN_ROOM: usize = 16681;
 
 // The start of a file, as much as the buffer holds. A file that cannot be opened counts as empty.
-pub fn load(path: &[u8], buffer: &mut [u8]) -> usize
-    ensures { IsPrefixLen result buffer.new }
+pub fn load(rt: &impl Files, path: &[u8], buffer: &mut [u8]) -> usize
+    ensures in_bounds { result ≤ length buffer.new }
+    ensures front { result ≡ length (take result buffer.new) }
 {
-    let file = os::open_read(path);
-    if file < 0 {
+    let Ok(path) = str::from_utf8(path) else {
         return 0;
+    };
+    match fs::open(rt, path) {
+        Ok(mut file) => read_full(&mut file, buffer),
+        Err(_) => 0,
     }
-    let n = io::read_full(file, buffer);
-    libc::close(file);
-    n
+}
+
+// Reads until the buffer is full, the file ends or a read fails; answers how many bytes stand at the front of the buffer then.
+fn read_full(file: &mut impl Read, buffer: &mut [u8]) -> usize
+    ensures in_bounds { result ≤ length buffer.new }
+    ensures front { result ≡ length (take result buffer.new) }
+{
+    let mut done = 0;
+    while done < buffer.len() {
+        match file.read(&mut buffer[done..]) {
+            Ok(0) | Err(_) => break,
+            Ok(n) => done += n,
+        }
+    }
+    done
 }
 
 // A number with one more decimal digit, given as its ASCII byte; 65536 where it would be larger.
@@ -58,22 +78,19 @@ fn number_of(text: &[u8]) -> u64
 
 // The number that an argument of the program stands for, whatever text it is. A missing one, or one of more than 32 bytes, stands for
 // none.
-pub fn argument(i: usize) -> u64
+pub fn argument(rt: &impl Env, i: usize) -> u64
     ensures { (text : List ℕ) × (result ≡ argument_of text) }
 {
     let mut text = [0u8; 32];
-    let n = os::arg(i, &mut text);
+    let n = match rt.arg(i, &mut text) {
+        Ok(n) => n,
+        Err(_) => 0,
+    };
     number_of(&text[..n])
 }
 
 // Prints `refused`, and the number, the part and the row of a refusal that was returned as one number.
-pub fn print_refused(word: u64) {
+pub fn print_refused(rt: &impl Print, word: u64) -> io::Result<()> {
     let report = endless_run::report_in(word);
-    io::write_all(STDOUT_FILENO, b"refused ");
-    io::print_decimal(STDOUT_FILENO, report.number as u64);
-    io::write_all(STDOUT_FILENO, b" ");
-    io::print_decimal(STDOUT_FILENO, report.part as u64);
-    io::write_all(STDOUT_FILENO, b" ");
-    io::print_decimal(STDOUT_FILENO, report.row as u64);
-    io::write_all(STDOUT_FILENO, b"\n");
+    println!(rt; "refused {} {} {}", report.number, report.part, report.row)
 }

@@ -1,5 +1,5 @@
 -- The meaning of the calls on a live state, carried through the packing. Assumes nothing.
-use Prim.Native.Nat.{ℕ, ◌*◌, ◌-◌, ◌<◌}
+use Prim.Native.Nat.{ℕ, ◌*◌, ◌-◌}
 use native.Mathlib.Omega.{arith}
 use mathlib.Core.Path.{◌≡◌, refl, sym, ap, ◌∙◌, subst}
 use mathlib.Core.Bool.{Bool, true, false, not, ◌&&◌, cond}
@@ -22,7 +22,7 @@ use Rattle.live.specs.declared.Answer.TheVariants as A
 use Rattle.live.specs.State.{is_held, watch_at, start_outcome, row_outcome, watchable, add_outcome, drop_outcome, watch_answer, answer_of, unless_refused, empty_live}
 use Rattle.live.specs.Calls.{Call, add, remove, row, outcome_of}
 use Rattle.live.specs.Promise.{StartPromise, CallPromise, AnswerPromise}
-use Rattle.endless_run.specs.Packing.{refusal_word, unpacked, verdict_bit, outcome_word, answer_word}
+use Rattle.endless_run.specs.Packing.{refusal_word, unpacked, outcome_word, answer_word}
 use Rattle.endless_run.specs.LivePromise.{StartWordPromise, CallWordPromise, AnswerWordPromise}
 use Rattle.endless_run.specs.inner.Small.{SmallOutcome}
 use Rattle.endless_run.proofs.Words.{refusal_large, unpacks}

@@ -1,5 +1,7 @@
-// What C calls: the whole check, the maker, settling and judge over byte slices, and the calls on a live state, each answer packed into
-// one number.
+// What C calls, by way of endless_run_c: the whole check, the maker, settling and judge over byte slices, and the calls on a live state,
+// each answer packed into one number.
+#![tactic(auto)]
+
 ghost use Rattle.std.specs.Prelude.{◌≡◌, ◌<◌};
 ghost use Rattle.refusal.specs.Report.{report_of};
 ghost use Rattle.endless_run.specs.Packing.{refusal_word, unpacked, verdict_word};
@@ -47,8 +49,7 @@ fn verdict_word(verdict: Verdict) -> u64
     }
 }
 
-#[unsafe(no_mangle)]
-pub extern "C" fn endless_run_check(rule: &[u8], plan: &[u8], marks: &[u8]) -> u64
+pub fn endless_run_check(rule: &[u8], plan: &[u8], marks: &[u8]) -> u64
     ensures { CheckWordPromise rule.now plan.now marks.now result }
 {
     match acceptance::check(rule, plan, marks) {
@@ -57,8 +58,7 @@ pub extern "C" fn endless_run_check(rule: &[u8], plan: &[u8], marks: &[u8]) -> u
     }
 }
 
-#[unsafe(no_mangle)]
-pub extern "C" fn endless_run_make(rule: &[u8], plan: &[u8], marks: &mut [u8]) -> u64
+pub fn endless_run_make(rule: &[u8], plan: &[u8], marks: &mut [u8]) -> u64
     ensures { MakeWordPromise rule.now plan.now marks.old marks.new result }
 {
     match maker::make(rule, plan, marks) {
@@ -67,13 +67,7 @@ pub extern "C" fn endless_run_make(rule: &[u8], plan: &[u8], marks: &mut [u8]) -
     }
 }
 
-#[unsafe(no_mangle)]
-pub extern "C" fn endless_run_settle(
-    rule: &[u8],
-    plan: &[u8],
-    laid: &mut [u8],
-    scratch: &mut [u8],
-) -> u64
+pub fn endless_run_settle(rule: &[u8], plan: &[u8], laid: &mut [u8], scratch: &mut [u8]) -> u64
     ensures { SettleWordPromise rule.now plan.now laid.old scratch.old laid.new scratch.new result }
 {
     match settling::settle(rule, plan, laid, scratch) {
@@ -82,8 +76,7 @@ pub extern "C" fn endless_run_settle(
     }
 }
 
-#[unsafe(no_mangle)]
-pub extern "C" fn endless_run_judge(rule: &[u8], plan: &[u8], part: u64, row: u64) -> u64
+pub fn endless_run_judge(rule: &[u8], plan: &[u8], part: u64, row: u64) -> u64
     ensures { JudgeWordPromise rule.now plan.now part row result }
 {
     match judge::judge(rule, plan, part as usize, row as usize) {

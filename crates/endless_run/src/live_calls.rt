@@ -1,4 +1,4 @@
-// What C calls on a live state, which is lent by pointer: start, add, drop, row and answer. Each thin function copies the state, or of it
+// What C calls on a live state, which is lent: start, add, drop, row and answer. Each thin function copies the state, or of it
 // what it needs, calls a function that works by value, and stores what that changed.
 ghost use Rattle.std.specs.Prelude.{◌≡◌, ◌<◌};
 ghost use Rattle.refusal.specs.Report.{report_of};
@@ -12,14 +12,14 @@ use live::{Answer, Live, Watch};
 use refusal::Outcome;
 
 // The state after a call, and the number that the call answers.
-#[derive(Drop)]
+#[derive(Clone, Copy)]
 pub struct Worded {
     pub live: Live,
     pub word: u64,
 }
 
 // What a row changes of the state, and the number that it answers.
-#[derive(Drop)]
+#[derive(Clone, Copy)]
 pub struct WordedRow {
     pub readings: [u64; 40],
     pub watches: [Watch; 4],
@@ -99,8 +99,7 @@ pub fn answer_word(watches: [Watch; 4], place: u64) -> u64
     }
 }
 
-#[unsafe(no_mangle)]
-pub extern "C" fn endless_run_live_start(s: &mut Live, channels: u64, tops: &[u8]) -> u64
+pub fn endless_run_live_start(s: &mut Live, channels: u64, tops: &[u8]) -> u64
     ensures { StartWordPromise s.old channels tops.now s.new result }
 {
     let out = start_word(*s, channels, tops);
@@ -108,8 +107,7 @@ pub extern "C" fn endless_run_live_start(s: &mut Live, channels: u64, tops: &[u8
     out.word
 }
 
-#[unsafe(no_mangle)]
-pub extern "C" fn endless_run_live_add(s: &mut Live, place: u64, rule: &[u8]) -> u64
+pub fn endless_run_live_add(s: &mut Live, place: u64, rule: &[u8]) -> u64
     ensures { AddWordPromise s.old place rule.now s.new result }
 {
     let out = add_word(*s, place, rule);
@@ -117,8 +115,7 @@ pub extern "C" fn endless_run_live_add(s: &mut Live, place: u64, rule: &[u8]) ->
     out.word
 }
 
-#[unsafe(no_mangle)]
-pub extern "C" fn endless_run_live_drop(s: &mut Live, place: u64) -> u64
+pub fn endless_run_live_drop(s: &mut Live, place: u64) -> u64
     ensures { DropWordPromise s.old place s.new result }
 {
     let out = drop_word(*s, place);
@@ -126,18 +123,18 @@ pub extern "C" fn endless_run_live_drop(s: &mut Live, place: u64) -> u64
     out.word
 }
 
-#[unsafe(no_mangle)]
-pub extern "C" fn endless_run_live_row(s: &mut Live, readings: &[u8]) -> u64
+pub fn endless_run_live_row(s: &mut Live, readings: &[u8]) -> u64
     ensures { RowWordPromise s.old readings.now s.new result }
 {
     let out = row_word(*s, readings);
-    s.readings = out.readings;
-    s.watches = out.watches;
+    let newest = out.readings;
+    let watches = out.watches;
+    s.readings = newest;
+    s.watches = watches;
     out.word
 }
 
-#[unsafe(no_mangle)]
-pub extern "C" fn endless_run_live_answer(s: &Live, place: u64) -> u64
+pub fn endless_run_live_answer(s: &Live, place: u64) -> u64
     ensures { AnswerWordPromise s.now place result }
 {
     answer_word(s.watches, place)

@@ -1,4 +1,6 @@
 // Little-endian numbers in byte slices: unsigned of 16, 32 and 64 bits and signed of 32 bits, read, and those up to 32 bits written.
+#![tactic(auto)]
+
 ghost use Rattle.std.specs.Prelude.{◌≡◌, ◌+◌, ◌≤◌, ◌<◌, ◌++◌, length, drop};
 ghost use Rattle.fields.specs.LittleEndian.{number_at, bytes_of};
 ghost use Rattle.fields.specs.TwosComplement.{signed_of, signed_at, pattern_of};

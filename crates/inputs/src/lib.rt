@@ -1,4 +1,6 @@
 // The way in of every entry that takes a rule and a plan: their sizes, or the first of refusals 1 to 6.
+#![tactic(auto)]
+
 ghost use Rattle.std.specs.Prelude.{◌≡◌};
 ghost use Rattle.inputs.specs.inner.Read.{inputs_read};
 
@@ -8,7 +10,7 @@ use refusal::Refusal;
 use rule::SheetRead;
 
 // What is read of a rule and a plan: how many parts the rule has and the plan's sizes, or why they are refused.
-#[derive(Drop)]
+#[derive(Clone, Copy)]
 pub enum InputsRead {
     Fit { parts: usize, sizes: Sizes },
     Refused(Refusal),

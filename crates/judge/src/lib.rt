@@ -1,4 +1,6 @@
 // Judge: one atom on one row, over all passes.
+#![tactic(auto)]
+
 ghost use Rattle.std.specs.Prelude.{◌≡◌};
 ghost use Rattle.inputs.specs.inner.Read.{Ready};
 ghost use Rattle.judge.specs.Judge.{judge_of, JudgePromise};
@@ -11,7 +13,7 @@ use rule::Taken;
 use verdict::Verdict;
 
 // A verdict, or why there is none.
-#[derive(Drop)]
+#[derive(Clone, Copy)]
 pub enum Judged {
     Verdict(Verdict),
     Refused(Refusal),

@@ -1,4 +1,6 @@
 // The marks of one part, made on all rows of a lent mark table from the marks of lower parts, and its lowest witness.
+#![tactic(auto)]
+
 pub mod atoms;
 pub mod guesses;
 pub mod operators;

@@ -13,14 +13,14 @@ use verdict::terms::{code_in, top_in};
 
 // How a term is read: the code of its shift, which is the shift + 4, and the top of its channel, 0 being no top. A constant has the
 // code of no shift, and no top.
-#[derive(Drop)]
+#[derive(Clone, Copy)]
 pub struct Side {
     pub code: usize,
     pub top: u64,
 }
 
 // Where a term is a reading, it lies in the lanes from an index on; else it is the constant of a pattern of 32 bits.
-#[derive(Drop)]
+#[derive(Clone, Copy)]
 pub struct Column {
     pub reads: bool,
     pub from: usize,

@@ -9,7 +9,7 @@ use verdict::bounds::{larger, less_by, smaller};
 
 // At positions below `before` a term is read before the run; from there up to `numbers` the numbers of the lead-in and of pass 0 tell
 // all, and from there up to `end` the lines that begin there. Those from `end` up to W + back, at most eight, are not direct.
-#[derive(Drop)]
+#[derive(Clone, Copy)]
 pub struct Ranges {
     pub before: usize,
     pub numbers: usize,

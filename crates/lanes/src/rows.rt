@@ -25,7 +25,7 @@ use verdict::rows::{judge_from, test_at};
 use verdict::terms::reach_of;
 
 // A comparison that is part `i` of a table of `n` parts, over a plan of these sizes.
-#[derive(Drop)]
+#[derive(Clone, Copy)]
 pub struct ComparisonPart {
     pub n: usize,
     pub sizes: Sizes,
@@ -34,7 +34,7 @@ pub struct ComparisonPart {
 }
 
 // How its two terms are read.
-#[derive(Drop)]
+#[derive(Clone, Copy)]
 pub struct Sides {
     pub left: Side,
     pub right: Side,

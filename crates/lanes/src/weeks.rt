@@ -28,7 +28,7 @@ const BLOCK: usize = 8;
 // A number of minutes, the steps of two lines, and how far apart the minutes are by which the one is after the other on its passes. Of
 // that number: the inverse, which is all shares divided by it, and the rest of that division, again in shares; and the shares below
 // which the minutes are fewer on every pass, and on one.
-#[derive(Drop)]
+#[derive(Clone, Copy)]
 struct Spacing {
     pub minutes: u64,
     pub left: u64,

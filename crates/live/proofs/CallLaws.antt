@@ -3,13 +3,13 @@ use Prim.Native.Nat.{ℕ, zero, suc, ◌+◌, ◌*◌, ◌-◌, ◌≤◌, ◌<�
 use native.Mathlib.Nat.{not-suc-le-zero}
 use native.Mathlib.Numerals.{add-one}
 use native.Mathlib.Omega.{arith}
-use mathlib.Core.Path.{◌≡◌, refl, sym, ap, ap₂, ◌∙◌, subst, subst⁻¹}
+use mathlib.Core.Path.{◌≡◌, refl, sym, ap, ap₂, ◌∙◌, subst⁻¹}
 use mathlib.Core.Bool.{Bool, true, false, not, ◌&&◌, and-eq-true_iff, false≢true}
 use mathlib.Core.List.{List, [], ◌∷◌, ◌++◌, map, append_assoc}
 use lib.Dec.{leb, ltb, eqb}
 use lib.ListN.{length, get_or, set, take, drop, replicate, length-map}
 use lib.Seq.{paste, paste-zero, paste-suc, length-paste, take-length}
-use borrow.Author.Tests.{leb-true, lt-ltb, le-ltb, le-leb, lt-leb, eq-eqb, ne_eqb, not-true}
+use borrow.Author.Tests.{leb-true, lt-ltb, le-ltb, le-leb, lt-leb, eq-eqb, ne_eqb}
 use Rattle.refusal.specs.declared.Refusal.{Refusal}
 use Rattle.refusal.specs.declared.Refusal.TheVariants.{PlanSizes, Unwatchable, Unfitting}
 use Rattle.refusal.specs.declared.Outcome.{Outcome}
@@ -33,7 +33,7 @@ use Rattle.live.specs.declared.Answer.{Answer}
 use Rattle.live.specs.declared.Answer.TheVariants as answer
 use Rattle.live.specs.Kept.{tabulated, readings_after}
 use Rattle.live.specs.Truths.{truths_to}
-use Rattle.live.specs.State.{empty_watch, new_watch, is_held, watch_at, rule_at, start_outcome, kept_top, empty_live, older, watch_after, row_outcome, after_row, with_place, watchable, add_outcome, after_add, drop_outcome, after_drop, watch_answer, answer_of, unless_refused}
+use Rattle.live.specs.State.{empty_watch, is_held, watch_at, rule_at, start_outcome, kept_top, empty_live, older, watch_after, row_outcome, after_row, with_place, watchable, add_outcome, after_add, drop_outcome, after_drop, watch_answer, answer_of, unless_refused}
 use Rattle.live.specs.Calls.{Call, add, remove, row, places_meant, Tells, outcome_of, changed_state, state_after}
 use Rattle.live.specs.Promise.{StartPromise, CallPromise, AnswerPromise}
 use Rattle.live.specs.inner.Rules.{rule_read}

@@ -1,14 +1,13 @@
 -- What an add reads of a rule sheet, as the definitions have it. Assumes nothing.
-use Prim.Native.Nat.{ℕ, zero, suc, ◌+◌, ◌≤◌, ◌<◌}
+use Prim.Native.Nat.{ℕ, zero, suc, ◌+◌, ◌<◌}
 use native.Mathlib.Nat.{not-suc-le-zero}
 use native.Mathlib.Decide.{dec_lt}
 use native.Mathlib.Numerals.{add-one}
 use native.Mathlib.Omega.{arith}
 use mathlib.Core.Path.{◌≡◌, refl, sym, ap, ◌∙◌, subst}
-use mathlib.Core.Bool.{Bool, true, false, not, ◌&&◌, ◌||◌}
+use mathlib.Core.Bool.{Bool, true, false, ◌||◌}
 use mathlib.Core.Logic.{by_cases}
 use mathlib.Core.List.{List}
-use lib.Dec.{eqb}
 use borrow.Author.Tests.{eq-eqb, ne_eqb}
 use Rattle.refusal.specs.declared.Refusal.{Refusal}
 use Rattle.refusal.specs.declared.Refusal.TheVariants.{Unwatchable}
@@ -23,7 +22,7 @@ use Rattle.rule.specs.declared.Taken.TheVariants as K
 use Rattle.rule.specs.declared.SheetRead.{SheetRead}
 use Rattle.rule.specs.declared.SheetRead.TheVariants as R
 use Rattle.rule.specs.Layout.{part_count, channel_count}
-use Rattle.rule.specs.Take.{take_of, part_taken, parts_of, views_of}
+use Rattle.rule.specs.Take.{part_taken, parts_of, views_of}
 use Rattle.rule.specs.Sheet.{sheet_outcome}
 use Rattle.rule.specs.Promise.{TakePromise}
 use Rattle.rule.specs.inner.Read.{counts_unless, sheet_read}

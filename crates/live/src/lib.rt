@@ -1,4 +1,6 @@
 // Live rules: the state that is lent for each row, and the calls on it, the state going in by value and coming back by value.
+#![tactic(auto)]
+
 ghost use Rattle.std.specs.Prelude.{◌≡◌, true, not, ◌&&◌, [], ◌∷◌, map, ◌+◌, ◌*◌, ◌≤◌, ◌<◌, ltb, length, get_or, take, drop};
 ghost use Rattle.refusal.specs.First.{unless};
 ghost use Rattle.rule.specs.Layout.{part_count};
@@ -29,7 +31,7 @@ pub const RULE_BYTES: usize = 836;
 // What is known of the rule at a place: its number of parts, 0 where the place is empty; how many rows came since it was added, 5 standing
 // for more; and the truth of each part on the newest row, 1 or 0.
 #[repr(C)]
-#[derive(Drop)]
+#[derive(Clone, Copy)]
 pub struct Watch {
     pub parts: usize,
     pub age: usize,
@@ -39,7 +41,7 @@ pub struct Watch {
 // The state: V and the tops, the newest five rows, the oldest first, the places, and the copies of their rules. It has no bool and no
 // enum, so that any bytes that C hands over are a state.
 #[repr(C)]
-#[derive(Drop)]
+#[derive(Clone, Copy)]
 pub struct Live {
     pub channels: usize,
     pub tops: [u32; 8],
@@ -49,14 +51,14 @@ pub struct Live {
 }
 
 // The state after a call, and its refusal or none.
-#[derive(Drop)]
+#[derive(Clone, Copy)]
 pub struct Called {
     pub live: Live,
     pub outcome: Outcome,
 }
 
 // What a row changes of the state, and its refusal or none.
-#[derive(Drop)]
+#[derive(Clone, Copy)]
 pub struct RowTaken {
     pub readings: [u64; 40],
     pub watches: [Watch; 4],
@@ -64,7 +66,7 @@ pub struct RowTaken {
 }
 
 // What is told of a place.
-#[derive(Drop)]
+#[derive(Clone, Copy)]
 pub enum Answer {
     Truth(bool),
     NotYet,

@@ -25,7 +25,6 @@ use Rattle.inputs.specs.Outcome.{inputs_outcome}
 use Rattle.inputs.proofs.Ways.{clear_both, both_clear, inputs_within}
 use Rattle.marks.specs.Parts.{closing_outcome}
 use Rattle.marks.specs.RefusalMeaning as refusal
-use Rattle.marks.proofs.Accepted.{Accepted}
 use Rattle.marks.proofs.MarkNames.{closing_small}
 use Rattle.labelling.specs.Labels.{made_mark, made_witness, made_table}
 use Rattle.labelling.proofs.Made.{Closed, open_says, open_refuted}

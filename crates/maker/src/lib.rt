@@ -1,4 +1,6 @@
 // The maker: the mark table of a rule and a plan, written into a lent buffer, or refused.
+#![tactic(auto)]
+
 pub mod guesses;
 
 ghost use Rattle.std.specs.Prelude.{◌≡◌, ◌+◌, ◌<◌};
@@ -21,7 +23,7 @@ use table::bytes::mark_at;
 use table::fills::{clear, put_number};
 
 // What the maker answers: the table is made, with the whole rule's truth at position 0, or the first refusal that applies.
-#[derive(Drop)]
+#[derive(Clone, Copy)]
 pub enum Made {
     Table(bool),
     Refused(Refusal),

@@ -12,7 +12,6 @@ use Rattle.cltlb.specs.Truth.{Formula, BinaryHolds, Holds}
 use Rattle.cltlb.specs.Views.{two_view}
 use Rattle.cltlb.specs.Parts.{formula_from}
 use Rattle.cltlb.specs.Fits.{view_fits}
-use Rattle.cltlb.specs.declared.Atom.{Atom}
 use Rattle.cltlb.specs.declared.Binary.{Binary}
 use Rattle.cltlb.specs.declared.Binary.TheVariants as binary
 use Rattle.cltlb.specs.declared.Operator.TheVariants.{One, Two}

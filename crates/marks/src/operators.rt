@@ -7,7 +7,7 @@ use cltlb::{Binary, Operator, Unary};
 
 // The row that an operator looks at beside its own: the row after, which is P after row W - 1, or the row before; what counts
 // as the mark before row 0 is held.
-#[derive(Drop)]
+#[derive(Clone, Copy)]
 pub enum Beside {
     After,
     Before(bool),

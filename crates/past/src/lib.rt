@@ -1,4 +1,6 @@
 // Parts that look at a later row: X, U, R, or a shift above 0.
+#![tactic(auto)]
+
 ghost use Rattle.std.specs.Prelude.{◌≡◌};
 ghost use Rattle.past.specs.Ahead.{shift_ahead, term_ahead, atom_ahead, operator_ahead, unary_ahead, binary_ahead, view_ahead};
 

@@ -13,7 +13,7 @@ use fields::BIAS;
 use refusal::{Outcome, Refusal};
 
 // What is read of a plan, for a rule: its sizes, or why it is refused.
-#[derive(Drop)]
+#[derive(Clone, Copy)]
 pub enum PlanRead {
     Fits(Sizes),
     Refused(Refusal),

@@ -7,7 +7,7 @@ ghost use Rattle.plan.specs.inner.Landing.{landing_row, landing_off};
 use crate::sizes::Sizes;
 
 // The row, and the passes off + 4.
-#[derive(Drop)]
+#[derive(Clone, Copy)]
 pub struct Landing {
     pub row: usize,
     pub off: usize,

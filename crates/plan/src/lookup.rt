@@ -21,7 +21,7 @@ pub const LAST_PASS: u64 = 1023;
 pub const ZERO: u64 = (LAST_PASS + 1) * BIAS;
 
 // A value, lifted; that it is pinned; or nothing, because the position is before the run.
-#[derive(Drop)]
+#[derive(Clone, Copy)]
 pub enum Seen {
     Number(u64),
     Pinned,

@@ -7,7 +7,7 @@ use crate::tops::tops_fit;
 use fields::u16_at;
 
 // The channels, V, the start rows, P, the cycle rows, C, and the lead-in rows, L.
-#[derive(Drop)]
+#[derive(Clone, Copy)]
 pub struct Sizes {
     pub channels: usize,
     pub start: usize,
@@ -16,7 +16,7 @@ pub struct Sizes {
 }
 
 // The sizes of a plan, or that they do not fit their ranges or the length, or a top is negative.
-#[derive(Drop)]
+#[derive(Clone, Copy)]
 pub enum SizesRead {
     Counts(Sizes),
     Wrong,

@@ -9,7 +9,7 @@ ghost use Rattle.plan.specs.inner.Lifted.{seen_of, Small};
 use crate::lookup::{Seen, seen_at};
 use crate::sizes::Sizes;
 
-#[derive(Drop)]
+#[derive(Clone, Copy)]
 pub struct PlanView<'a> {
     pub plan: &'a [u8],
     pub sizes: Sizes,

@@ -1,10 +1,12 @@
 // The refusals of the checker, one case for each number of its document, and what an answer reports of one.
+#![tactic(auto)]
+
 ghost use Rattle.std.specs.Prelude.{◌≡◌};
 ghost use Rattle.refusal.specs.Report.{report_of};
 
 // Why a rule sheet, a plan, a mark table, a lent buffer or a call on a live state is turned away, in the order of their numbers. A case
 // carries the part and the row that the document names for it, and no other.
-#[derive(Drop)]
+#[derive(Clone, Copy)]
 pub enum Refusal {
     RuleSizes,
     Kind { part: usize },
@@ -26,14 +28,14 @@ pub enum Refusal {
 }
 
 // What comes of a run of tests: none of them refuses, or the first one that does.
-#[derive(Drop)]
+#[derive(Clone, Copy)]
 pub enum Outcome {
     Clear,
     Refused(Refusal),
 }
 
 // The three numbers that an answer gives of a refusal.
-#[derive(Drop)]
+#[derive(Clone, Copy)]
 pub struct Report {
     pub number: usize,
     pub part: usize,

@@ -18,7 +18,6 @@ use Rattle.cltlb.specs.Fits.{term_fits, window_fits}
 use Rattle.cltlb.proofs.Fits.{reading_fits}
 use Rattle.rule.specs.declared.terms.TermRead.{TermRead}
 use Rattle.rule.specs.declared.terms.TermRead.TheVariants as R
-use Rattle.rule.specs.declared.operands.Operand.{Operand}
 use Rattle.rule.specs.declared.operands.Operand.TheVariants.{Terms, One, Two}
 use Rattle.rule.specs.declared.operands.OperandRead.{OperandRead}
 use Rattle.rule.specs.declared.operands.OperandRead.TheVariants as O
@@ -118,13 +117,13 @@ left_atoms S.Pinned h e = refl
 left_atoms S.Unknown h e = absurd (let z : ◌≡◌ {A = ℕ} 0 1 = cc in omega arith)
 
 -- and of atoms' shapes that which is left when a window and a pinned reading are
-pub left_comparison : (k : Shape) → OneOf (0 ∷ 1 ∷ 2 ∷ 5 ∷ []) (tag_of the_type k) → of_atom k ≡ true → k ≡ S.Comparison
-left_comparison S.Comparison h e = refl
-left_comparison S.NamesOne h e = absurd (let z : ◌≡◌ {A = ℕ} 0 1 = cc in omega arith)
-left_comparison S.NamesTwo h e = absurd (let z : ◌≡◌ {A = ℕ} 0 1 = cc in omega arith)
-left_comparison S.Window h e = absurd (miss (0 ∷ 1 ∷ 2 ∷ 5 ∷ []) 3 tt h)
-left_comparison S.Pinned h e = absurd (miss (0 ∷ 1 ∷ 2 ∷ 5 ∷ []) 4 tt h)
-left_comparison S.Unknown h e = absurd (let z : ◌≡◌ {A = ℕ} 0 1 = cc in omega arith)
+pub left_comparison : (k : Shape) → (k ≡ S.Window → ⊥) → (k ≡ S.Pinned → ⊥) → of_atom k ≡ true → k ≡ S.Comparison
+left_comparison S.Comparison w p e = refl
+left_comparison S.NamesOne w p e = absurd (let z : ◌≡◌ {A = ℕ} 0 1 = cc in omega arith)
+left_comparison S.NamesTwo w p e = absurd (let z : ◌≡◌ {A = ℕ} 0 1 = cc in omega arith)
+left_comparison S.Window w p e = absurd (w refl)
+left_comparison S.Pinned w p e = absurd (p refl)
+left_comparison S.Unknown w p e = absurd (let z : ◌≡◌ {A = ℕ} 0 1 = cc in omega arith)
 
 module _ (s : List ℕ) (at : ℕ) {shape : Shape} where
   module _ (v n : ℕ) where

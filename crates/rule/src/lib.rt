@@ -1,4 +1,6 @@
 // The rule sheet: one part of it taken and put, and the whole of it checked.
+#![tactic(auto)]
+
 ghost use Rattle.std.specs.Prelude.{◌≡◌, ◌+◌, ◌≤◌, ◌<◌, true, length};
 ghost use Rattle.rule.specs.inner.Known.{AllKnown, KindsKnown};
 ghost use Rattle.rule.specs.inner.Read.{sheet_read};
@@ -26,14 +28,14 @@ pub mod sizes;
 pub mod terms;
 
 // A part taken off a sheet, or why there is none.
-#[derive(Drop)]
+#[derive(Clone, Copy)]
 pub enum Taken {
     Part(Part),
     Refused(Refusal),
 }
 
 // The number of parts and of channels of a sheet that clears every check, or why it does not.
-#[derive(Drop)]
+#[derive(Clone, Copy)]
 pub enum SheetRead {
     Counts { parts: usize, channels: usize },
     Refused(Refusal),

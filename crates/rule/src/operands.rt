@@ -14,7 +14,7 @@ pub const OPERAND_BYTES: usize = 12;
 
 // What a part works on: two terms, one or two parts that it names, a reading and the two ends of a window, or a
 // reading alone.
-#[derive(Drop)]
+#[derive(Clone, Copy)]
 pub enum Operand {
     Terms(Term, Term),
     One(usize),
@@ -32,14 +32,14 @@ pub enum Operand {
 }
 
 // What twelve bytes stand for. The definitions say it so; code asks the bytes, and makes none of these.
-#[derive(Drop)]
+#[derive(Clone, Copy)]
 pub enum OperandRead {
     Operand(Operand),
     Broken,
 }
 
 // Which operand a kind byte asks for.
-#[derive(Drop)]
+#[derive(Clone, Copy)]
 pub enum Shape {
     Comparison,
     NamesOne,

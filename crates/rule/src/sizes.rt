@@ -13,7 +13,7 @@ pub const KINDS_AT: usize = 4;
 const PART_BYTES: usize = 13;
 
 // The number of parts and of channels, or that the sizes or the length are wrong.
-#[derive(Drop)]
+#[derive(Clone, Copy)]
 pub enum Sizes {
     Counts { parts: usize, channels: usize },
     Wrong,

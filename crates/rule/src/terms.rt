@@ -9,7 +9,7 @@ ghost use Rattle.cltlb.specs.Fits.{shift_fits, term_fits};
 use cltlb::Term;
 
 // What six bytes stand for. The definitions say it so; code asks the bytes, and makes none of these.
-#[derive(Drop)]
+#[derive(Clone, Copy)]
 pub enum TermRead {
     Term(Term),
     Broken,

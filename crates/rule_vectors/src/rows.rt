@@ -4,6 +4,8 @@
 // 1 PART KIND NAMED 0 and 2 PART KIND NAMED NAMED: an operator over one part or two is put at PART.
 ghost use Rattle.std.specs.Prelude.{◌+◌, ◌≤◌, ◌<◌, length};
 
+use std::io;
+
 // A digit; a blank counts as 0.
 fn digit(x: u8) -> usize
     ensures { result < 16 }
@@ -23,37 +25,40 @@ fn number_at(row: &[u8], at: usize) -> usize
     n
 }
 
-fn try_named(letter: u8, name: &[u8], n: usize, kind: u8, a: usize, b: usize) {
+fn try_named(
+    rt: &impl Print,
+    letter: u8,
+    name: &[u8],
+    n: usize,
+    kind: u8,
+    a: usize,
+    b: usize,
+) -> io::Result<()> {
     let mut part = rule::kinds::one_part(kind, a);
     if letter == b'2' {
         part = rule::kinds::two_part(kind, a, b);
     }
-    crate::puts::try_put(name, n, part);
+    crate::puts::try_put(rt, name, n, part)
 }
 
-fn try_row(row: &[u8]) {
+fn try_row(rt: &impl Print, row: &[u8]) -> io::Result<()> {
     if row.len() < 26 {
-        return;
+        return Ok(());
     }
     let first = number_at(row, 1);
     let second = number_at(row, 7);
     let third = number_at(row, 13);
     let fourth = number_at(row, 19);
+    let name = &row[26..];
+    let byte = (third % 256) as u8;
     if row[0] == b'b' {
-        crate::takes::try_bytes(&row[26..], first, second, (third % 256) as u8, fourth);
+        crate::takes::try_bytes(rt, name, first, second, byte, fourth)
     } else if row[0] == b'w' {
-        crate::takes::try_window(&row[26..], first, second, (third % 256) as u8, fourth);
+        crate::takes::try_window(rt, name, first, second, byte, fourth)
     } else if row[0] == b'p' {
-        crate::takes::try_pinned(&row[26..], first, second, (third % 256) as u8, fourth);
+        crate::takes::try_pinned(rt, name, first, second, byte, fourth)
     } else {
-        try_named(
-            row[0],
-            &row[26..],
-            first,
-            (second % 256) as u8,
-            third,
-            fourth,
-        );
+        try_named(rt, row[0], name, first, (second % 256) as u8, third, fourth)
     }
 }
 
@@ -73,15 +78,15 @@ fn line_end(text: &[u8], from: usize) -> usize
 }
 
 // The section of rows that starts at `from`; answers where the next one starts.
-pub fn try_rows(text: &[u8], from: usize) -> usize {
+pub fn try_rows(rt: &impl Print, text: &[u8], from: usize) -> io::Result<usize> {
     let mut i = from;
     while i < text.len() {
         let end = line_end(text, i);
         if end == i {
-            return end + 1;
+            return Ok(end + 1);
         }
-        try_row(&text[i..end]);
+        try_row(rt, &text[i..end])?;
         i = end + 1;
     }
-    i
+    Ok(i)
 }

@@ -4,58 +4,88 @@ use crate::sheets::{
     fill, first_example, four_parts, longer_example, one_pinned, one_window, set_byte,
 };
 use cltlb::{Part, Term};
+use std::io;
 
 // One part taken off a sheet, and the whole sheet checked.
-pub fn try_sheet(name: &[u8], sheet: &[u8], n: usize) {
-    say(name);
-    say(b": take ");
-    say_taken(rule::take(sheet, n));
-    say(b", check ");
-    say_check(rule::check_sheet(sheet));
-    say(b"\n");
+pub fn try_sheet(rt: &impl Print, name: &[u8], sheet: &[u8], n: usize) -> io::Result<()> {
+    say(rt, name)?;
+    say(rt, b": take ")?;
+    say_taken(rt, rule::take(sheet, n))?;
+    say(rt, b", check ")?;
+    say_check(rt, rule::check_sheet(sheet))?;
+    say(rt, b"\n")
 }
 
 // A sheet with so many bytes from `at` on changed to x.
-fn try_changed(name: &[u8], sheet: &mut [u8], at: usize, count: usize, x: u8, n: usize) {
+fn try_changed(
+    rt: &impl Print,
+    name: &[u8],
+    sheet: &mut [u8],
+    at: usize,
+    count: usize,
+    x: u8,
+    n: usize,
+) -> io::Result<()> {
     fill(sheet, at % 64, count % 64, x);
-    try_sheet(name, sheet, n);
+    try_sheet(rt, name, sheet, n)
 }
 
 // The four parts so changed, the window, and the pinned reading.
-pub fn try_bytes(name: &[u8], at: usize, count: usize, x: u8, n: usize) {
+pub fn try_bytes(
+    rt: &impl Print,
+    name: &[u8],
+    at: usize,
+    count: usize,
+    x: u8,
+    n: usize,
+) -> io::Result<()> {
     let mut sheet = four_parts();
-    try_changed(name, &mut sheet, at, count, x, n);
+    try_changed(rt, name, &mut sheet, at, count, x, n)
 }
 
-pub fn try_window(name: &[u8], at: usize, count: usize, x: u8, n: usize) {
+pub fn try_window(
+    rt: &impl Print,
+    name: &[u8],
+    at: usize,
+    count: usize,
+    x: u8,
+    n: usize,
+) -> io::Result<()> {
     let mut sheet = one_window();
-    try_changed(name, &mut sheet, at, count, x, n);
+    try_changed(rt, name, &mut sheet, at, count, x, n)
 }
 
-pub fn try_pinned(name: &[u8], at: usize, count: usize, x: u8, n: usize) {
+pub fn try_pinned(
+    rt: &impl Print,
+    name: &[u8],
+    at: usize,
+    count: usize,
+    x: u8,
+    n: usize,
+) -> io::Result<()> {
     let mut sheet = one_pinned();
-    try_changed(name, &mut sheet, at, count, x, n);
+    try_changed(rt, name, &mut sheet, at, count, x, n)
 }
 
 // Every front part of a sheet, the shortest first, and the sheet.
-fn try_lengths(sheet: &[u8]) {
+fn try_lengths(rt: &impl Print, sheet: &[u8]) -> io::Result<()> {
     let mut size: usize = 0;
     while size < sheet.len() {
-        say(b"length");
-        say_number(size as u64);
-        try_sheet(b"", &sheet[..size], 0);
+        say(rt, b"length")?;
+        say_number(rt, size as u64)?;
+        try_sheet(rt, b"", &sheet[..size], 0)?;
         size += 1;
     }
-    try_sheet(b"all of it", sheet, 0);
+    try_sheet(rt, b"all of it", sheet, 0)
 }
 
-pub fn lengths() {
+pub fn lengths(rt: &impl Print) -> io::Result<()> {
     let sheet = longer_example();
-    try_lengths(&sheet);
+    try_lengths(rt, &sheet)
 }
 
 // A sheet of `count` parts over one channel, each of which is put as 0 < 0.
-fn try_count(name: &[u8], count: u8, sheet: &mut [u8]) {
+fn try_count(rt: &impl Print, name: &[u8], count: u8, sheet: &mut [u8]) -> io::Result<()> {
     set_byte(sheet, 0, count);
     set_byte(sheet, 2, 1);
     let mut n: usize = 0;
@@ -63,39 +93,39 @@ fn try_count(name: &[u8], count: u8, sheet: &mut [u8]) {
         rule::put(sheet, n, Part::Less(Term::Constant(0), Term::Constant(0)));
         n += 1;
     }
-    try_sheet(name, sheet, 0);
+    try_sheet(rt, name, sheet, 0)
 }
 
-fn try_few() {
+fn try_few(rt: &impl Print) -> io::Result<()> {
     let mut none = [0u8; 4];
     let mut one = [0u8; 17];
-    try_count(b"N 0", 0, &mut none);
-    try_count(b"N 1", 1, &mut one);
+    try_count(rt, b"N 0", 0, &mut none)?;
+    try_count(rt, b"N 1", 1, &mut one)
 }
 
 // A count in the bytes of 64 parts, and of 65.
-fn try_in_64(name: &[u8], count: u8) {
+fn try_in_64(rt: &impl Print, name: &[u8], count: u8) -> io::Result<()> {
     let mut sheet = [0u8; 836];
-    try_count(name, count, &mut sheet);
+    try_count(rt, name, count, &mut sheet)
 }
 
-fn try_in_65(name: &[u8], count: u8) {
+fn try_in_65(rt: &impl Print, name: &[u8], count: u8) -> io::Result<()> {
     let mut sheet = [0u8; 849];
-    try_count(name, count, &mut sheet);
+    try_count(rt, name, count, &mut sheet)
 }
 
-pub fn counts() {
-    try_few();
-    try_in_64(b"N 64", 64);
-    try_in_65(b"N 65", 65);
-    try_in_64(b"N 65 in the bytes of 64", 65);
-    try_in_65(b"N 64 in the bytes of 65", 64);
+pub fn counts(rt: &impl Print) -> io::Result<()> {
+    try_few(rt)?;
+    try_in_64(rt, b"N 64", 64)?;
+    try_in_65(rt, b"N 65", 65)?;
+    try_in_64(rt, b"N 65 in the bytes of 64", 65)?;
+    try_in_65(rt, b"N 64 in the bytes of 65", 64)
 }
 
 // Numbers of parts beyond what a row holds, and E1.
-pub fn far_numbers() {
-    try_bytes(b"part 2^63", 0, 0, 0, 9223372036854775808);
-    try_bytes(b"part 2^64 - 1", 0, 0, 0, 18446744073709551615);
+pub fn far_numbers(rt: &impl Print) -> io::Result<()> {
+    try_bytes(rt, b"part 2^63", 0, 0, 0, 9223372036854775808)?;
+    try_bytes(rt, b"part 2^64 - 1", 0, 0, 0, 18446744073709551615)?;
     let first = first_example();
-    try_sheet(b"E1", &first, 0);
+    try_sheet(rt, b"E1", &first, 0)
 }

@@ -1,5 +1,7 @@
 // Makes the mark table of the files rule.bin and plan.bin of the current folder, writes it to marks.bin there and prints one
 // line: `made V`, or `refused N P R`, when marks.bin is left alone.
+#![tactic(auto)]
+
 ghost use Rattle.std.specs.Prelude.{◌≡◌, ◌+◌, ◌*◌, ◌≤◌, length};
 ghost use Rattle.refusal.specs.declared.Outcome.TheVariants.{Clear};
 ghost use Rattle.rule.specs.Layout.{part_count};
@@ -8,7 +10,8 @@ ghost use Rattle.inputs.specs.Outcome.{inputs_outcome};
 
 use command::{PLAN_ROOM, RULE_ROOM};
 use inputs::InputsRead;
-use libc::STDOUT_FILENO;
+use std::rt::Files;
+use std::{fs, io};
 
 // How long the mark table is; 0 where the rule or the plan is refused, when a buffer of any length is refused alike.
 fn table_length(rule: &[u8], plan: &[u8]) -> usize
@@ -20,51 +23,48 @@ fn table_length(rule: &[u8], plan: &[u8]) -> usize
     }
 }
 
-// The file is opened only here, once the table is made.
-fn save(table: &[u8]) -> bool {
-    let file = os::open_overwrite(b"marks.bin");
-    if file < 0 {
-        return false;
-    }
-    let whole = io::write_all(file, table);
-    libc::close(file);
-    whole
-}
-
-// A table that can't be written is not said to be made: the reason goes to standard error.
-fn report(answer: u64, table: &[u8]) {
+// A table that can't be written is not said to be made: the reason goes to standard error. The file is opened only here, once the table
+// is made.
+fn report<R: Files + Print + Eprint>(rt: &R, answer: u64, table: &[u8]) -> io::Result<()> {
     if answer < 2 {
-        if save(table) {
-            io::write_all(STDOUT_FILENO, b"made ");
-            io::print_decimal(STDOUT_FILENO, answer);
-            io::write_all(STDOUT_FILENO, b"\n");
-        } else {
-            os::fail(b"marks.bin");
+        match fs::write(rt, "marks.bin", table) {
+            Ok(()) => println!(rt; "made {answer}"),
+            Err(e) => eprintln!(rt; "marks.bin: {e}"),
         }
     } else {
-        command::print_refused(answer);
+        command::print_refused(rt, answer)
     }
 }
 
-fn make(rule: &[u8], plan: &[u8], table: &mut [u8]) {
+fn make<R: Files + Print + Eprint>(
+    rt: &R,
+    rule: &[u8],
+    plan: &[u8],
+    table: &mut [u8],
+) -> io::Result<()> {
     let answer = endless_run::endless_run_make(rule, plan, table);
-    report(answer, table);
+    report(rt, answer, table)
 }
 
 // The table is made in the front part of a buffer for the largest one.
-fn make_in(rule: &[u8], plan: &[u8], buffer: &mut [u8])
+fn make_in<R: Files + Print + Eprint>(
+    rt: &R,
+    rule: &[u8],
+    plan: &[u8],
+    buffer: &mut [u8],
+) -> io::Result<()>
     requires { 16516 ≤ length buffer.old }
 {
     let n = table_length(rule, plan);
-    make(rule, plan, &mut buffer[..n]);
+    make(rt, rule, plan, &mut buffer[..n])
 }
 
 // Each buffer of a file holds one byte more than the longest file that is right, so that a longer one is refused by its length.
-fn main() {
+fn main(rt: HostRuntime) -> io::Result<()> {
     let mut rule = [0u8; RULE_ROOM];
     let mut plan = [0u8; PLAN_ROOM];
     let mut marks = [0u8; 16516];
-    let r = command::load(b"rule.bin", &mut rule);
-    let p = command::load(b"plan.bin", &mut plan);
-    make_in(&rule[..r], &plan[..p], &mut marks);
+    let r = command::load(&rt, b"rule.bin", &mut rule);
+    let p = command::load(&rt, b"plan.bin", &mut plan);
+    make_in(&rt, &rule[..r], &plan[..p], &mut marks)
 }

@@ -1,4 +1,6 @@
 // Settling: the fewest passes of a plan's cycle are laid out as start rows after which every part of a rule closes.
+#![tactic(auto)]
+
 pub mod comparisons;
 pub mod copies;
 pub mod operators;
@@ -22,7 +24,7 @@ use table::fills::clear;
 pub const SCRATCH_LENGTH: usize = 2048;
 
 // What settling answers: how many passes are laid out, or the first refusal that applies.
-#[derive(Drop)]
+#[derive(Clone, Copy)]
 pub enum Laid {
     Passes(usize),
     Refused(Refusal),

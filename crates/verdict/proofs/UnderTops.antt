@@ -3,14 +3,11 @@ use Prim.Native.Nat.{ℕ, zero, suc, ◌+◌}
 use native.Mathlib.Omega.{arith}
 use mathlib.Core.Path.{◌≡◌, refl, sym, ap, ◌∙◌}
 use mathlib.Core.Bool.{Bool, true, false, cond, not, ◌&&◌, false≢true}
-use mathlib.Core.List.{[], ◌∷◌}
 use mathlib.Core.Logic.Iff
 use mathlib.Core.Logic.{◌↔◌}
 use lib.Dec.{eqb-suc-zero}
 use lib.IntN.{ℤ, pos, ◌+ℤ◌, +ℤ_idr, *ℤ-zero}
 use lib.Signed.{lt_z, le_z}
-use types.Run.{OneOf, miss}
-use denote.Enum.Declared.{tag_of}
 use borrow.Author.Tests.{ne_eqb}
 use Rattle.cltlb.specs.Run.{is_top, is_pinned, under}
 use Rattle.cltlb.specs.Truth.{Compared}
@@ -27,7 +24,6 @@ use Rattle.verdict.specs.declared.Relation.{Relation}
 use Rattle.verdict.specs.declared.Relation.TheVariants.{Below, Same, Within, Pinned}
 use Rattle.verdict.specs.declared.Verdict.{Verdict}
 use Rattle.verdict.specs.declared.Verdict.TheVariants.{AlwaysTrue, AlwaysFalse, Changes}
-use Rattle.verdict.specs.contracts.Relation.{the_type}
 use Rattle.verdict.proofs.Passes.{PassMeans, means_iff}
 use Rattle.verdict.proofs.Decisions.{Decides, lt_decides, le_test, Judges, lifted}
 use Rattle.verdict.proofs.PassesBelow.{Lies, has_pass_lem, common_lies, common_has, below_lies, at_most_lies, same_lies}
@@ -191,10 +187,10 @@ module _ (relation : Relation) (s : ℤ) (x : Line) (t : ℤ) (y : Line) {p : St
   free_some f g e = rw (← ep, ← eb, f, ← g) e
 
 -- the relations of numbers, by their variants
-pub under_numbers : (relation : Relation) (s : ℤ) (x : Line) (t : ℤ) (y : Line) → OneOf (0 ∷ 1 ∷ 2 ∷ []) (tag_of the_type relation)
+pub under_numbers : (relation : Relation) (s : ℤ) (x : Line) (t : ℤ) (y : Line) → (relation ≡ Pinned → ⊥)
     → judge_free relation s x t y ≡ judge_under relation s x t y
 unfolding judge_under
 under_numbers Below s x t y h = refl
 under_numbers Same s x t y h = refl
 under_numbers (Within n) s x t y h = refl
-under_numbers Pinned s x t y h = absurd (miss (0 ∷ 1 ∷ 2 ∷ []) 3 tt h)
+under_numbers Pinned s x t y h = absurd (h refl)

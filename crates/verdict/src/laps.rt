@@ -4,7 +4,7 @@ ghost use Rattle.std.specs.Prelude.{◌≡◌, true, ◌↔◌, ◌*◌, ◌≤�
 ghost use Rattle.verdict.specs.inner.Walks.{Enters, Sized};
 
 // A number that is `at` on pass 0 and grows by `step` on each of the passes before `passes`, looked at from the beginning of a lap.
-#[derive(Drop)]
+#[derive(Clone, Copy)]
 pub struct Walk {
     pub lap: u64,
     pub at: u64,

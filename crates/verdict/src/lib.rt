@@ -1,4 +1,6 @@
 // The verdict on an atom, as a comparison of two terms, on one row of a plan, over all passes.
+#![tactic(auto)]
+
 ghost use Rattle.std.specs.Prelude.{◌≡◌};
 ghost use Rattle.verdict.specs.Meaning.{is_changes};
 
@@ -16,7 +18,7 @@ pub mod tops;
 pub mod weeks;
 
 // What a comparison is on the passes of a row.
-#[derive(Drop)]
+#[derive(Clone, Copy)]
 pub enum Verdict {
     AlwaysTrue,
     AlwaysFalse,
@@ -36,7 +38,7 @@ pub fn is_changes(verdict: Verdict) -> bool
 
 // What a comparison asks of its two terms: that they are numbers, the left one below the right one, or the same, or less than so many
 // minutes after it, whole weeks left aside; or that the left one is pinned, the right one being no matter.
-#[derive(Drop)]
+#[derive(Clone, Copy)]
 pub enum Relation {
     Below,
     Same,
@@ -45,7 +47,7 @@ pub enum Relation {
 }
 
 // A comparison of two terms.
-#[derive(Drop)]
+#[derive(Clone, Copy)]
 pub struct Comparison {
     pub relation: Relation,
     pub left: Term,

@@ -10,7 +10,7 @@ use crate::{Relation, Verdict};
 
 // A line, lifted so that no number is below 0: `at` is the number on the first pass, lifted as the values of readings are, `step`
 // what it grows by on each pass, as a field is kept.
-#[derive(Drop)]
+#[derive(Clone, Copy)]
 pub struct LiftedLine {
     pub at: u64,
     pub step: u64,

@@ -7,7 +7,7 @@ use crate::bounds::{larger, smaller};
 use crate::lines::LiftedLine;
 
 // All passes from one on, or those from one on and before another.
-#[derive(Drop)]
+#[derive(Clone, Copy)]
 pub enum Stretch {
     From(usize),
     Between(usize, usize),

@@ -1,0 +1,13 @@
+-- `settling::operators::step_on` meets its contract. Assumes nothing.
+use Rattle.words.specs.inner.Words.{most_parts}
+use Rattle.marks.proofs.Stepped as law
+use Rattle.settling.proofs.operators.step_on.Goals as goal
+
+pub mark_at-requires : goal.mark_at-requires
+mark_at-requires c = (c.requires.0, law.one_named most_parts c.requires.1 c.in-One.is, c.requires.2)
+
+pub mark_at-requires-in-Two : goal.mark_at-requires-in-Two
+mark_at-requires-in-Two c = (c.requires.0, (law.two_named most_parts c.requires.1 c.in-Two.is).0, c.requires.2)
+
+pub mark_at-requires-in-Two-2 : goal.mark_at-requires-in-Two-2
+mark_at-requires-in-Two-2 c = (c.requires.0, (law.two_named most_parts c.requires.1 c.in-Two.is).1, c.requires.2)

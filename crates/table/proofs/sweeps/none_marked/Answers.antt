@@ -1,0 +1,11 @@
+-- `table::sweeps::none_marked` meets its contract. Assumes nothing.
+use mathlib.Core.Path.{refl}
+use native.Mathlib.Omega.{arith}
+use Rattle.table.proofs.AllBelow.{sweep_first, sweep_next}
+use Rattle.table.proofs.sweeps.none_marked.Goals as goal
+
+pub loop-k-init : goal.loop-k-init
+loop-k-init c = (omega arith, sweep_first _)
+
+pub loop-k-preserved : goal.loop-k-preserved
+loop-k-preserved c = (omega arith, sweep_next _ _ c.loop-k.invariant.1 refl)

@@ -1,0 +1,11 @@
+-- `table::sweeps::opposites` meets its contract. Assumes nothing.
+use native.Mathlib.Omega.{arith}
+use Rattle.table.proofs.AllBelow.{sweep_first, sweep_next}
+use Rattle.table.proofs.ByteTests.{other_bytes}
+use Rattle.table.proofs.sweeps.opposites.Goals as goal
+
+pub loop-k-init : goal.loop-k-init
+loop-k-init c = (omega arith, sweep_first _)
+
+pub loop-k-preserved : goal.loop-k-preserved
+loop-k-preserved c = (omega arith, sweep_next _ _ c.loop-k.invariant.1 (other_bytes _ _ (c.requires.0.low _ c.loop-k-test.true) (c.requires.1.low _ c.loop-k-test.true)))

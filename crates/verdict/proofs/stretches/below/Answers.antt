@@ -1,0 +1,16 @@
+-- `verdict::stretches::below` meets its contract. Assumes nothing.
+use mathlib.Core.Path.{sym}
+use Rattle.verdict.proofs.PassesBelow.{below_until, below_always, below_later, below_never}
+use Rattle.verdict.proofs.stretches.below.Goals as goal
+
+pub returns-then-y-x : goal.returns-then-y-x
+returns-then-y-x c = sym (below_until _ _ _ _ _ _ c.if-x-y.true c.if-y-x.true)
+
+pub returns-then-x-y : goal.returns-then-x-y
+returns-then-x-y c = sym (below_always _ _ _ _ _ _ c.if-x-y.true c.if-y-x.false)
+
+pub returns-then-x-y-2 : goal.returns-then-x-y-2
+returns-then-x-y-2 c = sym (below_later _ _ _ _ _ _ c.if-x-y.false c.if-x-y-2.true)
+
+pub returns : goal.returns
+returns c = sym (below_never _ _ _ _ _ _ c.if-x-y.false c.if-x-y-2.false)
