@@ -1,6 +1,7 @@
 // The worked examples: specs/ has their bytes and answers as tables and what each row says; that every row holds is what the
 // two functions here promise.
 #![tactic(auto)]
+
 ghost use Rattle.std.specs.Prelude.{ℕ, ◌≡◌, length};
 ghost use Rattle.worked_examples.specs.Rows.{All};
 ghost use Rattle.worked_examples.specs.Questions.{Says};
