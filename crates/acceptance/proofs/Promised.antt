@@ -22,7 +22,8 @@ use Rattle.inputs.specs.Outcome.{inputs_outcome}
 use Rattle.inputs.proofs.Ways.{clear_both, both_clear}
 use Rattle.table.specs.Layout.{table_outcome}
 use Rattle.marks.proofs.Accepted.{accepted_means, true_accepted, accepted_verdict}
-use Rattle.marks.proofs.RefusalMeans.{Means, refused_means}
+use Rattle.marks.proofs.RefusalMeans.{Means}
+use Rattle.marks.proofs.RefusedMeans.{refused_means}
 use Rattle.acceptance.specs.declared.Checked.{Checked}
 use Rattle.acceptance.specs.declared.Checked.TheVariants as C
 use Rattle.acceptance.specs.Check.{mark_of, witness_at, parts_outcome, check_outcome, answered, check_of}

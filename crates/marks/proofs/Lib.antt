@@ -12,6 +12,7 @@ pub mod ByTruth
 pub mod Repeating
 pub mod Accepted
 pub mod RefusalMeans
+pub mod RefusedMeans
 pub mod Swept
 pub mod Stepped
 pub mod WitnessTests

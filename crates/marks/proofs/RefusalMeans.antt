@@ -12,12 +12,12 @@ use Rattle.cltlb.specs.Views.{two_view}
 use Rattle.cltlb.specs.declared.Binary.TheVariants.{Until, Release}
 use Rattle.cltlb.specs.declared.View.{View}
 use Rattle.cltlb.proofs.Depth.{formula_made}
-use Rattle.refusal.specs.First.{◌or_else◌, unless, in_turn}
+use Rattle.refusal.specs.First.{◌or_else◌, unless}
 use Rattle.refusal.specs.declared.Refusal.{Refusal}
 use Rattle.refusal.specs.declared.Refusal.TheVariants.{RuleSizes, Kind, Operand, PlanSizes, Channels, StartDrift, MarkSizes, MarkByte, Equation, Closing, Witness, Absent, BufferLength, NoTable, NoLayout, Unwatchable, Unfitting}
 use Rattle.refusal.specs.declared.Outcome.{Outcome}
 use Rattle.refusal.specs.declared.Outcome.TheVariants.{Clear, Refused}
-use Rattle.refusal.proofs.First.{unless_refused_lem, unless_clear_t, or_else_refused, in_turn_refused, clear_refused}
+use Rattle.refusal.proofs.First.{unless_refused_lem, unless_clear_t, or_else_refused, clear_refused}
 use Rattle.plan.specs.Layout.{start_rows, cycle_rows, rows}
 use Rattle.plan.specs.Positions.{after}
 use Rattle.marks.specs.Parts.{closes_by, closes, witness_in_order, equation_outcome, closing_outcome, witness_outcome, part_outcome}
@@ -28,7 +28,7 @@ use Rattle.marks.proofs.Parts.{Ahead}
 use Rattle.marks.proofs.Faults.{met_open, equation_broken}
 use Rattle.marks.proofs.ByTruth.{Open, closing_open, closing_repeats}
 use Rattle.marks.proofs.Repeating.{same_differs, settled_repeats}
-use Rattle.marks.proofs.Accepted.{TrueAt, true_settled, true_marks, settled_true, passed_true, true_served, below}
+use Rattle.marks.proofs.Accepted.{TrueAt, true_settled, true_marks, settled_true, passed_true, true_served}
 
 module _ (plan : List ℕ) (parts : ℕ → View) (n : ℕ) (mark : ℕ → ℕ → Bool) (witness : ℕ → ℕ) where
   -- what a refusal of the table says, by its number
@@ -169,17 +169,10 @@ module _ (plan : List ℕ) (h_c : 1 ≤ cycle_rows plan) (parts : ℕ → View) 
           serves = served closes met;
         })
 
-    part_means : (r : Refusal) → part_outcome plan mark (parts i) i (witness i) ≡ Refused r → Means plan parts n mark witness r
+    pub part_means : (r : Refusal) → part_outcome plan mark (parts i) i (witness i) ≡ Refused r → Means plan parts n mark witness r
     unfolding part_outcome
     part_means r e =
         ⊎_elim (closing_means r)
         (λ h. ⊎_elim (equation_means h.0 r) (λ k. witness_means h.0 k.0 r k.1)
         (or_else_refused (equation_outcome plan mark (parts i) i) (witness_outcome plan mark (parts i) i (witness i)) r h.1))
         (or_else_refused (closing_outcome plan mark (parts i) i) (equation_outcome plan mark (parts i) i or_else witness_outcome plan mark (parts i) i (witness i)) r e)
-
-  -- A table that is refused: the first part at fault says so, and every lower one is right.
-  pub refused_means : (r : Refusal) → in_turn (λ i. part_outcome plan mark (parts i) i (witness i)) n ≡ Refused r → Means plan parts n mark witness r
-  refused_means r e =
-      let p = in_turn_refused (λ i. part_outcome plan mark (parts i) i (witness i)) n r e in
-      let l = p.1 in
-      part_means p.0 l (below plan h_c parts v n fits mark witness p.0 (omega arith) p.2) r p.3
