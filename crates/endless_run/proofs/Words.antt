@@ -49,6 +49,26 @@ number_within NoLayout = omega arith
 number_within Unwatchable = omega arith
 number_within Unfitting = omega arith
 
+-- of those that are not of a live call 1 to 15
+pub number_on_plans : (r : Refusal) → (r ≡ Unwatchable → ⊥) → (r ≡ Unfitting → ⊥) → (1 ≤ (report_of r).number) × ((report_of r).number ≤ 15)
+number_on_plans RuleSizes w f = omega arith
+number_on_plans (Kind p) w f = omega arith
+number_on_plans (Operand p) w f = omega arith
+number_on_plans PlanSizes w f = omega arith
+number_on_plans Channels w f = omega arith
+number_on_plans (StartDrift r) w f = omega arith
+number_on_plans MarkSizes w f = omega arith
+number_on_plans (MarkByte p r) w f = omega arith
+number_on_plans (Equation p r) w f = omega arith
+number_on_plans (Closing p r) w f = omega arith
+number_on_plans (Witness p) w f = omega arith
+number_on_plans Absent w f = omega arith
+number_on_plans BufferLength w f = omega arith
+number_on_plans (NoTable p r) w f = omega arith
+number_on_plans NoLayout w f = omega arith
+number_on_plans Unwatchable w f = absurd (w refl)
+number_on_plans Unfitting w f = absurd (f refl)
+
 -- 0 is no number of a refusal
 pub no_number : {p w : ℕ} (q : Refusal) → report 0 p w ≡ report_of q → ⊥
 no_number q e = let n : 0 ≡ (report_of q).number = ap (λ (x : Report). x.number) e in omega (arith, number_within q)
