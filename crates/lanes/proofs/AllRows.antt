@@ -52,6 +52,25 @@ pub record Ranged (plan table : List ℕ) (part : ComparisonPart) (sides : Sides
   pub higher : high ≡ max sides.left.code sides.right.code
   pub divided : Divides part.sizes back high still r
 
+-- and it is known from what the steps up to there say
+pub ranged : (plan table : List ℕ) (part : ComparisonPart) (sides : Sides) {back high : ℕ} {still : Bool} {r : Ranges} → Fitting plan part.sizes
+    → Sized table part.n (all_rows part.sizes) → part.i < part.n → TermsFit part.sizes part.comparison → AsksLeft part.comparison
+    → IsSide plan part.comparison.left sides.left → IsSide plan part.comparison.right sides.right
+    → back ≡ max (reach part.comparison.left) (reach part.comparison.right) → high ≡ max sides.left.code sides.right.code
+    → Divides part.sizes back high still r → Ranged plan table part sides back high still r
+ranged plan table part sides fits sized present terms asks left right back high divides = record {
+  fitting = fits;
+  sized = sized;
+  present = present;
+  terms_fit = terms;
+  asks_left = asks;
+  left_side = left;
+  right_side = right;
+  farther = back;
+  higher = high;
+  divided = divides;
+}
+
 module _ {plan table : List ℕ} {part : ComparisonPart} {sides : Sides} {back high : ℕ} {still : Bool} {r : Ranges} (known : Ranged plan table part sides back high still r) where
   abbrev z : Sizes
   z = part.sizes

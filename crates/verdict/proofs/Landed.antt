@@ -36,6 +36,17 @@ unfolding shift_fits
 shift_fits_lem v (Constant z) e = refl
 shift_fits_lem v (Reading channel shift) e = (fits.reading_fits v channel shift e).1
 
+-- Where a term's shift lands, from its code.
+lands : (z : Sizes) (row : ℕ) (x : Term) (l : Landing) (code : ℕ) → (sub_ℕ code 4 ≡ shift_in x) × (code ≤ 8)
+    → (l.row ≡ landing_row z.start z.cycle row code) × (l.off ≡ landing_off z.start z.cycle row code) → Lands z row x l
+lands z row x l code c h = record { code = code; is_code = c.0; small = c.1; on_row = h.0; off_by = h.1 }
+
+pub both_land : (z : Sizes) (row : ℕ) (x : Comparison) (left right : Landing) {m n : ℕ} → (sub_ℕ m 4 ≡ shift_in x.left) × (m ≤ 8)
+    → (left.row ≡ landing_row z.start z.cycle row m) × (left.off ≡ landing_off z.start z.cycle row m)
+    → (sub_ℕ n 4 ≡ shift_in x.right) × (n ≤ 8) → (right.row ≡ landing_row z.start z.cycle row n) × (right.off ≡ landing_off z.start z.cycle row n)
+    → BothLand z row x left right
+both_land z row x left right c h d k = (lands z row x.left left _ c h, lands z row x.right right _ d k)
+
 -- A term that does not reach before the cycle is read in the cycle.
 pub read_inside : (x : Term) (p t code : ℕ) → p + reach x ≤ t → sub_ℕ code 4 ≡ shift_in x → p + 4 ≤ t + code
 unfolding reach back

@@ -151,6 +151,10 @@ no_tops plan x s t e f h =
     let right : t ≡ 0 = omega arith in
     (sym e ∙ ap pos left, sym f ∙ ap pos right)
 
+-- how far back the two terms of a comparison reach at most
+pub farther_reach : (x : Comparison) {m p q : ℕ} → m ≡ max p q → p ≡ reach x.left → q ≡ reach x.right → m ≡ max (reach x.left) (reach x.right)
+farther_reach x e f g = e ∙ ap₂ max f g
+
 -- both terms of a comparison reach at most m positions back
 module _ (z : Sizes) (x : Comparison) (m : ℕ) (e : m ≡ max (reach x.left) (reach x.right)) where
   pub farther_le : TermsFit z x → m ≤ 4
