@@ -1,11 +1,11 @@
 -- The refusals of the check by their numbers, and that two bytes hold the part and the row that one names. Assumes nothing.
+use Rattle.std.specs.Prelude.{Bool, Result, Ok, Err}
 use Prim.Native.Nat.{ℕ, ◌≤◌}
 use native.Mathlib.Omega.{arith}
 use mathlib.Core.Path.{◌≡◌, sym, ◌∙◌}
 use mathlib.Core.List.{List}
 use Rattle.refusal.specs.declared.Refusal.{Refusal}
-use Rattle.refusal.specs.declared.Outcome.{Outcome}
-use Rattle.refusal.specs.declared.Outcome.TheVariants.{Clear, Refused}
+use Rattle.refusal.specs.Outcome.{Outcome, unrefused}
 use Rattle.refusal.specs.Report.{report_of}
 use Rattle.refusal.specs.First.{◌or_else◌}
 use Rattle.refusal.proofs.RefusesOnly.{Small, Within, RefusesOnly, refused_only, or_else_only, in_turn_only, or_else_second, within_small}
@@ -19,13 +19,11 @@ use Rattle.inputs.proofs.Ways.{clear_both, inputs_within}
 use Rattle.table.specs.Layout.{table_outcome}
 use Rattle.marks.specs.Parts.{part_outcome}
 use Rattle.marks.proofs.MarkNames.{table_within, part_small}
-use Rattle.acceptance.specs.declared.Checked.{Checked}
-use Rattle.acceptance.specs.declared.Checked.TheVariants as C
 use Rattle.acceptance.specs.Check.{mark_of, witness_at, parts_outcome, check_outcome, answered, check_of}
 
 module _ (rule plan table : List ℕ) where
   -- what the first six leave: few rows and few parts
-  module _ (e : inputs_outcome rule plan ≡ Clear) where
+  module _ (e : inputs_outcome rule plan ≡ unrefused) where
     few_rows : rows plan ≤ 256
     unfolding rows
     few_rows = (cleared (channel_count rule) plan (clear_both rule plan e).1).0.few_rows
@@ -47,8 +45,8 @@ module _ (rule plan table : List ℕ) where
       (λ i h. part_small plan (few_rows e) (part_count rule) (few_parts e) (mark_of rule plan table) i h (views_of rule i) (witness_at rule plan table i))))
 
   -- A refusal numbered 9 or more is one of the parts, and 1 to 8 are cleared.
-  pub parts_refused : (r : Refusal) → 9 ≤ (report_of r).number → check_outcome rule plan table ≡ Refused r
-      → (inputs_outcome rule plan ≡ Clear) × (table_outcome (part_count rule) (rows plan) table ≡ Clear) × (parts_outcome rule plan table ≡ Refused r)
+  pub parts_refused : (r : Refusal) → 9 ≤ (report_of r).number → check_outcome rule plan table ≡ Err r
+      → (inputs_outcome rule plan ≡ unrefused) × (table_outcome (part_count rule) (rows plan) table ≡ unrefused) × (parts_outcome rule plan table ≡ Err r)
   unfolding check_outcome
   parts_refused r high e =
       let a = or_else_second (Within 1 6) (inputs_outcome rule plan) (table_outcome (part_count rule) (rows plan) table or_else parts_outcome rule plan table) r
@@ -57,11 +55,11 @@ module _ (rule plan table : List ℕ) where
       (own_table a.0) (λ w. let l = w.1 in omega arith) a.1 in
       (a.0, b.0, b.1)
 
-  pub refused_outcome : (o : Outcome) (r : Refusal) → answered rule plan table o ≡ C.Refused r → o ≡ Refused r
+  pub refused_outcome : (o : Outcome) (r : Refusal) → answered rule plan table o ≡ Err r → o ≡ Err r
   unfolding answered
-  refused_outcome Clear r e = absurd (let z : ◌≡◌ {A = ℕ} 0 1 = cc in omega arith)
-  refused_outcome (Refused q) r e = cc
+  refused_outcome (Ok _) r e = absurd (let z : ◌≡◌ {A = ℕ} 0 1 = cc in omega arith)
+  refused_outcome (Err q) r e = cc
 
-  pub check_names : {answer : Checked} → answer ≡ check_of rule plan table → (r : Refusal) → answer ≡ C.Refused r → Small r
+  pub check_names : {answer : Result Bool Refusal} → answer ≡ check_of rule plan table → (r : Refusal) → answer ≡ Err r → Small r
   unfolding check_of
   check_names e r f = refused_only Small (check_outcome rule plan table) check_small r (refused_outcome (check_outcome rule plan table) r (sym e ∙ f))

@@ -1,10 +1,10 @@
 -- The check by the tests that it makes, one law for each way out. Assumes nothing.
+use Rattle.std.specs.Prelude.{Ok, Err}
 use Prim.Native.Nat.{ℕ, ◌-◌}
 use mathlib.Core.Path.{◌≡◌, sym, ap, ap₂, ◌∙◌}
 use mathlib.Core.List.{List}
 use mathlib.Core.Bool.{Bool}
-use Rattle.refusal.specs.declared.Outcome.{Outcome}
-use Rattle.refusal.specs.declared.Outcome.TheVariants.{Clear, Refused}
+use Rattle.refusal.specs.Outcome.{Outcome, unrefused}
 use Rattle.refusal.specs.declared.Refusal.{Refusal}
 use Rattle.refusal.specs.First.{◌or_else◌}
 use Rattle.rule.specs.Layout.{part_count}
@@ -19,12 +19,11 @@ use Rattle.inputs.proofs.Parts.{few_there}
 use Rattle.table.specs.Layout.{marked, table_outcome}
 use Rattle.table.proofs.Refused.{cleared_marks}
 use Rattle.marks.proofs.MarkNames.{cleared_sized}
-use Rattle.acceptance.specs.declared.Checked.TheVariants as C
 use Rattle.acceptance.specs.Check.{mark_of, parts_outcome, check_outcome, answered, check_of}
 use Rattle.acceptance.specs.inner.Parts.{Prepared}
 
 module _ (rule plan table : List ℕ) where
-  pub inputs_refused : {r : Refusal} → inputs_outcome rule plan ≡ Refused r → C.Refused r ≡ check_of rule plan table
+  pub inputs_refused : {r : Refusal} → inputs_outcome rule plan ≡ Err r → Err r ≡ check_of rule plan table
   unfolding check_of answered check_outcome ◌or_else◌
   inputs_refused e = simp e
 
@@ -32,12 +31,12 @@ module _ (rule plan table : List ℕ) where
     own_table : table_outcome n (all_rows z) table ≡ table_outcome (part_count rule) (rows plan) table
     own_table = ap₂ (λ (n w : ℕ). table_outcome n w table) ready.parts (sym (rows_are ready.fits))
 
-    pub table_refused : {t : Outcome} {r : Refusal} → t ≡ table_outcome n (all_rows z) table → t ≡ Refused r → C.Refused r ≡ check_of rule plan table
+    pub table_refused : {t : Outcome} {r : Refusal} → t ≡ table_outcome n (all_rows z) table → t ≡ Err r → Err r ≡ check_of rule plan table
     unfolding check_of answered check_outcome ◌or_else◌
     table_refused d f = simp (both_ready rule plan ready, sym own_table ∙ sym d ∙ f)
 
-    module _ {t : Outcome} (d : t ≡ table_outcome n (all_rows z) table) (c : t ≡ Clear) where
-      f : table_outcome n (all_rows z) table ≡ Clear
+    module _ {t : Outcome} (d : t ≡ table_outcome n (all_rows z) table) (c : t ≡ unrefused) where
+      f : table_outcome n (all_rows z) table ≡ unrefused
       f = sym d ∙ c
 
       pub prepared : Prepared rule plan table n z
@@ -45,13 +44,13 @@ module _ (rule plan table : List ℕ) where
           let sized = cleared_sized n (all_rows z) table (few_there rule plan ready).0 (few_there rule plan ready).1 f in
           record { ready = ready; sized = sized; marks = cleared_marks n (all_rows z) table f sized }
 
-      pub parts_refused : {o : Outcome} {r : Refusal} → o ≡ parts_outcome rule plan table → o ≡ Refused r → C.Refused r ≡ check_of rule plan table
+      pub parts_refused : {o : Outcome} {r : Refusal} → o ≡ parts_outcome rule plan table → o ≡ Err r → Err r ≡ check_of rule plan table
       unfolding check_of answered check_outcome ◌or_else◌
       parts_refused e h = simp (both_ready rule plan ready, sym own_table ∙ f, sym e ∙ h)
 
-      pub all_accepted : {o : Outcome} → o ≡ parts_outcome rule plan table → o ≡ Clear → {b : Bool} → b ≡ marked (all_rows z) table (n - 1) 0
-          → C.Accepted b ≡ check_of rule plan table
+      pub all_accepted : {o : Outcome} → o ≡ parts_outcome rule plan table → o ≡ unrefused → {b : Bool} → b ≡ marked (all_rows z) table (n - 1) 0
+          → Ok b ≡ check_of rule plan table
       unfolding check_of answered check_outcome ◌or_else◌ mark_of
       all_accepted e h m =
-          ap C.Accepted (m ∙ ap₂ (λ (n w : ℕ). marked w table (n - 1) 0) ready.parts (sym (rows_are ready.fits)))
+          ap Ok (m ∙ ap₂ (λ (n w : ℕ). marked w table (n - 1) 0) ready.parts (sym (rows_are ready.fits)))
           ∙ simp (both_ready rule plan ready, sym own_table ∙ f, sym e ∙ h)

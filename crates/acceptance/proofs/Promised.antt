@@ -1,4 +1,5 @@
 -- The definition of the check keeps its promise: demand 3 over the bytes. Assumes nothing.
+use Rattle.std.specs.Prelude.{Result, Ok, Err}
 use Prim.Native.Nat.{ℕ, ◌-◌, ◌≤◌}
 use native.Mathlib.Omega.{arith}
 use mathlib.Core.Path.{◌≡◌, refl, sym, ◌∙◌, subst}
@@ -6,8 +7,7 @@ use mathlib.Core.List.{List}
 use mathlib.Core.Bool.{Bool}
 use mathlib.Core.Logic.{◌↔◌}
 use lib.Dec.{T}
-use Rattle.refusal.specs.declared.Outcome.{Outcome}
-use Rattle.refusal.specs.declared.Outcome.TheVariants.{Clear, Refused}
+use Rattle.refusal.specs.Outcome.{Outcome, unrefused}
 use Rattle.refusal.specs.declared.Refusal.{Refusal}
 use Rattle.refusal.specs.declared.Refusal.TheVariants.{Equation, Closing, Witness}
 use Rattle.refusal.specs.Report.{report_of}
@@ -24,25 +24,23 @@ use Rattle.table.specs.Layout.{table_outcome}
 use Rattle.marks.proofs.Accepted.{accepted_means, true_accepted, accepted_verdict}
 use Rattle.marks.proofs.RefusalMeans.{Means}
 use Rattle.marks.proofs.RefusedMeans.{refused_means}
-use Rattle.acceptance.specs.declared.Checked.{Checked}
-use Rattle.acceptance.specs.declared.Checked.TheVariants as C
 use Rattle.acceptance.specs.Check.{mark_of, witness_at, parts_outcome, check_outcome, answered, check_of}
 use Rattle.acceptance.specs.Promise.{Cleared, RuleTruth, TableRight, EquationMeans, ClosingMeans, WitnessMeans, CheckPromise}
 use Rattle.acceptance.proofs.CheckNames.{parts_refused, refused_outcome}
 
 module _ (rule plan table : List ℕ) where
   -- accepted exactly where no test refuses
-  pub accepted_clear : (o : Outcome) (v : Bool) → answered rule plan table o ≡ C.Accepted v → (o ≡ Clear) × (mark_of rule plan table (part_count rule - 1) 0 ≡ v)
+  pub accepted_clear : (o : Outcome) (v : Bool) → answered rule plan table o ≡ Ok v → (o ≡ unrefused) × (mark_of rule plan table (part_count rule - 1) 0 ≡ v)
   unfolding answered
-  accepted_clear Clear v e = (refl, cc)
-  accepted_clear (Refused r) v e = absurd (let z : ◌≡◌ {A = ℕ} 0 1 = cc in omega arith)
+  accepted_clear (Ok _) v e = (refl, cc)
+  accepted_clear (Err r) v e = absurd (let z : ◌≡◌ {A = ℕ} 0 1 = cc in omega arith)
 
-  pub clear_accepted : check_outcome rule plan table ≡ Clear → check_of rule plan table ≡ C.Accepted (mark_of rule plan table (part_count rule - 1) 0)
+  pub clear_accepted : check_outcome rule plan table ≡ unrefused → check_of rule plan table ≡ Ok (mark_of rule plan table (part_count rule - 1) 0)
   unfolding check_of answered
   clear_accepted e = simp e
 
   -- the three groups of tests
-  pub all_clear : check_outcome rule plan table ≡ Clear → Cleared rule plan table × (parts_outcome rule plan table ≡ Clear)
+  pub all_clear : check_outcome rule plan table ≡ unrefused → Cleared rule plan table × (parts_outcome rule plan table ≡ unrefused)
   unfolding check_outcome
   all_clear e =
       let a = (or_else_clear (inputs_outcome rule plan) (table_outcome (part_count rule) (rows plan) table or_else parts_outcome rule plan table)).0 e in
@@ -50,7 +48,7 @@ module _ (rule plan table : List ℕ) where
       let c = (or_else_clear (table_outcome (part_count rule) (rows plan) table) (parts_outcome rule plan table)).0 a.1 in
       (record { sheet = b.0; plan_clear = b.1; table_clear = c.0 }, c.1)
 
-  pub clear_all : Cleared rule plan table → parts_outcome rule plan table ≡ Clear → check_outcome rule plan table ≡ Clear
+  pub clear_all : Cleared rule plan table → parts_outcome rule plan table ≡ unrefused → check_outcome rule plan table ≡ unrefused
   unfolding check_outcome
   clear_all c e =
       (or_else_clear (inputs_outcome rule plan) (table_outcome (part_count rule) (rows plan) table or_else parts_outcome rule plan table)).1 (
@@ -63,7 +61,7 @@ module _ (rule plan table : List ℕ) where
     some_cycle = let f = (cleared (channel_count rule) plan c.plan_clear).0 in f.a_cycle
 
     -- 9 to 11 refuse nothing exactly where the table is right
-    parts_right : (parts_outcome rule plan table ≡ Clear) ↔ TableRight rule plan table
+    parts_right : (parts_outcome rule plan table ≡ unrefused) ↔ TableRight rule plan table
     unfolding parts_outcome
     parts_right = (
       λ e.
@@ -75,14 +73,14 @@ module _ (rule plan table : List ℕ) where
           (mark_of rule plan table) (witness_at rule plan table) (r.settled, r.marks, r.witnesses),
     )
 
-    verdict_true : parts_outcome rule plan table ≡ Clear → T (mark_of rule plan table (part_count rule - 1) 0) ↔ RuleTruth rule plan (part_count rule - 1) 0
+    verdict_true : parts_outcome rule plan table ≡ unrefused → T (mark_of rule plan table (part_count rule - 1) 0) ↔ RuleTruth rule plan (part_count rule - 1) 0
     unfolding parts_outcome RuleTruth
     verdict_true e =
         accepted_verdict plan some_cycle (views_of rule) (channel_count rule) (part_count rule) (cleared_fits rule c.sheet)
         (mark_of rule plan table) (witness_at rule plan table) (cleared_counts rule c.sheet).0 e
 
   -- what a refusal of a part says
-  refused_says : (r : Refusal) → 9 ≤ (report_of r).number → check_outcome rule plan table ≡ Refused r
+  refused_says : (r : Refusal) → 9 ≤ (report_of r).number → check_outcome rule plan table ≡ Err r
       → Means plan (views_of rule) (part_count rule) (mark_of rule plan table) (witness_at rule plan table) r
   unfolding parts_outcome
   refused_says r high e =
@@ -92,7 +90,7 @@ module _ (rule plan table : List ℕ) where
       (mark_of rule plan table) (witness_at rule plan table) r p.2
 
   -- THE CHECK KEEPS ITS PROMISE, whatever the bytes.
-  pub check_promise : {answer : Checked} → answer ≡ check_of rule plan table → CheckPromise rule plan table answer
+  pub check_promise : {answer : Result Bool Refusal} → answer ≡ check_of rule plan table → CheckPromise rule plan table answer
   unfolding check_of Means EquationMeans ClosingMeans WitnessMeans
   check_promise {answer} e = record {
     is_check = e;

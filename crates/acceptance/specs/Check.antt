@@ -1,7 +1,7 @@
 -- The whole check of a rule sheet, a plan and a mark table: the refusals in the order of checking. Assumes nothing.
-use Rattle.std.specs.Prelude.{ℕ, ◌-◌, List, Bool}
-use Rattle.refusal.specs.declared.Outcome.{Outcome}
-use Rattle.refusal.specs.declared.Outcome.TheVariants.{Clear, Refused}
+use Rattle.std.specs.Prelude.{Result, Ok, Err, ℕ, ◌-◌, List, Bool}
+use Rattle.refusal.specs.declared.Refusal.{Refusal}
+use Rattle.refusal.specs.Outcome.{Outcome}
 use Rattle.refusal.specs.First.{◌or_else◌, in_turn}
 use Rattle.rule.specs.Layout.{part_count}
 use Rattle.rule.specs.Take.{views_of}
@@ -9,8 +9,6 @@ use Rattle.plan.specs.Layout.{rows}
 use Rattle.inputs.specs.Outcome.{inputs_outcome}
 use Rattle.table.specs.Layout.{marked, witness_of, table_outcome}
 use Rattle.marks.specs.Parts.{part_outcome}
-use Rattle.acceptance.specs.declared.Checked.{Checked}
-use Rattle.acceptance.specs.declared.Checked.TheVariants as C
 
 module _ (rule plan table : List ℕ) where
   -- the mark of a part on a row, and a part's witness
@@ -32,9 +30,9 @@ module _ (rule plan table : List ℕ) where
       or_else parts_outcome
 
   -- accepted with the last part's mark on row 0, the verdict, which says whether the run satisfies the rule; or the first refusal
-  unfoldable pub answered : Outcome → Checked
-  answered Clear = C.Accepted (mark_of (part_count rule - 1) 0)
-  answered (Refused r) = C.Refused r
+  unfoldable pub answered : Outcome → Result Bool Refusal
+  answered (Ok _) = Ok (mark_of (part_count rule - 1) 0)
+  answered (Err r) = Err r
 
-  unfoldable pub check_of : Checked
+  unfoldable pub check_of : Result Bool Refusal
   check_of = answered check_outcome

@@ -1,6 +1,7 @@
 -- What the whole check promises, on all inputs. Assumes nothing.
-use Rattle.std.specs.Prelude.{ℕ, ◌-◌, ◌≡◌, List, Bool, ◌↔◌, T}
-use Rattle.refusal.specs.declared.Outcome.TheVariants.{Clear}
+use Rattle.std.specs.Prelude.{Result, Ok, Err, ℕ, ◌-◌, ◌≡◌, List, Bool, ◌↔◌, T}
+use Rattle.refusal.specs.declared.Refusal.{Refusal}
+use Rattle.refusal.specs.Outcome.{unrefused}
 use Rattle.refusal.specs.declared.Refusal.TheVariants.{Equation, Closing, Witness}
 use Rattle.rule.specs.Layout.{part_count, channel_count}
 use Rattle.rule.specs.Take.{views_of}
@@ -10,8 +11,6 @@ use Rattle.plan.specs.Refusals.{plan_outcome}
 use Rattle.table.specs.Layout.{table_outcome}
 use Rattle.marks.specs.Meaning.{Truth, Settled, MarksTrue, WitnessesInOrder}
 use Rattle.marks.specs.RefusalMeaning as refusal
-use Rattle.acceptance.specs.declared.Checked.{Checked}
-use Rattle.acceptance.specs.declared.Checked.TheVariants as C
 use Rattle.acceptance.specs.Check.{mark_of, witness_at, check_of}
 
 -- The published truth of part i of the rule at position t of the plan's run.
@@ -21,9 +20,9 @@ RuleTruth rule plan i t = Truth (views_of rule) plan i t
 module _ (rule plan table : List ℕ) where
   -- The three byte strings clear refusals 1 to 8.
   pub record Cleared : Type 0 where
-    pub sheet : sheet_outcome rule ≡ Clear
-    pub plan_clear : plan_outcome (channel_count rule) plan ≡ Clear
-    pub table_clear : table_outcome (part_count rule) (rows plan) table ≡ Clear
+    pub sheet : sheet_outcome rule ≡ unrefused
+    pub plan_clear : plan_outcome (channel_count rule) plan ≡ unrefused
+    pub table_clear : table_outcome (part_count rule) (rows plan) table ≡ unrefused
 
   -- Every part has, on each cycle row, the same published truth on all passes, without end; every mark is the published
   -- truth of its part at the first position of its row; every witness is in order.
@@ -44,14 +43,14 @@ module _ (rule plan table : List ℕ) where
   unfoldable pub WitnessMeans : ℕ → Type 0
   WitnessMeans i = refusal.WitnessMeans (views_of rule) (part_count rule) plan (mark_of rule plan table) (witness_at rule plan table) i
 
-  pub record CheckPromise (answer : Checked) : Type 0 where
+  pub record CheckPromise (answer : Result Bool Refusal) : Type 0 where
     -- the answer is the first refusal that applies, or the acceptance
     pub is_check : answer ≡ check_of rule plan table
     -- it accepts exactly the right tables
-    pub accepts : Cleared → ((v : Bool) × (answer ≡ C.Accepted v)) ↔ TableRight
+    pub accepts : Cleared → ((v : Bool) × (answer ≡ Ok v)) ↔ TableRight
     -- its verdict is the published truth of the whole rule at position 0
-    pub verdict : (v : Bool) → answer ≡ C.Accepted v → T v ↔ RuleTruth rule plan (part_count rule - 1) 0
+    pub verdict : (v : Bool) → answer ≡ Ok v → T v ↔ RuleTruth rule plan (part_count rule - 1) 0
     -- what a refusal of part i says
-    pub equation : (i row : ℕ) → answer ≡ C.Refused (Equation i row) → EquationMeans i row
-    pub closing : (i row : ℕ) → answer ≡ C.Refused (Closing i row) → ClosingMeans i row
-    pub witness : (i : ℕ) → answer ≡ C.Refused (Witness i) → WitnessMeans i
+    pub equation : (i row : ℕ) → answer ≡ Err (Equation i row) → EquationMeans i row
+    pub closing : (i row : ℕ) → answer ≡ Err (Closing i row) → ClosingMeans i row
+    pub witness : (i : ℕ) → answer ≡ Err (Witness i) → WitnessMeans i

@@ -1,16 +1,16 @@
 -- The number that an argument of a program stands for. Assumes nothing.
-use Rattle.std.specs.Prelude.{ℕ, ◌+◌, ◌*◌, ◌-◌, List, [], ◌∷◌, Bool, ◌&&◌, cond, leb, ltb}
+use Rattle.std.specs.Prelude.{ℕ, ◌+◌, ◌*◌, ◌-◌, List, [], ◌∷◌, Bool, ◌&&◌, cond, min, leb}
 
 -- names no part and no row: a part is below 64, and a row below 256
 abbrev pub no_number : ℕ
 no_number = 65536
 
 -- a number with one more decimal digit, given as its ASCII byte; a larger number than 65536 is kept as 65536
-unfoldable pub with_digit : ℕ → ℕ → ℕ
-with_digit n digit = cond (ltb no_number (10 * n + (digit - 48))) no_number (10 * n + (digit - 48))
+abbrev pub with_digit : ℕ → ℕ → ℕ
+with_digit n digit = min (10 * n + (digit - 48)) no_number
 
 -- the bytes that stand for 0 to 9
-unfoldable pub is_digit : ℕ → Bool
+abbrev pub is_digit : ℕ → Bool
 is_digit byte = leb 48 byte && leb byte 57
 
 -- the number n with digits behind it; none where a byte is no digit

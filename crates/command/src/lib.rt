@@ -1,7 +1,7 @@
 // What the programs share: a file and an argument read, and the line of a refusal.
 #![tactic(auto)]
 
-ghost use Rattle.std.specs.Prelude.{◌≡◌, ℕ, ◌≤◌, List, length, take};
+ghost use Rattle.std.specs.Prelude.{◌≡◌, ℕ, ◌≤◌, List, length, take, MatchOption};
 ghost use Rattle.command.specs.Argument.{with_digit, argument_of};
 
 use std::env::Env;
@@ -14,7 +14,8 @@ pub const RULE_ROOM: usize = 837;
 
 pub const PLAN_ROOM: usize = 16681;
 
-// The start of a file, as much as the buffer holds. A file that cannot be opened counts as empty.
+// The start of a file, as much as the buffer holds. A file that cannot be opened counts as empty. The buffer is lent, with a length beside
+// it: nothing here asks for a heap.
 pub fn load(rt: &impl Files, path: &[u8], buffer: &mut [u8]) -> usize
     ensures in_bounds { result ≤ length buffer.new }
     ensures front { result ≡ length (take result buffer.new) }
@@ -34,6 +35,7 @@ fn read_full(file: &mut impl Read, buffer: &mut [u8]) -> usize
     ensures front { result ≡ length (take result buffer.new) }
 {
     let mut done = 0;
+    // No `for`: each step is as long as what was read.
     while done < buffer.len() {
         match file.read(&mut buffer[done..]) {
             Ok(0) | Err(_) => break,
@@ -43,50 +45,43 @@ fn read_full(file: &mut impl Read, buffer: &mut [u8]) -> usize
     done
 }
 
+// What names no part and no row: a part is below 64, and a row below 256. The number goes to a call of C's, which takes a number alone.
+const NO_NUMBER: u64 = 65536;
+
 // A number with one more decimal digit, given as its ASCII byte; 65536 where it would be larger.
 fn with_digit(n: u64, digit: u8) -> u64
     requires { (n ≤ 65536) × (48 ≤ digit) }
     ensures { (result ≡ with_digit n digit) × (result ≤ 65536) }
 {
-    let next = 10 * n + (fields::wide(digit) as u64 - 48);
-    if 65536 < next { 65536 } else { next }
+    let next = 10 * n + u64::from(digit - b'0');
+    next.min(NO_NUMBER)
 }
 
-// The number that decimal digits stand for; 65536, which names no part and no row, where it is larger, where there are no
-// digits, or where another byte is among them.
-fn number_of(text: &[u8]) -> u64
-    ensures { result ≡ argument_of text.now }
+// The number that decimal digits stand for, at most 65536; none where there are no digits, or where another byte is among them.
+fn number_of(text: &[u8]) -> Option<u64>
+    ensures { MatchOption result (argument_of text.now ≡ 65536) (λ n. argument_of text.now ≡ n) }
 {
-    if text.len() == 0 {
-        return 65536;
+    if text.is_empty() {
+        return None;
     }
-    let mut n = 0u64;
-    let mut i = 0;
-    while i < text.len() {
-        let digit = text[i];
-        if digit < 48 {
-            return 65536;
+    let mut n = 0;
+    for digit in text {
+        if !digit.is_ascii_digit() {
+            return None;
         }
-        if 57 < digit {
-            return 65536;
-        }
-        n = with_digit(n, digit);
-        i += 1;
+        n = with_digit(n, *digit);
     }
-    n
+    Some(n)
 }
 
-// The number that an argument of the program stands for, whatever text it is. A missing one, or one of more than 32 bytes, stands for
-// none.
+// The number that an argument of the program stands for, whatever text it is; 65536 where it stands for none. A missing argument, or one of
+// more than 32 bytes, is taken for an empty one.
 pub fn argument(rt: &impl Env, i: usize) -> u64
     ensures { (text : List ℕ) × (result ≡ argument_of text) }
 {
     let mut text = [0u8; 32];
-    let n = match rt.arg(i, &mut text) {
-        Ok(n) => n,
-        Err(_) => 0,
-    };
-    number_of(&text[..n])
+    let n = rt.arg(i, &mut text).unwrap_or(0);
+    number_of(&text[..n]).unwrap_or(NO_NUMBER)
 }
 
 // Prints `refused`, and the number, the part and the row of a refusal that was returned as one number.

@@ -1,4 +1,5 @@
 -- The meaning of the calls on a live state, carried through the packing. Assumes nothing.
+use Rattle.std.specs.Prelude.{Result, Ok, Err}
 use Prim.Native.Nat.{ℕ, ◌*◌, ◌-◌}
 use native.Mathlib.Omega.{arith}
 use mathlib.Core.Path.{◌≡◌, refl, sym, ap, ◌∙◌, subst}
@@ -8,8 +9,7 @@ use lib.Dec.{ltb, leb, eqb}
 use lib.ListN.{length, get_or}
 use Rattle.refusal.specs.declared.Refusal.{Refusal}
 use Rattle.refusal.specs.declared.Refusal.TheVariants.{PlanSizes, Unwatchable, Unfitting}
-use Rattle.refusal.specs.declared.Outcome.{Outcome}
-use Rattle.refusal.specs.declared.Outcome.TheVariants.{Clear, Refused}
+use Rattle.refusal.specs.Outcome.{Outcome}
 use Rattle.refusal.specs.Report.{report_of}
 use Rattle.refusal.specs.First.{◌or_else◌, unless}
 use Rattle.refusal.proofs.RefusesOnly.{Small, Within, RefusesOnly, refused_only, or_else_only, unless_only, only_by}
@@ -18,21 +18,15 @@ use Rattle.rule.proofs.SheetNames.{sheet_within}
 use Rattle.plan.specs.Layout.{tops_fit}
 use Rattle.live.specs.declared.Live.{Live}
 use Rattle.live.specs.declared.Answer.{Answer}
-use Rattle.live.specs.declared.Answer.TheVariants as A
 use Rattle.live.specs.State.{is_held, watch_at, start_outcome, row_outcome, watchable, add_outcome, drop_outcome, watch_answer, answer_of, unless_refused, empty_live}
 use Rattle.live.specs.Calls.{Call, add, remove, row, outcome_of}
 use Rattle.live.specs.Promise.{StartPromise, CallPromise, AnswerPromise}
 use Rattle.endless_run.specs.Packing.{refusal_word, unpacked, outcome_word, answer_word}
 use Rattle.endless_run.specs.LivePromise.{StartWordPromise, CallWordPromise, AnswerWordPromise}
-use Rattle.endless_run.specs.inner.Small.{SmallOutcome}
+use Rattle.endless_run.specs.inner.Small.{SmallRefusal}
 use Rattle.endless_run.proofs.Words.{refusal_large, unpacks}
 
 -- ---- what a refusal names
-
-small_of : (o : Outcome) → RefusesOnly Small o → SmallOutcome o
-unfolding RefusesOnly SmallOutcome
-small_of Clear h = tt
-small_of (Refused r) h = h
 
 sheet_small : (sheet : List ℕ) → RefusesOnly Small (sheet_outcome sheet)
 sheet_small sheet = only_by Small (sheet_outcome sheet) (λ r e. let w = refused_only (Within 1 3) (sheet_outcome sheet) (sheet_within sheet) r e in (w.2, w.3))
@@ -52,25 +46,25 @@ call_small (add p sheet) s =
 call_small (remove p) s = unless_only Small (ltb p 4 && not (not (is_held (watch_at s p)))) Unfitting (omega arith)
 call_small (row bytes) s = unless_only Small (leb s.channels 8 && eqb (length bytes) (4 * s.channels)) Unfitting (omega arith)
 
-pub start_packs : (v : ℕ) (tops : List ℕ) {o : Outcome} → o ≡ start_outcome v tops → SmallOutcome o
-start_packs v tops e = subst SmallOutcome (sym e) (small_of (start_outcome v tops) (start_small v tops))
+pub start_packs : (v : ℕ) (tops : List ℕ) {o : Outcome} → o ≡ start_outcome v tops → SmallRefusal o
+start_packs v tops e r f = refused_only Small (start_outcome v tops) (start_small v tops) r (sym e ∙ f)
 
-pub call_packs : (call : Call) (s : Live) {o : Outcome} → o ≡ outcome_of call s → SmallOutcome o
-call_packs call s e = subst SmallOutcome (sym e) (small_of (outcome_of call s) (call_small call s))
+pub call_packs : (call : Call) (s : Live) {o : Outcome} → o ≡ outcome_of call s → SmallRefusal o
+call_packs call s e r f = refused_only Small (outcome_of call s) (call_small call s) r (sym e ∙ f)
 
 -- ---- the words
 
 -- 0 is no refusal's word.
-zero_clear : (o : Outcome) (r : Refusal) → o ≡ Refused r → outcome_word o ≡ 0 → ⊥
+zero_clear : (o : Outcome) (r : Refusal) → o ≡ Err r → outcome_word o ≡ 0 → ⊥
 unfolding outcome_word
 zero_clear o r e z = let k : refusal_word r ≡ 0 = sym (ap outcome_word e) ∙ z in absurd (omega (arith, refusal_large r))
 
 stays : (o : Outcome) (new old : Live) → (outcome_word o ≡ 0 → ⊥) → unless_refused o new old ≡ old
 unfolding outcome_word unless_refused
-stays Clear new old n = absurd (n refl)
-stays (Refused r) new old n = refl
+stays (Ok _) new old n = absurd (n refl)
+stays (Err r) new old n = refl
 
-told_apart : (o : Outcome) → RefusesOnly Small o → {word : ℕ} → word ≡ outcome_word o → (r : Refusal) → o ≡ Refused r → unpacked word ≡ report_of r
+told_apart : (o : Outcome) → RefusesOnly Small o → {word : ℕ} → word ≡ outcome_word o → (r : Refusal) → o ≡ Err r → unpacked word ≡ report_of r
 unfolding outcome_word
 told_apart o small e r f = ap unpacked (e ∙ ap outcome_word f) ∙ unpacks r (refused_only Small o small r f)
 
@@ -87,10 +81,10 @@ module _ (before : Live) (v : ℕ) (tops : List ℕ) where
         reports = told_apart (start_outcome v tops) (start_small v tops) w;
       }
 
-by_outcome : (o : Outcome) {P : Type 0} → ((r : Refusal) → o ≡ Refused r → P) → (outcome_word o ≡ 0 → ⊥) → P
+by_outcome : (o : Outcome) {P : Type 0} → ((r : Refusal) → o ≡ Err r → P) → (outcome_word o ≡ 0 → ⊥) → P
 unfolding outcome_word
-by_outcome Clear f n = absurd (n refl)
-by_outcome (Refused r) f n = f r refl
+by_outcome (Ok _) f n = absurd (n refl)
+by_outcome (Err r) f n = f r refl
 
 pub call_word : (call : Call) (before : Live) {after : Live} {o : Outcome} {word : ℕ} → word ≡ outcome_word o → CallPromise call before after o → CallWordPromise call before after word
 call_word call before {after} {o} {word} e p =
@@ -105,36 +99,20 @@ call_word call before {after} {o} {word} e p =
 
 -- ---- answers
 
-abbrev SmallAnswer : Answer → Type 0
-SmallAnswer (A.Truth b) = Unit {0}
-SmallAnswer A.NotYet = Unit {0}
-SmallAnswer A.Empty = Unit {0}
-SmallAnswer (A.Refused r) = Small r
+told_small : (low : Bool) (told : Answer) → SmallRefusal (cond low (Ok told) (Err Unfitting))
+told_small true told r e = absurd (let y : ◌≡◌ {A = ℕ} 0 1 = cc in omega arith)
+told_small false told r e = let q : Unfitting ≡ r = cc in subst Small q (omega arith)
 
-small_watch : (held new holds : Bool) → SmallAnswer (cond held (cond new A.NotYet (A.Truth holds)) A.Empty)
-small_watch true true holds = tt
-small_watch true false holds = tt
-small_watch false new holds = tt
+pub answer_packs : (s : Live) (p : ℕ) {a : Result Answer Refusal} → a ≡ answer_of s p → SmallRefusal a
+unfolding answer_of
+answer_packs s p e r f = told_small (ltb p 4) (watch_answer (watch_at s p)) r (sym e ∙ f)
 
-small_place : (low : Bool) (a : Answer) → SmallAnswer a → SmallAnswer (cond low a (A.Refused Unfitting))
-small_place true a h = h
-small_place false a h = omega arith
-
-answer_small : (s : Live) (p : ℕ) → SmallAnswer (answer_of s p)
-unfolding answer_of watch_answer
-answer_small s p =
-    small_place (ltb p 4) (watch_answer (watch_at s p))
-    (small_watch (is_held (watch_at s p)) (eqb (watch_at s p).age 0) (eqb (get_or (watch_at s p).truths ((watch_at s p).parts - 1) 0) 1))
-
-pub answer_packs : (s : Live) (p : ℕ) {a : Answer} {r : Refusal} → a ≡ answer_of s p → a ≡ A.Refused r → Small r
-answer_packs s p e f = subst SmallAnswer (sym e ∙ f) (answer_small s p)
-
-pub answer_word_lem : (s : Live) (p : ℕ) {a : Answer} {word : ℕ} → word ≡ answer_word a → AnswerPromise s p a → AnswerWordPromise s p word
+pub answer_word_lem : (s : Live) (p : ℕ) {a : Result Answer Refusal} {word : ℕ} → word ≡ answer_word a → AnswerPromise s p a → AnswerWordPromise s p word
 unfolding answer_word
 answer_word_lem s p {a} {word} e q = record {
   is_answer = e ∙ ap answer_word q.is_answer;
   meaning = λ v tops calls b c d f h. (a, e, q.meaning v tops calls b c d f h);
   reports = λ r f.
-      let g : a ≡ A.Refused r = q.is_answer ∙ f in
-      ap unpacked (e ∙ ap answer_word g) ∙ unpacks r (answer_packs s p q.is_answer g);
+      let g : a ≡ Err r = q.is_answer ∙ f in
+      ap unpacked (e ∙ ap answer_word g) ∙ unpacks r (answer_packs s p q.is_answer r g);
 }

@@ -1,4 +1,5 @@
 -- The meaning of an answer, carried through the packing. Assumes nothing.
+use Rattle.std.specs.Prelude.{Result, Ok, Err}
 use Prim.Native.Nat.{ℕ, ◌≤◌, ◌<◌}
 use native.Mathlib.Omega.{arith}
 use mathlib.Core.Path.{◌≡◌, refl, sym, ap, ◌∙◌, subst, subst⁻¹}
@@ -6,6 +7,7 @@ use mathlib.Core.List.{List}
 use mathlib.Core.Bool.{Bool, true, false}
 use mathlib.Core.Logic.{◌↔◌, ◌⊎◌, inl, inr, ⊎_elim}
 use lib.Dec.{T}
+use Rattle.std.specs.Int.{from_bool}
 use Rattle.refusal.specs.declared.Refusal.{Refusal}
 use Rattle.refusal.specs.declared.Refusal.TheVariants.{RuleSizes, Kind, Operand, PlanSizes, Channels, StartDrift, MarkSizes, MarkByte, Equation, Closing, Witness, Absent, BufferLength, NoTable, NoLayout, Unwatchable, Unfitting}
 use Rattle.refusal.specs.declared.Report.{Report}
@@ -13,17 +15,11 @@ use Rattle.refusal.specs.Report.{report, report_of}
 use Rattle.refusal.proofs.RefusesOnly.{Small}
 use Rattle.refusal.proofs.Reported.{one_report}
 use Rattle.verdict.specs.declared.Verdict.{Verdict}
-use Rattle.judge.specs.declared.Judged.{Judged}
-use Rattle.judge.specs.declared.Judged.TheVariants as J
 use Rattle.judge.specs.Judge.{JudgePromise}
 use Rattle.judge.proofs.Promised.{judge_names}
-use Rattle.acceptance.specs.declared.Checked.{Checked}
-use Rattle.acceptance.specs.declared.Checked.TheVariants as C
 use Rattle.acceptance.specs.Check.{check_of}
 use Rattle.acceptance.specs.Promise.{CheckPromise}
 use Rattle.acceptance.proofs.CheckNames.{check_names}
-use Rattle.maker.specs.declared.Made.{Made}
-use Rattle.maker.specs.declared.Made.TheVariants as M
 use Rattle.maker.specs.Promise.{MakePromise}
 use Rattle.maker.proofs.Promised.{make_names}
 use Rattle.endless_run.specs.Packing.{refusal_word, unpacked, verdict_bit, check_word, make_word, verdict_word, judge_word}
@@ -137,59 +133,56 @@ module _ {A : Type 0} (word : A → ℕ) (verdict : Bool → A) (refused : Refus
         verdict_named true e = no_number q e
         verdict_named false e = no_number q e
 
-check_packed : Packed check_word C.Accepted C.Refused
+-- the number that std makes of a bool
+pub bit_from : (b : Bool) → from_bool b ≡ verdict_bit b
+bit_from true = refl
+bit_from false = refl
+
+pub check_packed : Packed check_word Ok Err
 unfolding check_word
 check_packed = record { cases = either; verdict_word_lem = λ v. refl; refused_word = λ r. refl }
   where
-    either : (a : Checked) → ((v : Bool) × (a ≡ C.Accepted v)) ⊎ ((r : Refusal) × (a ≡ C.Refused r))
-    either (C.Accepted v) = inl (v, refl)
-    either (C.Refused r) = inr (r, refl)
-
-pub make_packed : Packed make_word M.Table M.Refused
-unfolding make_word
-make_packed = record { cases = either; verdict_word_lem = λ v. refl; refused_word = λ r. refl }
-  where
-    either : (a : Made) → ((v : Bool) × (a ≡ M.Table v)) ⊎ ((r : Refusal) × (a ≡ M.Refused r))
-    either (M.Table v) = inl (v, refl)
-    either (M.Refused r) = inr (r, refl)
+    either : (a : Result Bool Refusal) → ((v : Bool) × (a ≡ Ok v)) ⊎ ((r : Refusal) × (a ≡ Err r))
+    either (Ok v) = inl (v, refl)
+    either (Err r) = inr (r, refl)
 
 module _ (rule plan table : List ℕ) where
-  pub check_word_lem : {a : Checked} {word : ℕ} → word ≡ check_word a → CheckPromise rule plan table a → CheckWordPromise rule plan table word
+  pub check_word_lem : {a : Result Bool Refusal} {word : ℕ} → word ≡ check_word a → CheckPromise rule plan table a → CheckWordPromise rule plan table word
   check_word_lem {a} {word} e p = record {
     is_check = e ∙ ap check_word p.is_check;
     accepts = λ c. (
       λ h. (p.accepts c).0 (verdict_of_lem h),
-      λ r. let q = (p.accepts c).1 r in subst (λ (n : ℕ). n < 2) (sym e) (answer_small check_word C.Accepted C.Refused check_packed a q.0 q.1),
+      λ r. let q = (p.accepts c).1 r in subst (λ (n : ℕ). n < 2) (sym e) (answer_small check_word Ok Err check_packed a q.0 q.1),
     );
-    holds = λ h. let q = verdict_of_lem h in answer_one check_word C.Accepted C.Refused check_packed a e q.0 q.1 (p.verdict q.0 q.1);
+    holds = λ h. let q = verdict_of_lem h in answer_one check_word Ok Err check_packed a e q.0 q.1 (p.verdict q.0 q.1);
     reports = λ r q.
-        let c : a ≡ C.Refused r = p.is_check ∙ q in
-        ap unpacked e ∙ reported check_word C.Accepted C.Refused check_packed a r c (small r c);
+        let c : a ≡ Err r = p.is_check ∙ q in
+        ap unpacked e ∙ reported check_word Ok Err check_packed a r c (small r c);
     equation = λ i row h. p.equation i row (names (Equation i row) h);
     closing = λ i row h. p.closing i row (names (Closing i row) h);
     witness = λ i h. p.witness i (names (Witness i) h);
   }
     where
-      small : (r : Refusal) → a ≡ C.Refused r → Small r
+      small : (r : Refusal) → a ≡ Err r → Small r
       small = check_names rule plan table p.is_check
 
-      verdict_of_lem : word < 2 → (v : Bool) × (a ≡ C.Accepted v)
-      verdict_of_lem h = small_answer check_word C.Accepted C.Refused check_packed a (subst (λ (n : ℕ). n < 2) e h)
+      verdict_of_lem : word < 2 → (v : Bool) × (a ≡ Ok v)
+      verdict_of_lem h = small_answer check_word Ok Err check_packed a (subst (λ (n : ℕ). n < 2) e h)
 
-      names : (q : Refusal) → unpacked word ≡ report_of q → a ≡ C.Refused q
-      names q h = named check_word C.Accepted C.Refused check_packed a small q (sym (ap unpacked e) ∙ h)
+      names : (q : Refusal) → unpacked word ≡ report_of q → a ≡ Err q
+      names q h = named check_word Ok Err check_packed a small q (sym (ap unpacked e) ∙ h)
 
 module _ (rule plan before after : List ℕ) where
-  pub make_word_lem : {a : Made} {word : ℕ} → word ≡ make_word a → MakePromise rule plan before after a → MakeWordPromise rule plan before after word
+  pub make_word_lem : {a : Result Bool Refusal} {word : ℕ} → word ≡ make_word a → MakePromise rule plan before after a → MakeWordPromise rule plan before after word
   make_word_lem {a} {word} e p = record {
     is_make = e ∙ ap make_word p.is_make;
     bytes = p.bytes;
     accepted = λ h.
         let q = verdict_of_lem h in
-        word_of check_word C.Accepted C.Refused check_packed (check_of rule plan after) q.0 (p.accepted q.0 q.1)
-        ∙ sym (e ∙ word_of make_word M.Table M.Refused make_packed a q.0 q.1);
+        word_of check_word Ok Err check_packed (check_of rule plan after) q.0 (p.accepted q.0 q.1)
+        ∙ sym (e ∙ word_of make_word Ok Err check_packed a q.0 q.1);
     right = λ h. let q = verdict_of_lem h in p.right q.0 q.1;
-    holds = λ h. let q = verdict_of_lem h in answer_one make_word M.Table M.Refused make_packed a e q.0 q.1 (p.verdict q.0 q.1);
+    holds = λ h. let q = verdict_of_lem h in answer_one make_word Ok Err check_packed a e q.0 q.1 (p.verdict q.0 q.1);
     lowest = λ h. let q = verdict_of_lem h in p.lowest q.0 q.1;
     refuses = λ c. (
       λ h. (p.refuses c).0 (h.0, h.1, names (NoTable h.0 h.1) h.2),
@@ -199,37 +192,37 @@ module _ (rule plan before after : List ℕ) where
     opened = λ i row h. p.opened i row (names (NoTable i row) h);
   }
     where
-      small : (r : Refusal) → a ≡ M.Refused r → Small r
+      small : (r : Refusal) → a ≡ Err r → Small r
       small = make_names rule plan before p.is_make
 
-      verdict_of_lem : word < 2 → (v : Bool) × (a ≡ M.Table v)
-      verdict_of_lem h = small_answer make_word M.Table M.Refused make_packed a (subst (λ (n : ℕ). n < 2) e h)
+      verdict_of_lem : word < 2 → (v : Bool) × (a ≡ Ok v)
+      verdict_of_lem h = small_answer make_word Ok Err check_packed a (subst (λ (n : ℕ). n < 2) e h)
 
-      names : (q : Refusal) → unpacked word ≡ report_of q → a ≡ M.Refused q
-      names q h = named make_word M.Table M.Refused make_packed a small q (sym (ap unpacked e) ∙ h)
+      names : (q : Refusal) → unpacked word ≡ report_of q → a ≡ Err q
+      names q h = named make_word Ok Err check_packed a small q (sym (ap unpacked e) ∙ h)
 
-      tells : (r : Refusal) → a ≡ M.Refused r → unpacked word ≡ report_of r
-      tells r c = ap unpacked e ∙ reported make_word M.Table M.Refused make_packed a r c (small r c)
+      tells : (r : Refusal) → a ≡ Err r → unpacked word ≡ report_of r
+      tells r c = ap unpacked e ∙ reported make_word Ok Err check_packed a r c (small r c)
 
 module _ (rule plan : List ℕ) (part row : ℕ) where
-  small_judge : (a : Judged) → judge_word a < 3 → (v : Verdict) × (a ≡ J.Verdict v)
+  small_judge : (a : Result Verdict Refusal) → judge_word a < 3 → (v : Verdict) × (a ≡ Ok v)
   unfolding judge_word
-  small_judge (J.Verdict v) h = (v, refl)
-  small_judge (J.Refused r) h = absurd (omega (arith, refusal_large r))
+  small_judge (Ok v) h = (v, refl)
+  small_judge (Err r) h = absurd (omega (arith, refusal_large r))
 
-  judged_word : (a : Judged) (v : Verdict) → a ≡ J.Verdict v → judge_word a ≡ verdict_word v
+  judged_word : (a : Result Verdict Refusal) (v : Verdict) → a ≡ Ok v → judge_word a ≡ verdict_word v
   unfolding judge_word
   judged_word a v e = ap judge_word e
 
-  refused_judge : (a : Judged) (r : Refusal) → a ≡ J.Refused r → judge_word a ≡ refusal_word r
+  refused_judge : (a : Result Verdict Refusal) (r : Refusal) → a ≡ Err r → judge_word a ≡ refusal_word r
   unfolding judge_word
   refused_judge a r e = ap judge_word e
 
-  pub judge_word_lem : {a : Judged} {word : ℕ} → word ≡ judge_word a → JudgePromise rule plan part row a → JudgeWordPromise rule plan part row word
+  pub judge_word_lem : {a : Result Verdict Refusal} {word : ℕ} → word ≡ judge_word a → JudgePromise rule plan part row a → JudgeWordPromise rule plan part row word
   judge_word_lem {a} {word} e p = record {
     is_judge = e ∙ ap judge_word p.is_judge;
     meaning = λ h. let q = small_judge a (subst (λ (n : ℕ). n < 3) e h) in (q.0, e ∙ judged_word a q.0 q.1, p.meaning q.0 q.1);
     reports = λ r q.
-        let c : a ≡ J.Refused r = p.is_judge ∙ q in
+        let c : a ≡ Err r = p.is_judge ∙ q in
         ap unpacked (e ∙ refused_judge a r c) ∙ unpacks r (judge_names rule plan part row p.is_judge r c);
   }

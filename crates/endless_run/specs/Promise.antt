@@ -1,5 +1,6 @@
 -- What the exported functions promise of the numbers that they return, on all inputs. Assumes nothing.
-use Rattle.std.specs.Prelude.{ℕ, ◌+◌, ◌*◌, ◌-◌, ◌≤◌, ◌<◌, ◌≡◌, true, List, ◌++◌, ◌↔◌, ℤ, length, drop}
+use Rattle.std.specs.Prelude.{Err, ℕ, ◌+◌, ◌*◌, ◌-◌, ◌≤◌, ◌<◌, ◌≡◌, true, List, ◌++◌, ◌↔◌, ℤ, length, drop}
+use Rattle.refusal.specs.Outcome.{unrefused}
 use Rattle.cltlb.specs.Truth.{Holds}
 use Rattle.cltlb.specs.Parts.{formula_of}
 use Rattle.rule.specs.Layout.{part_count, channel_count}
@@ -9,19 +10,14 @@ use Rattle.plan.specs.Refusals.{plan_outcome}
 use Rattle.plan.specs.Run.{reading_at, run_of}
 use Rattle.laid_out.specs.LaidOut.{rows_after, laid_out, can_be_laid}
 use Rattle.refusal.specs.declared.Refusal.{Refusal}
-use Rattle.refusal.specs.declared.Outcome.TheVariants.{Clear}
 use Rattle.refusal.specs.Report.{report, report_of}
 use Rattle.verdict.specs.declared.Verdict.{Verdict}
 use Rattle.verdict.specs.Meaning.{VerdictMeans}
-use Rattle.judge.specs.declared.Judged.TheVariants as J
 use Rattle.judge.specs.Judge.{judge_of}
-use Rattle.acceptance.specs.declared.Checked.TheVariants as C
 use Rattle.acceptance.specs.Check.{check_of}
 use Rattle.acceptance.specs.Promise.{Cleared, RuleTruth, TableRight, EquationMeans, ClosingMeans, WitnessMeans}
-use Rattle.maker.specs.declared.Made.TheVariants as M
 use Rattle.maker.specs.Make.{make_of, bytes_after}
 use Rattle.maker.specs.Promise.{Lent, NoneAccepted, LowestWitness, OpenMeans}
-use Rattle.settling.specs.declared.Laid.TheVariants as L
 use Rattle.settling.specs.Settle.{settle_of, laid_after, scratch_after}
 use Rattle.settling.specs.Promise.{SettledAfter, FewestSettle, NoDrift, most_passes}
 use Rattle.settling.specs.Promise as settling
@@ -35,7 +31,7 @@ pub record CheckWordPromise (rule plan table : List ℕ) (word : ℕ) : Type 0 w
   -- 1 where the whole rule holds at position 0, 0 where it does not
   pub holds : word < 2 → (word ≡ 1) ↔ RuleTruth rule plan (part_count rule - 1) 0
   -- a refusal, taken apart, is the document's number, part and row
-  pub reports : (r : Refusal) → check_of rule plan table ≡ C.Refused r → unpacked word ≡ report_of r
+  pub reports : (r : Refusal) → check_of rule plan table ≡ Err r → unpacked word ≡ report_of r
   -- what 9, 10 and 11 of part i say of the published truth
   pub equation : (i row : ℕ) → unpacked word ≡ report 9 i row → EquationMeans rule plan table i row
   pub closing : (i row : ℕ) → unpacked word ≡ report 10 i row → ClosingMeans rule plan table i row
@@ -55,7 +51,7 @@ pub record MakeWordPromise (rule plan before after : List ℕ) (word : ℕ) : Ty
   -- whatever clears refusals 1 to 6 and 13: 14 exactly where no mark table is accepted
   pub refuses : Lent rule plan before → ((i row : ℕ) × (unpacked word ≡ report 14 i row)) ↔ NoneAccepted rule plan
   -- a refusal, taken apart, is the document's number, part and row
-  pub reports : (r : Refusal) → make_of rule plan before ≡ M.Refused r → unpacked word ≡ report_of r
+  pub reports : (r : Refusal) → make_of rule plan before ≡ Err r → unpacked word ≡ report_of r
   -- what 14 of part i says of the published truth
   pub opened : (i row : ℕ) → unpacked word ≡ report 14 i row → OpenMeans rule plan i row
 
@@ -70,7 +66,7 @@ pub record SettleWordPromise (rule plan laid scratch laid' scratch' : List ℕ) 
   -- clears refusals 4 to 6 for the rule, has as many channels and cycle rows as the first, and so many passes of the cycle as start
   -- rows more, and has the same reading at every position and channel as the first, the exact value, also where it is pinned, the same
   -- lead-in rows with the same readings and the same tops, so that the same is seen at every position, before the start too;
-  pub clears : word < 256 → plan_outcome (channel_count rule) (laid_out plan word) ≡ Clear
+  pub clears : word < 256 → plan_outcome (channel_count rule) (laid_out plan word) ≡ unrefused
   pub laid_passes : word < 256
       → (channels (laid_out plan word) ≡ channels plan)
       × (cycle_rows (laid_out plan word) ≡ cycle_rows plan)
@@ -95,7 +91,7 @@ pub record SettleWordPromise (rule plan laid scratch laid' scratch' : List ℕ) 
   pub bound : NoDrift plan → word < 256 → word ≤ most_passes rule
   pub too_long : NoDrift plan → unpacked word ≡ report 15 0 0 → 256 < rows_after plan (most_passes rule)
   -- a refusal, taken apart, is the document's number, part and row
-  pub reports : (r : Refusal) → settle_of rule plan laid scratch ≡ L.Refused r → unpacked word ≡ report_of r
+  pub reports : (r : Refusal) → settle_of rule plan laid scratch ≡ Err r → unpacked word ≡ report_of r
 
 -- endless_run_judge: 0 always false, 1 always true, 2 changes
 pub record JudgeWordPromise (rule plan : List ℕ) (part row word : ℕ) : Type 0 where
@@ -106,4 +102,4 @@ pub record JudgeWordPromise (rule plan : List ℕ) (part row word : ℕ) : Type 
       → (v : Verdict) × (word ≡ verdict_word v)
       × VerdictMeans (start_rows plan) (cycle_rows plan) row (Holds (run_of plan) (formula_of (views_of rule) part)) v
   -- a refusal, taken apart, is the document's number, part and row
-  pub reports : (r : Refusal) → judge_of rule plan part row ≡ J.Refused r → unpacked word ≡ report_of r
+  pub reports : (r : Refusal) → judge_of rule plan part row ≡ Err r → unpacked word ≡ report_of r

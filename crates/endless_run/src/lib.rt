@@ -4,14 +4,11 @@
 
 ghost use Rattle.std.specs.Prelude.{◌≡◌, ◌<◌};
 ghost use Rattle.refusal.specs.Report.{report_of};
-ghost use Rattle.endless_run.specs.Packing.{refusal_word, unpacked, verdict_word};
+ghost use Rattle.endless_run.specs.Packing.{refusal_word, unpacked, check_word, verdict_word};
 ghost use Rattle.endless_run.specs.Promise.{CheckWordPromise, MakeWordPromise, SettleWordPromise, JudgeWordPromise};
+ghost use Rattle.endless_run.specs.inner.Small.{SmallRefusal};
 
-use acceptance::Checked;
-use judge::Judged;
-use maker::Made;
 use refusal::{Refusal, Report};
-use settling::Laid;
 use verdict::Verdict;
 
 pub mod live_calls;
@@ -49,30 +46,35 @@ fn verdict_word(verdict: Verdict) -> u64
     }
 }
 
+// A truth as 0 or 1, or the refusal as one number.
+fn truth_word(answer: Result<bool, Refusal>) -> u64
+    requires { SmallRefusal answer }
+    ensures { result ≡ check_word answer }
+{
+    match answer {
+        Ok(holds) => u64::from(holds),
+        Err(refusal) => refusal_word(refusal),
+    }
+}
+
 pub fn endless_run_check(rule: &[u8], plan: &[u8], marks: &[u8]) -> u64
     ensures { CheckWordPromise rule.now plan.now marks.now result }
 {
-    match acceptance::check(rule, plan, marks) {
-        Checked::Accepted(holds) => { if holds { 1 } else { 0 } }
-        Checked::Refused(refusal) => refusal_word(refusal),
-    }
+    truth_word(acceptance::check(rule, plan, marks))
 }
 
 pub fn endless_run_make(rule: &[u8], plan: &[u8], marks: &mut [u8]) -> u64
     ensures { MakeWordPromise rule.now plan.now marks.old marks.new result }
 {
-    match maker::make(rule, plan, marks) {
-        Made::Table(holds) => { if holds { 1 } else { 0 } }
-        Made::Refused(refusal) => refusal_word(refusal),
-    }
+    truth_word(maker::make(rule, plan, marks))
 }
 
 pub fn endless_run_settle(rule: &[u8], plan: &[u8], laid: &mut [u8], scratch: &mut [u8]) -> u64
     ensures { SettleWordPromise rule.now plan.now laid.old scratch.old laid.new scratch.new result }
 {
     match settling::settle(rule, plan, laid, scratch) {
-        Laid::Passes(n) => n as u64,
-        Laid::Refused(refusal) => refusal_word(refusal),
+        Ok(passes) => passes as u64,
+        Err(refusal) => refusal_word(refusal),
     }
 }
 
@@ -80,7 +82,7 @@ pub fn endless_run_judge(rule: &[u8], plan: &[u8], part: u64, row: u64) -> u64
     ensures { JudgeWordPromise rule.now plan.now part row result }
 {
     match judge::judge(rule, plan, part as usize, row as usize) {
-        Judged::Verdict(verdict) => verdict_word(verdict),
-        Judged::Refused(refusal) => refusal_word(refusal),
+        Ok(verdict) => verdict_word(verdict),
+        Err(refusal) => refusal_word(refusal),
     }
 }

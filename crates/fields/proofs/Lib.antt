@@ -1,6 +1,5 @@
 pub mod Widths
 pub mod Patterns
-pub mod Stores
 pub mod Differences
 pub mod Bias
 pub mod Pieces

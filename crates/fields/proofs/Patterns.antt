@@ -1,17 +1,15 @@
 -- Two's complement in every width: a number's pattern stands for it, and what a pattern stands for has that pattern.
 -- Assumes nothing.
-use Prim.Native.Nat.{ℕ, zero, suc, ◌+◌, ◌*◌, ◌-◌, ◌^◌, ◌≤◌, ◌<◌}
-use native.Mathlib.Nat.{zero-add}
+use Prim.Native.Nat.{ℕ, suc, ◌+◌, ◌*◌, ◌-◌, ◌^◌, ◌≤◌, ◌<◌}
 use native.Mathlib.Omega.{arith}
 use mathlib.Core.Path.{◌≡◌, refl, sym, ap, ◌∙◌, subst}
 use mathlib.Core.Bool.{Bool, true, false}
 use lib.Dec.{ltb}
-use lib.IntN.{ℤ, pos, negsuc, ◌-ℤ◌}
-use lib.Signed.{lt_z}
+use lib.IntN.{ℤ, pos, negsuc}
 use borrow.Author.Tests.{lt-ltb, le-ltb, le-leb, ltb-true, ltb-false, leb-true}
 use mir.Syntax.{w32}
-use mir.Val.{SFits, to_z}
-use mir.ValLaws.{to_z_pos}
+use mir.Val.{SFits, to_z, of_z}
+use mir.ValLaws.{to_z-of_z}
 use Rattle.fields.specs.TwosComplement.{signed_of, pattern_of, signed_fits}
 use Rattle.fields.specs.inner.Biased.{bias}
 use Rattle.fields.specs.inner.Ranges.{SignedFits}
@@ -76,33 +74,20 @@ unfolding SignedFits
 fits_w32 (pos n) f = let h : n < bias = f.sfits in omega arith
 fits_w32 (negsuc n) f = let h : n < bias = f.sfits in omega arith
 
--- -1 less a natural number is the number that negsuc names
-pub below_zero : (k : ℕ) → negsuc 0 -ℤ pos k ≡ negsuc k
-below_zero zero = refl
-below_zero (suc k) = ap (λ n. negsuc (suc n)) (zero-add k)
+-- and the other way round
+pub w32_fits : (z : ℤ) → SignedFits 4 z → SFits w32 z
+unfolding SignedFits
+w32_fits (pos n) h = record { sfits = omega arith }
+w32_fits (negsuc n) h = record { sfits = omega arith }
 
-pub below_zero_bits : (k : ℕ) → k < bias → negsuc 0 -ℤ to_z w32 k ≡ negsuc k
-below_zero_bits k h = ap (λ (z : ℤ). negsuc 0 -ℤ z) (to_z_pos w32 k h) ∙ below_zero k
+-- the bits of an `i32` are its pattern
+pub bits_pattern : (z : ℤ) → SFits w32 z → of_z w32 z ≡ pattern_of 4 z
+unfolding pattern_of
+bits_pattern (pos n) f = refl
+bits_pattern (negsuc n) f = refl
 
--- -1 less a negative number
-pub flip : (n : ℕ) → negsuc 0 -ℤ negsuc n ≡ pos n
-flip n = simp (le-ltb (suc n) 1 (omega arith)) (ap pos (omega arith))
-
--- an `i32` by its sign
-pub record Neg (z : ℤ) : Type 0 where
-  pub n : ℕ
-  pub is : z ≡ negsuc n
-  pub small : n < bias
-
-pub record NonNeg (z : ℤ) : Type 0 where
-  pub n : ℕ
-  pub is : z ≡ pos n
-  pub small : n < bias
-
-pub neg_of : (z : ℤ) → SFits w32 z → lt_z z (pos 0) ≡ true → Neg z
-neg_of (pos m) f h = absurd (let k : m < 0 = ltb-true m 0 h in omega arith)
-neg_of (negsuc m) f h = record { n = m; is = refl; small = f.sfits }
-
-pub non_neg_of : (z : ℤ) → SFits w32 z → lt_z z (pos 0) ≡ false → NonNeg z
-non_neg_of (pos m) f h = record { n = m; is = refl; small = f.sfits }
-non_neg_of (negsuc m) f h = absurd (let z : ◌≡◌ {A = ℕ} 0 1 = cc in omega arith)
+-- what the bits of a pattern stand for
+pub pattern_bits : (n : ℕ) → n < 256 ^ 4 → to_z w32 n ≡ signed_of 4 n
+pattern_bits n h =
+    let fits = signed_fits_lem 4 n h in
+    ap (to_z w32) (sym (pattern_signed 4 n h) ∙ sym (bits_pattern (signed_of 4 n) (w32_fits _ fits))) ∙ to_z-of_z w32 (signed_of 4 n) (w32_fits _ fits)

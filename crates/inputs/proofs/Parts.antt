@@ -1,5 +1,6 @@
 -- What is known of the parts and rows of a rule and a plan that clear refusals 1 to 6: how many, and how they are taken one after
 -- another. Assumes nothing.
+use Rattle.std.specs.Prelude.{Result, Ok, Err}
 use Prim.Native.Nat.{ℕ, ◌-◌, ◌≤◌, ◌<◌}
 use native.Mathlib.Omega.{arith}
 use mathlib.Core.Path.{◌≡◌, sym, ◌∙◌, subst}
@@ -12,8 +13,6 @@ use Rattle.cltlb.specs.declared.View.{View}
 use Rattle.refusal.specs.declared.Refusal.{Refusal}
 use Rattle.rule.specs.Layout.{channel_count}
 use Rattle.rule.specs.Take.{take_of, views_of}
-use Rattle.rule.specs.declared.Taken.{Taken}
-use Rattle.rule.specs.declared.Taken.TheVariants as K
 use Rattle.rule.proofs.OnSheet.{taken_view, taken_fits, untaken_absent}
 use Rattle.rule.proofs.Cleared.{cleared_counts, cleared_fits}
 use Rattle.plan.specs.declared.sizes.Sizes.{Sizes}
@@ -37,12 +36,12 @@ module _ (rule plan : List ℕ) {n : ℕ} {z : Sizes} (ready : Ready rule plan n
   pub all_fit : (i : ℕ) → i < n → view_fits (channel_count rule) i (views_of rule i) ≡ true
   all_fit i low = cleared_fits rule ready.sheet i (omega (arith, ready.parts))
 
-  module _ (i : ℕ) (low : i < n) {t : Taken} (e : t ≡ take_of rule i) where
+  module _ (i : ℕ) (low : i < n) {t : Result Part Refusal} (e : t ≡ take_of rule i) where
     -- A part below n is there to be taken,
-    pub always_taken : {q : Refusal} → t ≡ K.Refused q → ⊥
+    pub always_taken : {q : Refusal} → t ≡ Err q → ⊥
     always_taken f = let k = untaken_absent rule ready.sheet i e f in omega (arith, ready.parts)
 
-    module _ {part : Part} (f : t ≡ K.Part part) {p : View} (g : p ≡ view_of part) where
+    module _ {part : Part} (f : t ≡ Ok part) {p : View} (g : p ≡ view_of part) where
       -- it is the one that the definitions speak of,
       pub taken_same : views_of rule i ≡ p
       taken_same = taken_view rule ready.sheet i e f ∙ sym g

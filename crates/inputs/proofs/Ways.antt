@@ -1,10 +1,11 @@
 -- What is read of a rule and a plan, by the two answers that it is made of, and what is known after it. Assumes nothing.
+use Rattle.rule.specs.inner.Sizes.{sizes}
+use Rattle.std.specs.Prelude.{Ok, Err}
 use Prim.Native.Nat.{ℕ}
 use native.Mathlib.Omega.{arith}
-use mathlib.Core.Path.{◌≡◌, refl, sym, ap₂, ◌∙◌, subst}
+use mathlib.Core.Path.{◌≡◌, refl, sym, ap, ap₂, ◌∙◌, subst}
 use mathlib.Core.List.{List}
-use Rattle.refusal.specs.declared.Outcome.{Outcome}
-use Rattle.refusal.specs.declared.Outcome.TheVariants as outcome
+use Rattle.refusal.specs.Outcome.{Outcome, unrefused}
 use Rattle.refusal.specs.declared.Refusal.{Refusal}
 use Rattle.refusal.specs.First.{◌or_else◌}
 use Rattle.refusal.proofs.First.{or_else_clear}
@@ -12,66 +13,64 @@ use Rattle.refusal.proofs.RefusesOnly.{Within, RefusesOnly, or_else_only, within
 use Rattle.rule.specs.Layout.{part_count, channel_count}
 use Rattle.rule.specs.Sheet.{sheet_outcome}
 use Rattle.rule.specs.inner.Read.{sheet_read}
-use Rattle.rule.specs.declared.SheetRead.TheVariants as sheet
 use Rattle.rule.proofs.OnSheet as on_sheet
 use Rattle.rule.proofs.SheetNames.{sheet_within}
 use Rattle.plan.specs.Refusals.{plan_outcome}
 use Rattle.plan.specs.inner.Read.{plan_read}
-use Rattle.plan.specs.declared.check.PlanRead.TheVariants as looked
 use Rattle.plan.specs.declared.sizes.Sizes.{Sizes}
 use Rattle.plan.specs.inner.Sizes.{sizes_in, Fitting}
 use Rattle.plan.proofs.Fits.{sizes_are}
 use Rattle.plan.proofs.Outcomes.{read_clear, read_refused, cleared}
 use Rattle.plan.proofs.PlanNames.{plan_within}
 use Rattle.inputs.specs.Outcome.{inputs_outcome}
-use Rattle.inputs.specs.declared.InputsRead.TheVariants.{Fit, Refused}
 use Rattle.inputs.specs.inner.Read.{read_of, inputs_read, Ready}
 
 module _ (rule plan : List ℕ) where
   -- ---- one law for each way out
 
-  pub sheet_refused : {r : Refusal} → sheet_read rule ≡ sheet.Refused r → Refused r ≡ inputs_read rule plan
+  pub sheet_refused : {r : Refusal} → sheet_read rule ≡ Err r → Err r ≡ inputs_read rule plan
   unfolding inputs_read read_of inputs_outcome ◌or_else◌
   sheet_refused e = simp (on_sheet.sheet_refused rule e)
 
-  module _ {n v : ℕ} (e : sheet_read rule ≡ sheet.Counts n v) where
-    pub plan_refused : {r : Refusal} → plan_read v plan ≡ looked.Refused r → Refused r ≡ inputs_read rule plan
+  module _ {n v : ℕ} (e : sheet_read rule ≡ Ok (sizes n v)) where
+    pub plan_refused : {r : Refusal} → plan_read v plan ≡ Err r → Err r ≡ inputs_read rule plan
     unfolding inputs_read read_of inputs_outcome ◌or_else◌
     plan_refused {r} f =
         let s = on_sheet.sheet_counts rule e in
-        let q = subst (λ (u : ℕ). plan_outcome u plan ≡ outcome.Refused r) s.2 (read_refused v plan r f) in
+        let q = subst (λ (u : ℕ). plan_outcome u plan ≡ Err r) s.2 (read_refused v plan r f) in
         simp (s.0, q)
 
-    pub both_fit : {z : Sizes} → plan_read v plan ≡ looked.Fits z → Fit n z ≡ inputs_read rule plan
+    pub both_fit : {z : Sizes} → plan_read v plan ≡ Ok z → Ok (n, z) ≡ inputs_read rule plan
     unfolding inputs_read read_of inputs_outcome ◌or_else◌
     both_fit {z} f =
         let s = on_sheet.sheet_counts rule e in
         let p = read_clear v plan z f in
-        let q = subst (λ (u : ℕ). plan_outcome u plan ≡ outcome.Clear) s.2 p.0 in
-        ap₂ Fit s.1 (sym (sizes_are p.1)) ∙ simp (s.0, q)
+        let q = subst (λ (u : ℕ). plan_outcome u plan ≡ unrefused) s.2 p.0 in
+        ap₂ (λ n z. Ok (n, z)) s.1 (sym (sizes_are p.1)) ∙ simp (s.0, q)
 
   -- ---- what is known after it
 
-  by_refusal : (o : Outcome) {r : Refusal} → read_of rule plan o ≡ Refused r → o ≡ outcome.Refused r
+  by_refusal : (o : Outcome) {r : Refusal} → read_of rule plan o ≡ Err r → o ≡ Err r
   unfolding read_of
-  by_refusal outcome.Clear e = absurd (let z : ◌≡◌ {A = ℕ} 0 1 = cc in omega arith)
-  by_refusal (outcome.Refused q) e = cc
+  by_refusal (Ok _) e = absurd (let z : ◌≡◌ {A = ℕ} 0 1 = cc in omega arith)
+  by_refusal (Err q) e = cc
 
-  by_fit : (o : Outcome) {n : ℕ} {z : Sizes} → read_of rule plan o ≡ Fit n z → (o ≡ outcome.Clear) × (n ≡ part_count rule) × (sizes_in plan ≡ z)
+  by_fit : (o : Outcome) {n : ℕ} {z : Sizes} → read_of rule plan o ≡ Ok (n, z) → (o ≡ unrefused) × (n ≡ part_count rule) × (sizes_in plan ≡ z)
   unfolding read_of
-  by_fit outcome.Clear e = (refl, cc, cc)
-  by_fit (outcome.Refused q) e = absurd (let z : ◌≡◌ {A = ℕ} 0 1 = cc in omega arith)
+  by_fit (Ok _) {n} {z} e =
+      let q : ◌≡◌ {A = ℕ × Sizes} (part_count rule, sizes_in plan) (n, z) = cc in (refl, sym (ap (λ (p : ℕ × Sizes). p.0) q), ap (λ (p : ℕ × Sizes). p.1) q)
+  by_fit (Err q) e = absurd (let z : ◌≡◌ {A = ℕ} 0 1 = cc in omega arith)
 
-  pub refused : {r : Refusal} → inputs_read rule plan ≡ Refused r → inputs_outcome rule plan ≡ outcome.Refused r
+  pub refused : {r : Refusal} → inputs_read rule plan ≡ Err r → inputs_outcome rule plan ≡ Err r
   unfolding inputs_read
   refused e = by_refusal (inputs_outcome rule plan) e
 
   -- Where 1 to 6 refuse nothing, neither rule nor plan is refused.
-  pub clear_both : inputs_outcome rule plan ≡ outcome.Clear → (sheet_outcome rule ≡ outcome.Clear) × (plan_outcome (channel_count rule) plan ≡ outcome.Clear)
+  pub clear_both : inputs_outcome rule plan ≡ unrefused → (sheet_outcome rule ≡ unrefused) × (plan_outcome (channel_count rule) plan ≡ unrefused)
   unfolding inputs_outcome
   clear_both e = (or_else_clear (sheet_outcome rule) (plan_outcome (channel_count rule) plan)).0 e
 
-  pub ready : {n : ℕ} {z : Sizes} → inputs_read rule plan ≡ Fit n z → (inputs_outcome rule plan ≡ outcome.Clear) × Ready rule plan n z
+  pub ready : {n : ℕ} {z : Sizes} → inputs_read rule plan ≡ Ok (n, z) → (inputs_outcome rule plan ≡ unrefused) × Ready rule plan n z
   unfolding inputs_read
   ready {n} {z} e =
       let f = by_fit (inputs_outcome rule plan) e in
@@ -91,9 +90,13 @@ module _ (rule plan : List ℕ) where
       (λ _. within_wider 4 6 1 6 (omega arith) (omega arith) (plan_outcome (channel_count rule) plan) (plan_within (channel_count rule) plan))
 
   -- The other way round.
-  pub both_clear : sheet_outcome rule ≡ outcome.Clear → plan_outcome (channel_count rule) plan ≡ outcome.Clear → inputs_outcome rule plan ≡ outcome.Clear
+  pub both_clear : sheet_outcome rule ≡ unrefused → plan_outcome (channel_count rule) plan ≡ unrefused → inputs_outcome rule plan ≡ unrefused
   unfolding inputs_outcome
   both_clear s p = (or_else_clear (sheet_outcome rule) (plan_outcome (channel_count rule) plan)).1 (s, p)
 
-  pub both_ready : {n : ℕ} {z : Sizes} → Ready rule plan n z → inputs_outcome rule plan ≡ outcome.Clear
+  pub both_ready : {n : ℕ} {z : Sizes} → Ready rule plan n z → inputs_outcome rule plan ≡ unrefused
   both_ready r = both_clear r.sheet r.plan_clear
+
+  -- What was read of both is ready.
+  pub read_ready : {n v : ℕ} → sheet_read rule ≡ Ok (sizes n v) → {z : Sizes} → plan_read v plan ≡ Ok z → Ready rule plan n z
+  read_ready e f = (ready (sym (both_fit e f))).1

@@ -1,6 +1,6 @@
 -- Refusals 1 to 6 of a rule and a plan, in the order of checking: what every entry that takes both asks first. Assumes nothing.
 use Rattle.std.specs.Prelude.{ℕ, List}
-use Rattle.refusal.specs.declared.Outcome as refusal
+use Rattle.refusal.specs.Outcome as refusal
 use Rattle.refusal.specs.First.{◌or_else◌}
 use Rattle.rule.specs.Layout.{channel_count}
 use Rattle.rule.specs.Sheet.{sheet_outcome}

@@ -1,32 +1,33 @@
-// The way in of every entry that takes a rule and a plan: their sizes, or the first of refusals 1 to 6.
+// The way in of every entry that takes a rule and a plan: both of them read, or the first of refusals 1 to 6.
 #![tactic(auto)]
 
-ghost use Rattle.std.specs.Prelude.{◌≡◌};
-ghost use Rattle.inputs.specs.inner.Read.{inputs_read};
+ghost use Rattle.std.specs.Prelude.{◌≡◌, Ok, Err, MatchResult};
+ghost use Rattle.inputs.specs.inner.Read.{inputs_read, Ready};
 
-use plan::check::PlanRead;
-use plan::sizes::Sizes;
+use plan::Plan;
 use refusal::Refusal;
-use rule::SheetRead;
 
-// What is read of a rule and a plan: how many parts the rule has and the plan's sizes, or why they are refused.
+// A rule and a plan that clear refusals 1 to 6, and how many parts the rule has.
 #[derive(Clone, Copy)]
-pub enum InputsRead {
-    Fit { parts: usize, sizes: Sizes },
-    Refused(Refusal),
+pub struct Inputs<'a> {
+    pub rule: &'a [u8],
+    pub plan: Plan<'a>,
+    pub parts: usize,
+    pub ghost ready: { Ready rule.now plan.bytes.now parts plan.sizes },
 }
 
 // Refusals 1 to 3 of the rule, then 4 to 6 of the plan.
-pub fn read_inputs(rule: &[u8], plan: &[u8]) -> InputsRead
-    ensures { result ≡ inputs_read rule.now plan.now }
+pub fn read_inputs<'a>(rule: &'a [u8], plan: &'a [u8]) -> Result<Inputs<'a>, Refusal>
+    ensures { MatchResult result
+        (λ it. (it.rule.now ≡ rule.now) × (it.plan.bytes.now ≡ plan.now) × (inputs_read rule.now plan.now ≡ Ok (it.parts, it.plan.sizes)))
+        (λ r. inputs_read rule.now plan.now ≡ Err r) }
 {
-    match rule::check_sheet(rule) {
-        SheetRead::Refused(refusal) => InputsRead::Refused(refusal),
-        SheetRead::Counts { parts, channels } => {
-            match plan::check::check_plan(plan, channels) {
-                PlanRead::Refused(refusal) => InputsRead::Refused(refusal),
-                PlanRead::Fits(sizes) => InputsRead::Fit { parts, sizes },
-            }
-        }
-    }
+    let sheet = rule::check_sheet(rule)?;
+    let sizes = plan::check::check_plan(plan, sheet.channels)?;
+    let plan = Plan { bytes: plan, sizes };
+    Ok(Inputs {
+        rule,
+        plan,
+        parts: sheet.parts,
+    })
 }

@@ -1,5 +1,6 @@
 -- The definition of judge keeps its promise, whatever the bytes and numbers, and two bytes hold the part and the row that its
 -- refusals name. Assumes nothing.
+use Rattle.std.specs.Prelude.{Result, Ok, Err}
 use Prim.Native.Nat.{ℕ, ◌<◌}
 use native.Mathlib.Omega.{arith}
 use mathlib.Core.Path.{◌≡◌, refl, sym, ◌∙◌, subst}
@@ -16,8 +17,7 @@ use Rattle.cltlb.specs.declared.View.TheVariants as view
 use Rattle.cltlb.proofs.Fits.{atom_fits_lem}
 use Rattle.refusal.specs.declared.Refusal.{Refusal}
 use Rattle.refusal.specs.declared.Refusal.TheVariants.{Absent}
-use Rattle.refusal.specs.declared.Outcome.{Outcome}
-use Rattle.refusal.specs.declared.Outcome.TheVariants.{Clear, Refused}
+use Rattle.refusal.specs.Outcome.{Outcome, unrefused}
 use Rattle.refusal.specs.First.{unless}
 use Rattle.refusal.proofs.First.{or_else_clear, unless_clear}
 use Rattle.refusal.proofs.RefusesOnly.{Small, RefusesOnly, refused_only, or_else_only, unless_only, within_small}
@@ -32,8 +32,6 @@ use Rattle.inputs.proofs.Ways.{clear_both, inputs_within}
 use Rattle.verdict.specs.declared.Verdict.{Verdict}
 use Rattle.verdict.specs.Meaning.{VerdictMeans}
 use Rattle.verdict.proofs.Verdicts.{judged}
-use Rattle.judge.specs.declared.Judged.{Judged}
-use Rattle.judge.specs.declared.Judged.TheVariants as J
 use Rattle.judge.specs.Judge.{verdict_on, judge_outcome, judged_as, judge_of, JudgePromise}
 
 module _ (rule plan : List ℕ) (part row : ℕ) where
@@ -43,12 +41,12 @@ module _ (rule plan : List ℕ) (part row : ℕ) where
 
   -- what judge has not refused
   pub record Judgeable : Type 0 where
-    pub inputs : inputs_outcome rule plan ≡ Clear
+    pub inputs : inputs_outcome rule plan ≡ unrefused
     pub part_there : part < part_count rule
     pub row_there : row < rows plan
     pub atom : is_atom (views_of rule part) ≡ true
 
-  judge_cleared : judge_outcome rule plan part row ≡ Clear → Judgeable
+  judge_cleared : judge_outcome rule plan part row ≡ unrefused → Judgeable
   unfolding judge_outcome
   judge_cleared e =
       let a = (or_else_clear (inputs_outcome rule plan) (unless judgeable Absent)).0 e in
@@ -61,10 +59,10 @@ module _ (rule plan : List ℕ) (part row : ℕ) where
         atom = u.1;
       }
 
-  verdict_of_lem : (o : Outcome) (v : Verdict) → judged_as rule plan part row o ≡ J.Verdict v → (o ≡ Clear) × (verdict_on plan (views_of rule part) row ≡ v)
+  verdict_of_lem : (o : Outcome) (v : Verdict) → judged_as rule plan part row o ≡ Ok v → (o ≡ unrefused) × (verdict_on plan (views_of rule part) row ≡ v)
   unfolding judged_as
-  verdict_of_lem Clear v e = (refl, cc)
-  verdict_of_lem (Refused r) v e = absurd (let z : ◌≡◌ {A = ℕ} 0 1 = cc in omega arith)
+  verdict_of_lem (Ok _) v e = (refl, cc)
+  verdict_of_lem (Err r) v e = absurd (let z : ◌≡◌ {A = ℕ} 0 1 = cc in omega arith)
 
   -- the verdict on a part that is an atom
   atom_means : (j : Judgeable) (p : View) → is_atom p ≡ true → view_fits (channel_count rule) part p ≡ true
@@ -81,7 +79,7 @@ module _ (rule plan : List ℕ) (part row : ℕ) where
       atom_means j (views_of rule part) j.atom (cleared_fits rule (clear_both rule plan j.inputs).0 part j.part_there)
 
   -- JUDGE KEEPS ITS PROMISE.
-  pub judge_promise : {answer : Judged} → answer ≡ judge_of rule plan part row → JudgePromise rule plan part row answer
+  pub judge_promise : {answer : Result Verdict Refusal} → answer ≡ judge_of rule plan part row → JudgePromise rule plan part row answer
   unfolding judge_of
   judge_promise {answer} e = record {
     is_judge = e;
@@ -96,12 +94,12 @@ module _ (rule plan : List ℕ) (part row : ℕ) where
       or_else_only Small (inputs_outcome rule plan) (unless judgeable Absent) (within_small 1 6 (inputs_outcome rule plan) (inputs_within rule plan))
       (λ _. unless_only Small judgeable Absent (omega arith))
 
-  refused_as : (o : Outcome) (r : Refusal) → judged_as rule plan part row o ≡ J.Refused r → o ≡ Refused r
+  refused_as : (o : Outcome) (r : Refusal) → judged_as rule plan part row o ≡ Err r → o ≡ Err r
   unfolding judged_as
-  refused_as Clear r e = absurd (let z : ◌≡◌ {A = ℕ} 0 1 = cc in omega arith)
-  refused_as (Refused q) r e = cc
+  refused_as (Ok _) r e = absurd (let z : ◌≡◌ {A = ℕ} 0 1 = cc in omega arith)
+  refused_as (Err q) r e = cc
 
   -- Two bytes hold the part and the row that a refusal names.
-  pub judge_names : {answer : Judged} → answer ≡ judge_of rule plan part row → (r : Refusal) → answer ≡ J.Refused r → Small r
+  pub judge_names : {answer : Result Verdict Refusal} → answer ≡ judge_of rule plan part row → (r : Refusal) → answer ≡ Err r → Small r
   unfolding judge_of
   judge_names e r f = refused_only Small (judge_outcome rule plan part row) judge_small r (refused_as (judge_outcome rule plan part row) r (sym e ∙ f))

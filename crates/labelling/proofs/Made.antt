@@ -1,5 +1,7 @@
 -- The marks made, part after part: each is made of the marks made, and where every part closes they are accepted with the lowest
 -- witnesses; where one does not close, no marks are accepted. Assumes nothing.
+use Rattle.std.specs.Prelude.{Err}
+use Rattle.refusal.specs.Outcome.{unrefused}
 use mathlib.Core.Path.{◌≡◌, refl, sym, ◌∙◌, subst, subst⁻¹}
 use mathlib.Core.Bool.{Bool, true}
 use mathlib.Core.List.{List}
@@ -12,7 +14,6 @@ use lib.Dec.{T}
 use Rattle.cltlb.specs.Fits.{view_fits}
 use Rattle.cltlb.specs.declared.View.{View}
 use Rattle.refusal.specs.First.{◌or_else◌}
-use Rattle.refusal.specs.declared.Outcome.TheVariants.{Clear, Refused}
 use Rattle.refusal.specs.declared.Refusal.{Refusal}
 use Rattle.refusal.specs.declared.Refusal.TheVariants.{Closing, Witness}
 use Rattle.refusal.proofs.First.{or_else_clear, unless_clear_t, in_turn_clear}
@@ -54,14 +55,14 @@ module _ (plan : List ℕ) (h_c : 1 ≤ cycle_rows plan) (parts : ℕ → View) 
 
   -- closing of part i, by the marks made
   abbrev pub Closed : ℕ → Type 0
-  Closed i = closing_outcome plan (made_mark parts plan) (parts i) i ≡ Clear
+  Closed i = closing_outcome plan (made_mark parts plan) (parts i) i ≡ unrefused
 
   -- ---- marks that are made as the definition says, of all parts
 
   module _ (mark : ℕ → ℕ → Bool) (labelled : (i : ℕ) → i < n → Labelled plan mark (parts i) i) where
     -- A part that closes passes refusals 9, 10 and 11, with the lowest witness.
-    pub closed_passes : (i : ℕ) → i < n → closing_outcome plan mark (parts i) i ≡ Clear → {w : ℕ} → w ≡ lowest_witness plan mark (parts i) i
-        → part_outcome plan mark (parts i) i w ≡ Clear
+    pub closed_passes : (i : ℕ) → i < n → closing_outcome plan mark (parts i) i ≡ unrefused → {w : ℕ} → w ≡ lowest_witness plan mark (parts i) i
+        → part_outcome plan mark (parts i) i w ≡ unrefused
     unfolding part_outcome witness_outcome
     closed_passes i l closed {w} e =
         (or_else_clear (closing_outcome plan mark p i) (equation_outcome plan mark p i or_else witness_outcome plan mark p i w)).1 (
@@ -77,7 +78,7 @@ module _ (plan : List ℕ) (h_c : 1 ≤ cycle_rows plan) (parts : ℕ → View) 
         p = parts i
 
     -- All parts.
-    pub closed_accepted : ((i : ℕ) → i < n → closing_outcome plan mark (parts i) i ≡ Clear) → (witness : ℕ → ℕ)
+    pub closed_accepted : ((i : ℕ) → i < n → closing_outcome plan mark (parts i) i ≡ unrefused) → (witness : ℕ → ℕ)
         → ((i : ℕ) → i < n → witness i ≡ lowest_witness plan mark (parts i) i) → Accepted plan parts n mark witness
     closed_accepted closed witness low =
         (in_turn_clear (λ i. part_outcome plan mark (parts i) i (witness i)) n).1 (λ i l. closed_passes i l (closed i l) (low i l))
@@ -117,7 +118,7 @@ module _ (plan : List ℕ) (h_c : 1 ≤ cycle_rows plan) (parts : ℕ → View) 
       (λ a l. closed_passes (made_mark parts plan) made_labelled a (omega arith) (closed a l) (own_witness a))
 
   -- What 10 of part i says then, by the marks made.
-  pub open_says : (i : ℕ) → i < n → ((a : ℕ) → a < i → Closed a) → (r : Refusal) → closing_outcome plan (made_mark parts plan) (parts i) i ≡ Refused r
+  pub open_says : (i : ℕ) → i < n → ((a : ℕ) → a < i → Closed a) → (r : Refusal) → closing_outcome plan (made_mark parts plan) (parts i) i ≡ Err r
       → (row : ℕ) × (Closing i row ≡ r) × ClosingMeans parts n plan (made_mark parts plan) (made_witness parts plan) i row
   open_says i l closed r e =
       closing_says plan h_c parts v n fits (made_mark parts plan) (made_witness parts plan) i l (lower_true i (omega arith) closed) r e
@@ -141,10 +142,10 @@ module _ (plan : List ℕ) (h_c : 1 ≤ cycle_rows plan) (parts : ℕ → View) 
   open_refuted i l closed opened mark witness h =
       opened (closing_same plan h_c (made_mark parts plan) mark i lower v (parts i) (fits i l) ∙ passed)
     where
-      turns : (a : ℕ) → a < n → part_outcome plan mark (parts a) a (witness a) ≡ Clear
+      turns : (a : ℕ) → a < n → part_outcome plan mark (parts a) a (witness a) ≡ unrefused
       turns = (in_turn_clear (λ a. part_outcome plan mark (parts a) a (witness a)) n).0 h
 
-      passed : closing_outcome plan mark (parts i) i ≡ Clear
+      passed : closing_outcome plan mark (parts i) i ≡ unrefused
       passed =
           ((or_else_clear (closing_outcome plan mark (parts i) i) (equation_outcome plan mark (parts i) i or_else witness_outcome plan mark (parts i) i (witness i))).0 (turns i l)).0
 

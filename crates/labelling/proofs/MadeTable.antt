@@ -1,5 +1,6 @@
 -- The table made, by its bytes: it clears refusals 7 and 8, where every part closes it passes 9 to 11, and its witnesses are the
 -- lowest. Assumes nothing.
+use Rattle.refusal.specs.Outcome.{unrefused}
 use mathlib.Core.Path.{◌≡◌, sym, ◌∙◌, subst⁻¹}
 use mathlib.Core.Bool.{true}
 use mathlib.Core.List.{List}
@@ -7,7 +8,6 @@ use Prim.Native.Nat.{ℕ, ◌≤◌, ◌<◌}
 use lib.Dec.{T}
 use Rattle.cltlb.specs.Fits.{view_fits}
 use Rattle.cltlb.specs.declared.View.{View}
-use Rattle.refusal.specs.declared.Outcome.TheVariants.{Clear}
 use Rattle.plan.specs.Layout.{start_rows, cycle_rows, rows}
 use Rattle.table.specs.Layout.{marked, witness_of, table_outcome}
 use Rattle.table.proofs.TableBytes as bytes
@@ -35,7 +35,7 @@ module _ (plan : List ℕ) (h_c : 1 ≤ cycle_rows plan) (few : rows plan ≤ 25
   unfolding made_table
   table_witness i l = bytes.table_witness n (rows plan) (made_mark parts plan) (made_witness parts plan) i l (witness_small i)
 
-  pub table_clear : n ≤ 64 → table_outcome n (rows plan) table ≡ Clear
+  pub table_clear : n ≤ 64 → table_outcome n (rows plan) table ≡ unrefused
   unfolding made_table
   table_clear few_parts = bytes.table_clear n (rows plan) (made_mark parts plan) (made_witness parts plan) few_parts few
 

@@ -15,7 +15,7 @@ use Rattle.cltlb.specs.declared.View.{View}
 use Rattle.cltlb.specs.declared.View.TheVariants as view
 use Rattle.cltlb.proofs.Fits.{atom_fits_lem, operator_fits, view_more}
 use Rattle.refusal.specs.First.{unless}
-use Rattle.refusal.specs.declared.Outcome.{Outcome}
+use Rattle.refusal.specs.Outcome.{Outcome}
 use Rattle.refusal.specs.declared.Refusal.TheVariants.{Closing}
 use Rattle.plan.specs.Layout.{start_rows, cycle_rows, rows}
 use Rattle.plan.specs.declared.sizes.Sizes.{Sizes}
@@ -24,9 +24,7 @@ use Rattle.plan.proofs.Fits.{rows_are}
 use Rattle.verdict.specs.Rows.{atom_at}
 use Rattle.table.specs.Layout.{mark_byte, marked}
 use Rattle.table.specs.Bytes.{byte_of}
-use Rattle.table.specs.inner.Tables.{Sized}
 use Rattle.table.specs.inner.Stored.{Stored}
-use Rattle.table.proofs.Stores.{stored_sized}
 use Rattle.table.proofs.TableBytes.{read_byte}
 use Rattle.marks.specs.declared.operators.Beside.{Beside}
 use Rattle.marks.specs.Parts.{closes, steady_outcome, closing_outcome}
@@ -113,11 +111,8 @@ module _ (plan : List ℕ) {z : Sizes} (fit : Fitting plan z) (n i : ℕ) {p : V
     module _ {old new : List ℕ}
         (done : Stored old new (4 + i * all_rows z) 0 (all_rows z) (λ row. byte_of (operator_label z.start z.cycle (marked (all_rows z) old) o row))) where
       -- Whether it closes is looked for in the table as it is now,
-      pub operator_ready : Sized old n (all_rows z) → i < n
-          → Sized new n (all_rows z) × (1 ≤ z.cycle) × (i < n) × (names_lower n o ≡ true) × TruthMarked z.start z.cycle (marked (all_rows z) new) o i
-      operator_ready s l = (
-        stored_sized n (all_rows z) done s,
-        fit.a_cycle,
+      pub operator_ready : i < n → (i < n) × (names_lower n o ≡ true) × TruthMarked z.start z.cycle (marked (all_rows z) new) o i
+      operator_ready l = (
         l,
         operator_fits z.channels n o (view_more z.channels z.channels (omega arith) i n (omega arith) (view.Operator o) own_fits),
         label_truth plan fit i o own_fits done,

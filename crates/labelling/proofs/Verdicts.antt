@@ -1,4 +1,5 @@
 -- A comparison labelled row after row by its verdicts, until one changes: what holds on the way and at both ends. Assumes nothing.
+use Rattle.std.specs.Prelude.{Err}
 use mathlib.Core.Path.{◌≡◌, refl, sym, ap, ◌∙◌, subst}
 use mathlib.Core.Bool.{Bool, true, false, cond, false≢true}
 use mathlib.Core.List.{List}
@@ -12,8 +13,7 @@ use borrow.Author.Tests.{lt-ltb}
 use Rattle.cltlb.specs.declared.Atom.{Atom}
 use Rattle.refusal.specs.declared.Refusal.{Refusal}
 use Rattle.refusal.specs.declared.Refusal.TheVariants.{Closing}
-use Rattle.refusal.specs.declared.Outcome.{Outcome}
-use Rattle.refusal.specs.declared.Outcome.TheVariants.{Clear, Refused}
+use Rattle.refusal.specs.Outcome.{Outcome, unrefused}
 use Rattle.refusal.proofs.First.{clear_refused}
 use Rattle.refusal.proofs.Search.{search_from, search_on, search_stops, search_ends}
 use Rattle.plan.specs.Layout.{start_rows, cycle_rows}
@@ -155,13 +155,13 @@ module _ (plan old : List ℕ) {z : Sizes} (fit : Fitting plan z) (i own : ℕ) 
   )
 
   pub label_stops : {new : List ℕ} {row : ℕ} {v : Verdict} {c : Bool} → Labelling plan old x i (all_rows z) own new row → row < all_rows z
-      → v ≡ judge_row plan x row → c ≡ is_changes v → c ≡ true → Ends new (Refused (Closing i row))
+      → v ≡ judge_row plan x row → c ≡ is_changes v → c ≡ true → Ends new (Err (Closing i row))
   label_stops {row = row} s l e d t = (
     search_stops (changes_on plan x) (all_rows z) (Closing i) row l (sym (ap is_changes e) ∙ sym d ∙ t) ∙ sym s.1 ∙ sym steady_search,
     record { rows_alone = rows_open s; made = λ k. absurd (clear_refused k) },
   )
 
-  pub label_ends : {new : List ℕ} {row : ℕ} → Labelling plan old x i (all_rows z) own new row → all_rows z ≤ row → Ends new Clear
+  pub label_ends : {new : List ℕ} {row : ℕ} → Labelling plan old x i (all_rows z) own new row → all_rows z ≤ row → Ends new unrefused
   unfolding atom_at
   label_ends {new} {row} s h = (
     search_ends (changes_on plan x) (all_rows z) (Closing i) row h ∙ sym s.1 ∙ sym steady_search,

@@ -1,9 +1,9 @@
 // The marks of a part guessed on all rows, in a table of `n` parts: of a comparison by the numbers of the lead-in and of pass 0, over lanes.
 // Nothing is promised of a guess but that it keeps within the table: the check says whether it is right. `i` is the part's number, `m` the
 // place of the first mark written.
-ghost use Rattle.std.specs.Prelude.{◌≡◌, true, ◌≤◌, ◌<◌, length};
+ghost use Rattle.std.specs.Prelude.{◌≡◌, true, ℕ, ◌≤◌, ◌<◌, length};
 ghost use Rattle.cltlb.specs.Fits.{view_fits};
-ghost use Rattle.fields.specs.inner.Biased.{bias};
+ghost use Rattle.fields.specs.inner.Biased.{bias, patterns};
 ghost use Rattle.plan.specs.inner.Sizes.{all_rows, Fitting};
 ghost use Rattle.verdict.specs.inner.Reach.{TermsFit, AsksLeft};
 ghost use Rattle.lanes.specs.inner.Columns.{InLanes, InMarks};
@@ -16,11 +16,10 @@ use lanes::columns::{Column, column_of, number, side_of};
 use lanes::ranges::ranges_of;
 use lanes::rows::{ComparisonPart, Sides};
 use lanes::tops::seen_compare;
-use plan::sizes::Sizes;
+use plan::Plan;
 use table::bytes::place;
 use table::fills::put_mark;
 use verdict::atoms::comparison_of;
-use verdict::bounds::larger;
 use verdict::rows::test_at;
 use verdict::terms::reach_of;
 use verdict::weeks::WEEK;
@@ -29,50 +28,26 @@ use verdict::{Comparison, Relation};
 // The minutes of so many weeks that no number is larger.
 const WEEKS: u64 = 426090 * WEEK;
 
-// Whether the left number is below the right one.
-fn guess_less(values: &[u8], x: Column, y: Column, table: &mut [u8], m: usize, count: usize)
-    requires { (InLanes values.now x y count) × (InMarks table.old m count) }
-    ensures { length table.new ≡ length table.old }
-{
-    let mut k = 0;
-    while k < count {
-        put_mark(table, m + k, number(values, x, k) < number(values, y, k));
-        k += 1;
-    }
-}
-
-// Whether the two numbers are the same.
-fn guess_same(values: &[u8], x: Column, y: Column, table: &mut [u8], m: usize, count: usize)
-    requires { (InLanes values.now x y count) × (InMarks table.old m count) }
-    ensures { length table.new ≡ length table.old }
-{
-    let mut k = 0;
-    while k < count {
-        put_mark(table, m + k, number(values, x, k) == number(values, y, k));
-        k += 1;
-    }
-}
-
-// Whether the left number is less than so many minutes after the right one. Weeks are added that it stays above 0, rather than tell two
-// ways apart on each row.
-fn guess_within(
+// On each row what a test of the two numbers there says.
+#[inline(always)]
+fn guess_numbers<F: Fn(u64, u64) -> bool>(
     values: &[u8],
-    minutes: u64,
     x: Column,
     y: Column,
     table: &mut [u8],
     m: usize,
     count: usize,
+    test: F,
 )
-    requires { (InLanes values.now x y count) × (InMarks table.old m count) }
+    requires { (InLanes values.now x y count) × (InMarks table.old m count) × ((a b : ℕ) → a < patterns → b < patterns → F.pre test a b) }
     ensures { length table.new ≡ length table.old }
 {
-    let mut k = 0;
-    while k < count {
-        let a = number(values, x, k);
-        let b = number(values, y, k);
-        put_mark(table, m + k, (a + WEEKS - b) % WEEK < minutes);
-        k += 1;
+    for k in 0..count {
+        put_mark(
+            table,
+            m + k,
+            test(number(values, x, k), number(values, y, k)),
+        );
     }
 }
 
@@ -89,16 +64,12 @@ fn guess_seen(
     requires { (InLanes values.now x y count) × (InMarks table.old m count) × (x.top < bias) × (y.top < bias) }
     ensures { length table.new ≡ length table.old }
 {
-    let mut k = 0;
-    while k < count {
-        let a = number(values, x, k);
-        let b = number(values, y, k);
-        put_mark(table, m + k, seen_compare(relation, x.top, a, y.top, b));
-        k += 1;
-    }
+    let test = |a, b| seen_compare(relation, x.top, a, y.top, b);
+    guess_numbers(values, x, y, table, m, count, test);
 }
 
-// The same, where there is no top.
+// The same, where there is no top. Whether a number is less than so many minutes after another is asked once weeks are added that it stays
+// above 0, rather than tell two ways apart on each row.
 fn guess_values(
     values: &[u8],
     relation: Relation,
@@ -112,9 +83,12 @@ fn guess_values(
     ensures { length table.new ≡ length table.old }
 {
     match relation {
-        Relation::Below => guess_less(values, x, y, table, m, count),
-        Relation::Same => guess_same(values, x, y, table, m, count),
-        Relation::Within(minutes) => guess_within(values, minutes, x, y, table, m, count),
+        Relation::Below => guess_numbers(values, x, y, table, m, count, |a, b| a < b),
+        Relation::Same => guess_numbers(values, x, y, table, m, count, |a, b| a == b),
+        Relation::Within(minutes) => {
+            let test = |a, b| (a + WEEKS - b) % WEEK < minutes;
+            guess_numbers(values, x, y, table, m, count, test);
+        }
         Relation::Pinned => guess_seen(values, relation, x, y, table, m, count),
     }
 }
@@ -156,21 +130,18 @@ fn guess_direct(
 
 // The rows from one up to another, one by one.
 fn guess_rows(
-    plan: &[u8],
+    plan: &Plan,
     table: &mut [u8],
-    sizes: Sizes,
     m: usize,
     comparison: Comparison,
     from: usize,
     to: usize,
 )
-    requires { (Fitting plan.now sizes) × (TermsFit sizes comparison) × (InMarks table.old m to) × (to ≤ all_rows sizes) }
+    requires { (TermsFit plan.now.sizes comparison) × (InMarks table.old m to) × (to ≤ all_rows plan.now.sizes) }
     ensures { length table.new ≡ length table.old }
 {
-    let mut row = from;
-    while row < to {
-        put_mark(table, m + row, test_at(plan, sizes, comparison, row));
-        row += 1;
+    for row in from..to {
+        put_mark(table, m + row, test_at(plan, comparison, row));
     }
 }
 
@@ -184,42 +155,33 @@ fn guess_comparison(plan: &[u8], values: &[u8], table: &mut [u8], part: Comparis
     let w = sizes.start + sizes.cycle;
     let x = comparison.left;
     let y = comparison.right;
-    let left = side_of(plan, sizes, x);
-    let right = side_of(plan, sizes, y);
-    let sides = Sides {
-        left: left,
-        right: right,
-    };
-    let back = larger(reach_of(x), reach_of(y));
-    let ranges = ranges_of(sizes, back, larger(left.code, right.code), true);
+    let whole = Plan { bytes: plan, sizes };
+    let left = side_of(&whole, x);
+    let right = side_of(&whole, y);
+    let sides = Sides { left, right };
+    let back = reach_of(x).max(reach_of(y));
+    let ranges = ranges_of(sizes, back, left.code.max(right.code), true);
     let own = place(w, part.i, 0);
-    guess_rows(plan, table, sizes, own, comparison, 0, ranges.before);
+    guess_rows(&whole, table, own, comparison, 0, ranges.before);
     guess_direct(values, table, part, sides, ranges.before, ranges.numbers);
-    guess_rows(plan, table, sizes, own, comparison, ranges.numbers, w);
+    guess_rows(&whole, table, own, comparison, ranges.numbers, w);
 }
 
 // A part on all rows, an operator by the marks of lower parts.
-pub fn guess_part(
-    plan: &[u8],
-    values: &[u8],
-    table: &mut [u8],
-    n: usize,
-    sizes: Sizes,
-    i: usize,
-    view: View,
-)
-    requires { (Fitting plan.now sizes) × (LongLanes sizes values.now) × (Sized table.old n (all_rows sizes)) × (i < n) × (view_fits sizes.channels i view ≡ true) }
+pub fn guess_part(plan: &Plan, values: &[u8], table: &mut [u8], n: usize, i: usize, view: View)
+    requires { (LongLanes plan.now.sizes values.now) × (Sized table.old n (all_rows plan.now.sizes)) × (i < n) × (view_fits plan.now.sizes.channels i view ≡ true) }
     ensures { length table.new ≡ length table.old }
 {
+    let sizes = plan.sizes;
     match view {
         View::Atom(atom) => {
             let part = ComparisonPart {
-                n: n,
-                sizes: sizes,
-                i: i,
+                n,
+                sizes,
+                i,
                 comparison: comparison_of(atom),
             };
-            guess_comparison(plan, values, table, part);
+            guess_comparison(plan.bytes, values, table, part);
         }
         View::Operator(operator) => label_operator(table, n, sizes, i, operator),
     }

@@ -5,7 +5,7 @@ use Prim.Native.Nat.{ℕ, ◌+◌, ◌*◌, ◌-◌, ◌≤◌, ◌<◌}
 use native.Mathlib.Nat.{mul-le-mul}
 use native.Mathlib.Omega.{arith}
 use mathlib.Core.Path.{◌≡◌, refl, sym, ap, ◌∙◌, subst⁻¹}
-use mathlib.Core.Bool.{Bool, true, false}
+use mathlib.Core.Bool.{true}
 use mathlib.Core.List.{List}
 use lib.IntN.{ℤ, pos, ◌+ℤ◌, ◌*ℤ◌}
 use Rattle.fields.specs.inner.Biased.{bias, unbiased}
@@ -22,6 +22,8 @@ use Rattle.plan.proofs.Arrays.{value_at}
 use Rattle.laid_out.specs.LaidOut.{start_after, rows_after, laid_reading, laid_drift, can_be_laid}
 use Rattle.laid_out.specs.inner.LaidSizes.{laid_sizes}
 use Rattle.laid_out.specs.inner.LaidNumbers.{laid_number}
+use Rattle.laid_out.specs.declared.numbers.Array.{Array}
+use Rattle.laid_out.specs.declared.numbers.Array.TheVariants.{Readings, Drifts}
 use Rattle.laid_out.proofs.LaidRuns.{lead_reading, later_reading, early_drift, later_drift, laid_drift_fits, laid_few, laid_reading_fits}
 use Rattle.laid_out.proofs.Words.{least}
 
@@ -76,10 +78,10 @@ module _ {plan : List ℕ} {z : Sizes} (fits : Fitting plan z) (n : ℕ) (can : 
   pub few_laid_rows : all_stored (laid_sizes z n) ≤ most_stored
   few_laid_rows = let few = laid_few plan fits n can in omega (arith, few.1, few.2)
 
-  laid_fits : Bytes plan → (drifts : Bool) (k channel : ℕ) → k < all_stored (laid_sizes z n) → channel < z.channels → SignedFits 4 (laid_number plan n drifts k channel)
-  laid_fits bytes true k channel h l = laid_drift_fits plan bytes n k channel
-  laid_fits bytes false k channel h l = laid_reading_fits plan fits n can bytes k channel (omega (arith, laid_stored fits n)) (omega (arith, fits.v_is))
+  laid_fits : Bytes plan → (array : Array) (k channel : ℕ) → k < all_stored (laid_sizes z n) → channel < z.channels → SignedFits 4 (laid_number plan n array k channel)
+  laid_fits bytes Drifts k channel h l = laid_drift_fits plan bytes n k channel
+  laid_fits bytes Readings k channel h l = laid_reading_fits plan fits n can bytes k channel (omega (arith, laid_stored fits n)) (omega (arith, fits.v_is))
 
   -- A number that was looked up fits.
-  pub number_fits : Bytes plan → (drifts : Bool) (k channel : ℕ) → k < all_stored (laid_sizes z n) → channel < z.channels → {x : ℤ} → x ≡ laid_number plan n drifts k channel → SignedFits 4 x
-  number_fits bytes drifts k channel h l e = subst⁻¹ (SignedFits 4) e (laid_fits bytes drifts k channel h l)
+  pub number_fits : Bytes plan → (array : Array) (k channel : ℕ) → k < all_stored (laid_sizes z n) → channel < z.channels → {x : ℤ} → x ≡ laid_number plan n array k channel → SignedFits 4 x
+  number_fits bytes array k channel h l e = subst⁻¹ (SignedFits 4) e (laid_fits bytes array k channel h l)

@@ -1,5 +1,6 @@
 -- A plan that is not refused, with passes of its cycle laid out, is not refused; with no pass laid out it is the plan.
 -- Assumes nothing.
+use Rattle.refusal.specs.Outcome.{unrefused}
 use Prim.Native.Nat.{ℕ, ◌+◌, ◌*◌, ◌-◌, ◌≤◌, ◌<◌}
 use native.Mathlib.Decide.{dec_lt}
 use native.Mathlib.Omega.{arith}
@@ -9,7 +10,6 @@ use mathlib.Core.List.{List}
 use mathlib.Core.Logic.{by_cases}
 use borrow.Author.Tests.{eq-eqb}
 use Rattle.fields.specs.inner.Ranges.{Bytes}
-use Rattle.refusal.specs.declared.Outcome.TheVariants.{Clear}
 use Rattle.refusal.specs.declared.Refusal.TheVariants.{PlanSizes, Channels}
 use Rattle.refusal.proofs.First.{or_else_clear, unless_clear, at_lowest_clear}
 use Rattle.plan.specs.Layout.{channels, start_rows, cycle_rows, lead_rows, rows, stored_rows, top_of, stored_reading, stored_drift, reading_of, drift_of}
@@ -24,12 +24,12 @@ use Rattle.plan.proofs.PlanBytes.{plan_again}
 use Rattle.laid_out.specs.LaidOut.{start_after, rows_after, laid_reading, laid_drift, laid_out, can_be_laid}
 use Rattle.laid_out.proofs.LaidRuns.{lead_reading, later_reading, early_drift, later_drift, laid_fitting, laid_drift_lem}
 
-module _ (plan : List ℕ) (bytes : Bytes plan) (v : ℕ) (clear : plan_outcome v plan ≡ Clear) where
+module _ (plan : List ℕ) (bytes : Bytes plan) (v : ℕ) (clear : plan_outcome v plan ≡ unrefused) where
   fits : Fitting plan (sizes_in plan)
   fits = (cleared v plan clear).0
 
   -- WITH PASSES LAID OUT IT IS NOT REFUSED: its sizes fit, its channels are the plan's, and nothing drifts before its cycle.
-  pub laid_clear : (n : ℕ) → can_be_laid plan n ≡ true → plan_outcome v (laid_out plan n) ≡ Clear
+  pub laid_clear : (n : ℕ) → can_be_laid plan n ≡ true → plan_outcome v (laid_out plan n) ≡ unrefused
   unfolding plan_outcome start_after rows_after
   laid_clear n can =
       let own = laid_fitting plan fits n can bytes in

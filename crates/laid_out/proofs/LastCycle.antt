@@ -21,7 +21,7 @@ use Rattle.plan.specs.inner.Sizes.{Fitting}
 use Rattle.plan.specs.declared.sizes.Sizes.{Sizes}
 use Rattle.plan.proofs.Rows.{row_again, pass_again, row_ge, row_lt, pass_lt}
 use Rattle.plan.proofs.Lines.{reading_on_pass_0}
-use Rattle.plan.proofs.Searches.{one_here, none_below, none_each}
+use Rattle.plan.proofs.Searches.{none_below, none_each}
 use Rattle.laid_out.specs.LaidOut.{start_after, rows_after, too_large, can_be_laid}
 use Rattle.laid_out.specs.inner.LastCycle.{number_too_large, row_too_large, cycle_too_large}
 use Rattle.laid_out.proofs.CanBeLaid.{passes_few, can_be, laid_fits, row_reading_fits}
@@ -62,37 +62,14 @@ between_fits z d p n l =
         let less : p * (c - e) ≤ n * (c - e) = mul-le-mul_right (c - e) l in
         (omega arith, omega arith))))
 
--- ---- what the loops find
+-- What is found of one channel.
+pub number_seen : (plan : List ℕ) (row pass channel : ℕ) {x : ℤ} (r : Bool) → x ≡ reading_on plan channel row pass → r ≡ signed_fits 4 x → not r ≡ number_too_large plan row pass channel
+unfolding number_too_large
+number_seen plan row pass channel r e g = ap not (g ∙ ap (signed_fits 4) e)
+
+-- ---- so many passes
 
 module _ {plan : List ℕ} {z : Sizes} (fits : Fitting plan z) where
-  module _ (row pass : ℕ) where
-    -- a channel whose reading fits, and one whose reading does not
-    pub number_fits : (channel : ℕ) {x : ℤ} {r : Bool} → x ≡ reading_on plan channel row pass → r ≡ signed_fits 4 x → not r ≡ false
-        → number_too_large plan row pass channel ≡ false
-    unfolding number_too_large
-    number_fits channel e g h = ap (λ (y : ℤ). not (signed_fits 4 y)) (sym e) ∙ ap not (sym g) ∙ h
-
-    pub number_large : (channel : ℕ) {x : ℤ} {r : Bool} → x ≡ reading_on plan channel row pass → r ≡ signed_fits 4 x → not r ≡ true
-        → channel < z.channels → true ≡ row_too_large plan row pass
-    unfolding row_too_large number_too_large
-    number_large channel e g h l =
-        sym (rw fits.v_is (one_here (λ i. not (signed_fits 4 (reading_on plan i row pass))) channel z.channels l (ap (λ (y : ℤ). not (signed_fits 4 y)) (sym e) ∙ ap not (sym g) ∙ h)))
-
-    pub row_fits : (n : ℕ) → n ≡ z.channels → any_below (number_too_large plan row pass) n ≡ false → false ≡ row_too_large plan row pass
-    unfolding row_too_large
-    row_fits n h e = sym (rw (fits.v_is, ← h) e)
-
-  -- a row of the cycle, and all of them
-  pub row_large : (pass j : ℕ) → j < z.cycle → true ≡ row_too_large plan (z.start + j) pass → true ≡ cycle_too_large plan pass
-  unfolding cycle_too_large
-  row_large pass j l e = sym (rw (fits.c_is, fits.p_is) (one_here (λ i. row_too_large plan (z.start + i) pass) j z.cycle l (sym e)))
-
-  pub cycle_fits : (pass n : ℕ) → n ≡ z.cycle → any_below (λ j. row_too_large plan (z.start + j) pass) n ≡ false → false ≡ cycle_too_large plan pass
-  unfolding cycle_too_large
-  cycle_fits pass n h e = sym (rw (fits.c_is, fits.p_is, ← h) e)
-
-  -- ---- so many passes
-
   module _ (n : ℕ) where
     a_cycle : 1 ≤ cycle_rows plan
     a_cycle = omega (arith, fits.c_is, fits.a_cycle)

@@ -3,13 +3,14 @@ ghost use Rattle.std.specs.Prelude.{◌≡◌, ◌≤◌, ◌<◌};
 ghost use Rattle.fields.specs.TwosComplement.{pattern_of};
 ghost use Rattle.fields.specs.inner.Ranges.{SignedFits};
 ghost use Rattle.plan.specs.inner.Lifted.{lowered};
-ghost use Rattle.plan.specs.inner.Sizes.{all_rows, most_stored, Fitting};
+ghost use Rattle.plan.specs.inner.Sizes.{all_rows, most_stored};
 ghost use Rattle.laid_out.specs.LaidOut.{laid_reading, laid_drift};
 ghost use Rattle.laid_out.specs.inner.LaidSizes.{laid_sizes};
 ghost use Rattle.laid_out.specs.inner.LaidNumbers.{laid_number};
 
 use fields::{BIAS, PATTERNS};
-use plan::lookup::{LAST_PASS, ZERO, drift_at, number_at, stored_number};
+use plan::Plan;
+use plan::lookup::{LAST_PASS, ZERO};
 use plan::positions::{pass_of, row_of};
 use plan::sizes::Sizes;
 
@@ -30,44 +31,46 @@ pub fn laid_sizes(sizes: Sizes, n: usize) -> Sizes
 }
 
 // The reading of a channel on the k-th row that is stored: in the lead-in what is stored, behind it that at the row's position.
-fn laid_reading(plan: &[u8], sizes: Sizes, k: usize, channel: usize) -> u64
-    requires { (Fitting plan.now sizes) × (k < most_stored) × (channel < sizes.channels) }
-    ensures { lowered result ≡ laid_reading plan.now k channel }
+fn laid_reading(plan: &Plan, k: usize, channel: usize) -> u64
+    requires { (k < most_stored) × (channel < plan.now.sizes.channels) }
+    ensures { lowered result ≡ laid_reading plan.now.bytes.now k channel }
 {
+    let sizes = plan.sizes;
     if k < sizes.lead {
-        return stored_number(plan, sizes, channel, k, 0);
+        return plan.stored_number(channel, k, 0);
     }
     let t = k - sizes.lead;
-    number_at(plan, sizes, channel, row_of(sizes, t), pass_of(sizes, t))
+    plan.number_at(channel, row_of(sizes, t), pass_of(sizes, t))
 }
 
 // Its drift: none before the cycle.
-fn laid_drift(plan: &[u8], sizes: Sizes, n: usize, k: usize, channel: usize) -> u64
-    requires { (Fitting plan.now sizes) × (n < 256) × (k < most_stored) × (channel < sizes.channels) }
-    ensures { lowered result ≡ laid_drift plan.now n k channel }
+fn laid_drift(plan: &Plan, n: usize, k: usize, channel: usize) -> u64
+    requires { (n < 256) × (k < most_stored) × (channel < plan.now.sizes.channels) }
+    ensures { lowered result ≡ laid_drift plan.now.bytes.now n k channel }
 {
+    let sizes = plan.sizes;
     if k < sizes.lead + (sizes.start + n * sizes.cycle) {
         return ZERO;
     }
-    drift_at(plan, sizes, channel, row_of(sizes, k - sizes.lead)) + LEAST
+    plan.drift_at(channel, row_of(sizes, k - sizes.lead)) + LEAST
 }
 
-// The one or the other.
-pub fn laid_number(
-    plan: &[u8],
-    sizes: Sizes,
-    n: usize,
-    drifts: bool,
-    k: usize,
-    channel: usize,
-) -> u64
-    requires { (Fitting plan.now sizes) × (n < 256) × (k < most_stored) × (channel < sizes.channels) }
-    ensures { lowered result ≡ laid_number plan.now n drifts k channel }
+// The two arrays of a plan.
+#[derive(Clone, Copy)]
+pub enum Array {
+    Readings,
+    Drifts,
+}
+
+// The number of an array.
+pub fn laid_number(plan: &Plan, n: usize, array: Array, k: usize, channel: usize) -> u64
+    requires { (n < 256) × (k < most_stored) × (channel < plan.now.sizes.channels) }
+    ensures { lowered result ≡ laid_number plan.now.bytes.now n array k channel }
 {
-    if drifts {
-        return laid_drift(plan, sizes, n, k, channel);
+    match array {
+        Array::Readings => laid_reading(plan, k, channel),
+        Array::Drifts => laid_drift(plan, n, k, channel),
     }
-    laid_reading(plan, sizes, k, channel)
 }
 
 // The pattern of a value that fits 32 bits.

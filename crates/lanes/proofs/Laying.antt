@@ -10,7 +10,7 @@ use lib.ListN.{length, get_or, take, drop, length-take, length-drop}
 use Rattle.fields.specs.LittleEndian.{number_at, bytes_of}
 use Rattle.fields.specs.TwosComplement.{signed_of, signed_at}
 use Rattle.fields.proofs.Widths.{number4, number_of_bytes}
-use Rattle.plan.specs.Layout.{head_length, array_length, readings, drifts, cell, entry, stored_reading, stored_drift}
+use Rattle.plan.specs.Layout.{array_length, readings, drifts, cell, entry, stored_reading, stored_drift}
 use Rattle.plan.specs.inner.Sizes.{all_stored, most_array, Fitting}
 use Rattle.plan.specs.declared.sizes.Sizes.{Sizes}
 use Rattle.plan.proofs.Arrays.{array_le, cell_lt}
@@ -91,7 +91,7 @@ module _ (array : List ℕ) (v w : ℕ) where
 
 module _ {plan : List ℕ} {z : Sizes} (f : Fitting plan z) {lanes : List ℕ} (long : length lanes ≡ most_array) where
   -- a part of the plan that is as long as an array
-  part_room : (a e : ℕ) → e ≡ a + array_length z.channels (all_stored z) → e ≤ length plan → Room (take (e - a) (drop a plan)) z.channels (all_stored z) lanes
+  pub part_room : (a e : ℕ) → e ≡ a + array_length z.channels (all_stored z) → e ≤ length plan → Room (take (e - a) (drop a plan)) z.channels (all_stored z) lanes
   unfolding array_length
   part_room a e h l = record {
     few_channels = f.few_channels;
@@ -100,13 +100,6 @@ module _ {plan : List ℕ} {z : Sizes} (f : Fitting plan z) {lanes : List ℕ} (
     there = omega (arith, array_le z.channels (all_stored z) f.few_channels (few_stored f));
     few = omega arith;
   }
-
-  pub readings_room : (a b : ℕ) → a ≡ head_length z.channels → b ≡ head_length z.channels + array_length z.channels (all_stored z) → Room (take (b - a) (drop a plan)) z.channels (all_stored z) lanes
-  readings_room a b g h = let whole = f.whole in part_room a b (omega arith) (omega arith)
-
-  pub drifts_room : (b e : ℕ) → b ≡ head_length z.channels + array_length z.channels (all_stored z) → e ≡ b + array_length z.channels (all_stored z)
-      → Room (take (e - b) (drop b plan)) z.channels (all_stored z) lanes
-  drifts_room b e g h = let whole = f.whole in part_room b e h (omega arith)
 
 -- the array that was laid out, by its name
 pub laid_as : {part array : List ℕ} {v w : ℕ} {lanes : List ℕ} → part ≡ array → Laid part v w lanes → Laid array v w lanes

@@ -37,11 +37,6 @@ module _ (plan : List ℕ) (x : Comparison) (lines : ℕ) (mark : Bool) (t : ℕ
   pub says_settled : lines ≤ t → {v : Verdict} → v ≡ judge_from plan x t → r ≡ verdict_agrees v mark → r ≡ says_at plan x lines mark t
   says_settled h e g = rw (le-ltb t lines h) (g ∙ ap (λ w. verdict_agrees w mark) e)
 
--- the mark is that on the row of the position
-pub by_its_mark : (plan table : List ℕ) (part : ComparisonPart) (lines t : ℕ) {row : ℕ} {mark r : Bool} → row ≡ row_of part.sizes.start part.sizes.cycle t → mark ≡ marked (all_rows part.sizes) table part.i row
-    → r ≡ says_at plan part.comparison lines mark t → r ≡ position_says plan table part lines t
-by_its_mark plan table part lines t e m g = g ∙ ap (λ (b : Bool). says_at plan part.comparison lines b t) (m ∙ ap (marked (all_rows part.sizes) table part.i) e)
-
 -- before the lines, and from there on
 module _ (plan table : List ℕ) (part : ComparisonPart) (lines t row : ℕ) (on : row_of part.sizes.start part.sizes.cycle t ≡ row) where
   pub alone : t < lines → position_says plan table part lines t ≡ beq (marked (all_rows part.sizes) table part.i row) (test_at plan part.comparison t)

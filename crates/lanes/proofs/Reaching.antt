@@ -10,28 +10,15 @@ use Rattle.table.specs.inner.Tables.{all_below, Sized}
 use Rattle.table.proofs.AllBelow.{all_each, sweep_next}
 use Rattle.table.proofs.Places.{part_cells, area}
 use Rattle.lanes.specs.declared.columns.Column.{Column}
-use Rattle.lanes.specs.inner.Columns.{Reaches, InLanes, InMarks}
+use Rattle.lanes.specs.declared.columns.Source.TheVariants.{Lane}
+use Rattle.lanes.specs.inner.Columns.{Reaches, InMarks}
 
 module _ (lanes : List ℕ) (x : Column) where
   pub reaches_row : (count k : ℕ) → Reaches lanes x count → k < count → Reaches lanes x (k + 1)
-  unfolding Reaches
-  reaches_row count k h l e = let g = h e in omega arith
+  reaches_row count k h l from e = let g = h from e in omega arith
 
-  pub in_reach : (k : ℕ) → Reaches lanes x (k + 1) → x.reads ≡ true → 4 * (x.from + k) + 4 ≤ length lanes
-  unfolding Reaches
-  in_reach k h e = let g = h e in omega arith
-
--- fewer rows
-pub lanes_to : {lanes : List ℕ} {x y : Column} {count : ℕ} (to : ℕ) → to ≤ count → InLanes lanes x y count → InLanes lanes x y to
-unfolding Reaches
-lanes_to to h i = record {
-  left = λ e. let g = i.left e in omega arith;
-  right = λ e. let g = i.right e in omega arith;
-  few = i.few;
-}
-
-pub marks_to : {table : List ℕ} {m count : ℕ} (to : ℕ) → to ≤ count → InMarks table m count → InMarks table m to
-marks_to to h i = record { there = (let g = i.there in omega arith); few = i.few }
+  pub in_reach : (k from : ℕ) → Reaches lanes x (k + 1) → x.source ≡ Lane from → 4 * (from + k) + 4 ≤ length lanes
+  in_reach k from h e = let g = h from e in omega arith
 
 -- the marks of part i from a row on
 pub marks_there : (table : List ℕ) (n w : ℕ) → Sized table n w → (i row count m : ℕ) → i < n → row + count ≤ w → m ≡ 4 + (i * w + row) → InMarks table m count

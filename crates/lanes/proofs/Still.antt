@@ -7,7 +7,6 @@ use mathlib.Core.Path.{◌≡◌, refl, sym, ap, ap₂, ◌∙◌}
 use mathlib.Core.Bool.{Bool, true, beq}
 use mathlib.Core.List.{List}
 use mathlib.Core.Logic.{by_cases}
-use lib.ListN.{length}
 use lib.IntN.{ℤ, pos, sub_ℕ, ◌+ℤ◌, ◌*ℤ◌, +ℤ_idr, *ℤ-zero}
 use Rattle.cltlb.specs.Run.{under}
 use Rattle.cltlb.specs.Truth.{value_at}
@@ -15,13 +14,12 @@ use Rattle.cltlb.specs.Fits.{term_fits}
 use Rattle.cltlb.specs.declared.Term.{Term}
 use Rattle.cltlb.specs.declared.Term.TheVariants.{Constant, Reading}
 use Rattle.cltlb.proofs.Fits.{reading_fits}
-use Rattle.fields.specs.inner.Biased.{unbiased}
 use Rattle.fields.proofs.Differences.{sub_pos}
 use Rattle.plan.specs.Layout.{lead_rows, readings, entry, top_of, stored_reading, reading_of, drift_of}
 use Rattle.plan.specs.Positions.{row_of, pass_of}
 use Rattle.plan.specs.Run.{reading_on, reading_at, run_of}
 use Rattle.plan.specs.inner.Drifts.{StoredStill, Still}
-use Rattle.plan.specs.inner.Sizes.{all_rows, all_stored, most_stored, most_array, Fitting}
+use Rattle.plan.specs.inner.Sizes.{all_rows, all_stored, most_stored, Fitting}
 use Rattle.plan.specs.declared.sizes.Sizes.{Sizes}
 use Rattle.plan.proofs.Lines.{no_passes}
 use Rattle.plan.proofs.Rows.{row_start, pass_start, row_ge, row_lt}
@@ -35,16 +33,15 @@ use Rattle.verdict.specs.Rows.{channel_line, term_line, term_top, test_at}
 use Rattle.verdict.specs.inner.Landed.{shift_in}
 use Rattle.verdict.specs.inner.Reach.{TermsFit}
 use Rattle.verdict.specs.declared.Comparison.{Comparison}
-use Rattle.verdict.specs.declared.Relation.{Relation}
 use Rattle.lanes.specs.declared.columns.Column.{Column}
 use Rattle.lanes.specs.declared.columns.Side.{Side}
 use Rattle.lanes.specs.declared.rows.ComparisonPart.{ComparisonPart}
 use Rattle.lanes.specs.declared.rows.Sides.{Sides}
-use Rattle.lanes.specs.inner.Columns.{number_in, seen_in, IsSide, Reaches, FewChannels, Stands, lane_number}
-use Rattle.lanes.specs.inner.Direct.{numbers_say, LongLanes}
+use Rattle.lanes.specs.inner.Columns.{number_in, IsSide, Reaches, FewChannels, Stands, lane_number}
+use Rattle.lanes.specs.inner.Direct.{numbers_say, OfPart, LongLanes}
 use Rattle.lanes.specs.inner.Lanes.{Laid}
 use Rattle.lanes.specs.inner.Positions.{position_says}
-use Rattle.lanes.specs.inner.Still.{landed_number, still_says, StillPositions}
+use Rattle.lanes.specs.inner.Still.{landed_number, still_says, Lands}
 use Rattle.lanes.proofs.Comparing.{level_agrees}
 use Rattle.lanes.proofs.Laying.{reading_in_lane}
 use Rattle.lanes.proofs.Positions.{says_alone, says_settled}
@@ -186,54 +183,32 @@ module _ (values table : List ℕ) (part : ComparisonPart) (sides : Sides) where
       (ap (under (pos sides.left.top)) (on_pass_0 values part.sizes part.comparison.left sides.left.code t low.0 high.0))
       (ap (under (pos sides.right.top)) (on_pass_0 values part.sizes part.comparison.right sides.right.code t low.1 high.1)))
 
--- ---- one by one, over two lanes
+-- ---- the number of a term, in its lane
 
--- the mark says how what is seen on the rows on which the two shifts land compares
-abbrev pub landed_says : Relation → List ℕ → List ℕ → Sizes → ℕ → Column → Column → ℕ → ℕ → ℕ → Bool
-landed_says relation values table z i x y left right t =
-    beq (marked (all_rows z) table i (row_of z.start z.cycle t))
-    (tested relation (seen_in values x (z.lead + row_of z.start z.cycle (t + left - 4))) (seen_in values y (z.lead + row_of z.start z.cycle (t + right - 4))))
+module _ {z : Sizes} {x : Term} {code t : ℕ} (d : Lands z x code t) where
+  pub few_stored : (1 ≤ all_stored z) × (all_stored z ≤ most_stored)
+  few_stored = let cycle = d.a_cycle in let lead = d.few_lead in let rows = d.few_rows in (omega arith, omega arith)
 
-module _ (relation : Relation) (values table : List ℕ) (z : Sizes) (i : ℕ) (x y : Column) (left right t : ℕ) where
-  pub landed_step : (s a u b : ℕ) {p q r : ℕ} {mark test said : Bool} → p ≡ row_of z.start z.cycle (t + left - 4) → unbiased a ≡ number_in values x (z.lead + p)
-      → q ≡ row_of z.start z.cycle (t + right - 4) → unbiased b ≡ number_in values y (z.lead + q) → r ≡ row_of z.start z.cycle t → mark ≡ marked (all_rows z) table i r
-      → test ≡ tested relation (under (pos s) (unbiased a)) (under (pos u) (unbiased b)) → x.top ≡ s → y.top ≡ u → said ≡ beq mark test → said ≡ landed_says relation values table z i x y left right t
-  landed_step s a u b ep ea eq eb er em et es eu said =
-      said
-      ∙ ap₂ beq (em ∙ ap (marked (all_rows z) table i) er)
-      (et
-      ∙ ap₂ (tested relation)
-      (ap₂ (λ (m : ℕ) (y : ℤ). under (pos m) y) (sym es) (ea ∙ ap (λ (j : ℕ). number_in values x (z.lead + j)) ep))
-      (ap₂ (λ (m : ℕ) (y : ℤ). under (pos m) y) (sym eu) (eb ∙ ap (λ (j : ℕ). number_in values y (z.lead + j)) eq)))
-
-module _ {table : List ℕ} {part : ComparisonPart} {sides : Sides} {from to : ℕ} (d : StillPositions table part sides from to) where
-  pub few_rows : (1 ≤ all_stored part.sizes) × (all_stored part.sizes ≤ most_stored) × (all_rows part.sizes ≤ 256)
-  few_rows = let few = d.of_part.sized.few_rows in (omega (arith, d.of_part.a_cycle), omega (arith, d.of_part.few_lead), few)
-
-  pub left_few : FewChannels part.comparison.left
-  left_few = few_channels part.sizes.channels part.comparison.left d.of_part.few_channels d.of_part.terms_fit.0
-
-  pub right_few : FewChannels part.comparison.right
-  right_few = few_channels part.sizes.channels part.comparison.right d.of_part.few_channels d.of_part.terms_fit.1
+  pub few_term : FewChannels x
+  few_term = few_channels z.channels x d.few_channels d.fits
 
   -- a row, behind the lead-in
-  pub row_stored : (s : ℕ) {row : ℕ} → row ≡ row_of part.sizes.start part.sizes.cycle s → part.sizes.lead + row < all_stored part.sizes
-  row_stored s e = let within = row_lt part.sizes.start part.sizes.cycle d.of_part.a_cycle s in omega arith
+  pub row_stored : {row : ℕ} → row ≡ row_of z.start z.cycle (t + code - 4) → z.lead + row < all_stored z
+  row_stored e = let within = row_lt z.start z.cycle d.a_cycle (t + code - 4) in omega arith
 
-  -- in a term's lane
-  pub lane_reaches : (values : List ℕ) → LongLanes part.sizes values → (y : Term) → term_fits part.sizes.channels y ≡ true → (c : Column) → Stands (all_stored part.sizes) 0 4 y c → (s : ℕ) {row : ℕ} → row ≡ row_of part.sizes.start part.sizes.cycle s
-      → Reaches values c (part.sizes.lead + row + 1) × (length values ≤ most_array)
-  lane_reaches values long y fits c stands s e =
-      (reaches_row values c (all_stored part.sizes) _ (column_reaches (all_stored part.sizes) 0 4 (omega arith) values part.sizes.channels (all_stored part.sizes) y c fits long.0 (omega arith) stands) (row_stored s e), long.1)
+  module _ (values : List ℕ) (c : Column) (stands : Stands (all_stored z) 0 4 x c) {row : ℕ} (e : row ≡ row_of z.start z.cycle (t + code - 4)) where
+    pub lane_reaches : LongLanes z values → Reaches values c (z.lead + row + 1)
+    lane_reaches long = reaches_row values c (all_stored z) _ (column_reaches (all_stored z) 0 4 (omega arith) values z.channels (all_stored z) x c d.fits long.0 (omega arith) stands) (row_stored e)
 
-  -- the two lanes are those of the terms
-  pub lanes_say : (values : List ℕ) (p q : Column) → Stands (all_stored part.sizes) 0 4 part.comparison.left p × (p.top ≡ sides.left.top) → Stands (all_stored part.sizes) 0 4 part.comparison.right q × (q.top ≡ sides.right.top) → (t : ℕ)
-      → landed_says part.comparison.relation values table part.sizes part.i p q sides.left.code sides.right.code t ≡ still_says values table part sides t
-  lanes_say values p q s u t = ap (beq (marked (all_rows part.sizes) table part.i (row_of part.sizes.start part.sizes.cycle t))) (ap₂ (tested part.comparison.relation)
-      (ap₂ (λ (m : ℕ) (y : ℤ). under (pos m) y) s.1 (one part.comparison.left p s.0 (t + sides.left.code - 4)))
-      (ap₂ (λ (m : ℕ) (y : ℤ). under (pos m) y) u.1 (one part.comparison.right q u.0 (t + sides.right.code - 4))))
-    where
-      one : (y : Term) (c : Column) → Stands (all_stored part.sizes) 0 4 y c → (v : ℕ) → number_in values c (part.sizes.lead + row_of part.sizes.start part.sizes.cycle v) ≡ lane_number values (all_stored part.sizes) y 4 (part.sizes.lead + row_of part.sizes.start part.sizes.cycle v)
-      one y c stands v =
-          column_number (all_stored part.sizes) 0 4 (omega arith) values y c (part.sizes.lead + row_of part.sizes.start part.sizes.cycle v) stands
-          ∙ ap (lane_number values (all_stored part.sizes) y 4) (zero-add (part.sizes.lead + row_of part.sizes.start part.sizes.cycle v))
+    pub landed_is : number_in values c (z.lead + row) ≡ landed_number values z x code t
+    landed_is =
+        ap (λ (j : ℕ). number_in values c (z.lead + j)) e
+        ∙ column_number (all_stored z) 0 4 (omega arith) values x c (z.lead + row_of z.start z.cycle (t + code - 4)) stands
+        ∙ ap (lane_number values (all_stored z) x 4) (zero-add (z.lead + row_of z.start z.cycle (t + code - 4)))
+
+module _ {table : List ℕ} {part : ComparisonPart} {sides : Sides} (d : OfPart table part sides) (t : ℕ) (early : t < all_rows part.sizes + 4) where
+  pub left_lands : 4 ≤ t + sides.left.code → Lands part.sizes part.comparison.left sides.left.code t
+  left_lands h = record { few_channels = d.few_channels; a_cycle = d.a_cycle; few_lead = d.few_lead; few_rows = d.sized.few_rows; fits = d.terms_fit.0; few_code = d.few_codes.0; early = early; in_run = h }
+
+  pub right_lands : 4 ≤ t + sides.right.code → Lands part.sizes part.comparison.right sides.right.code t
+  right_lands h = record { few_channels = d.few_channels; a_cycle = d.a_cycle; few_lead = d.few_lead; few_rows = d.sized.few_rows; fits = d.terms_fit.1; few_code = d.few_codes.1; early = early; in_run = h }

@@ -22,11 +22,13 @@ use Rattle.lanes.specs.declared.columns.Column.{Column}
 use Rattle.lanes.specs.declared.columns.Side.{Side}
 use Rattle.lanes.specs.declared.rows.ComparisonPart.{ComparisonPart}
 use Rattle.lanes.specs.declared.rows.Sides.{Sides}
+use Rattle.lanes.specs.declared.stretch.Stretch.{Stretch}
 use Rattle.cltlb.specs.Run.{under}
 use Rattle.fields.specs.inner.Biased.{bias}
 use Rattle.lanes.specs.inner.Agreement.{verdict_agrees, seen_agree, under_agree}
-use Rattle.lanes.specs.inner.Columns.{seen_in, InLanes, InMarks, FewChannels, Stands, lane_number, lane_line, lane_seen}
+use Rattle.lanes.specs.inner.Columns.{line_in, seen_in, InLanes, InMarks, FewChannels, Stands, lane_number, lane_line, lane_seen}
 use Rattle.lanes.specs.inner.Direct.{numbers_say, lines_say, DirectRows, LongLanes}
+use Rattle.lanes.specs.inner.Stretches.{mark_of, all_seen_agree, OnRows}
 use Rattle.lanes.proofs.Reaching.{marks_there}
 use Rattle.lanes.proofs.Standing.{few_channels, column_number, column_line, column_reaches}
 
@@ -88,29 +90,48 @@ module _ {table : List ℕ} {part : ComparisonPart} {sides : Sides} {from to : �
         few = long.1;
       }
 
+    -- ---- what a sweep of the stretch finds
+
+    module _ {values : List ℕ} {s : Stretch} (on : OnRows values table part sides from to s) where
+      -- the lanes of the drifts are long enough too
+      pub in_drifts : {drifts : List ℕ} → LongLanes z drifts → InLanes drifts s.x s.y s.count
+      in_drifts long = rw on.count_is (in_lanes s.x s.y (on.left_stands, on.left_top) (on.right_stands, on.right_top) long)
+
       -- the k-th row from one on, behind the lead-in
       behind : (k : ℕ) → z.lead + from + k ≡ z.lead + (from + k)
       behind k = omega arith
 
-      pub numbers_said : (m : ℕ) → m ≡ 4 + (i * all_rows z + from) → (values : List ℕ) {r : Bool} → r ≡ all_below (λ k. seen_agree x.relation values p q (mark_in table (m + k)) k) (to - from)
-          → r ≡ all_below (λ k. numbers_say values table part sides (from + k)) (to - from)
-      numbers_said m place values e =
-          e ∙ all_ext _ _ (to - from) (λ k _. ap₂ beq (mark_on table (all_rows z) i from m k place)
-          (ap₂ (tested x.relation) (seen x.left left p (d.left_in h).0 s k) (seen x.right right q (d.right_in h).0 t k)))
-        where
-          seen : (y : Term) (side : Side) (c : Column) → 4 ≤ z.lead + from + side.code → Stands (all_stored z) (z.lead + from) side.code y c × (c.top ≡ side.top) → (k : ℕ)
-              → seen_in values c k ≡ lane_seen values (all_stored z) y side (z.lead + (from + k))
-          seen y side c low u k =
-              ap₂ (λ (m : ℕ) (b : ℤ). under (pos m) b) u.1
-              (column_number (all_stored z) (z.lead + from) side.code low values y c k u.0 ∙ ap (lane_number values (all_stored z) y side.code) (behind k))
+      mark_is : (k : ℕ) → mark_of s k ≡ marked (all_rows z) table i (from + k)
+      mark_is k = ap (λ (l : List ℕ). mark_in l (s.m + k)) on.table_is ∙ mark_on table (all_rows z) i from s.m k on.m_is
 
-      pub lines_said : (m : ℕ) → m ≡ 4 + (i * all_rows z + from) → (values drifts : List ℕ) {r : Bool} → r ≡ all_below (λ k. under_agree x.relation values drifts p q (mark_in table (m + k)) k) (to - from)
-          → r ≡ all_below (λ k. lines_say values table part sides drifts (from + k)) (to - from)
-      lines_said m place values drifts e =
-          e ∙ all_ext _ _ (to - from) (λ k _. ap₂ verdict_agrees
-          (same_verdict s.1 (column_line (all_stored z) (z.lead + from) left.code (d.left_in h).0 values drifts x.left p k s.0 ∙ ap (lane_line values drifts (all_stored z) x.left left.code) (behind k))
-          t.1 (column_line (all_stored z) (z.lead + from) right.code (d.right_in h).0 values drifts x.right q k t.0 ∙ ap (lane_line values drifts (all_stored z) x.right right.code) (behind k)))
-          (mark_on table (all_rows z) i from m k place))
+      pub numbers_said : {r : Bool} → r ≡ all_seen_agree x.relation s → r ≡ all_below (λ k. numbers_say values table part sides (from + k)) (to - from)
+      numbers_said e =
+          e
+          ∙ ap (all_below (λ k. seen_agree x.relation s.values.now s.x s.y (mark_of s k) k)) on.count_is
+          ∙ all_ext _ _ (to - from) (λ k _. ap₂ beq (mark_is k)
+          (ap₂ (tested x.relation) (seen x.left left s.x (d.left_in h).0 on.left_stands on.left_top k) (seen x.right right s.y (d.right_in h).0 on.right_stands on.right_top k)))
         where
+          seen : (y : Term) (side : Side) (c : Column) → 4 ≤ z.lead + from + side.code → Stands (all_stored z) (z.lead + from) side.code y c → c.top ≡ side.top → (k : ℕ)
+              → seen_in s.values.now c k ≡ lane_seen values (all_stored z) y side (z.lead + (from + k))
+          seen y side c low stands top k =
+              ap₂ (λ (m : ℕ) (b : ℤ). under (pos m) b) top
+              (column_number (all_stored z) (z.lead + from) side.code low s.values.now y c k stands
+              ∙ ap₂ (λ (l : List ℕ) (row : ℕ). lane_number l (all_stored z) y side.code row) on.values_are (behind k))
+
+      pub lines_said : (drifts : List ℕ) {r : Bool} → r ≡ all_below (λ k. under_agree x.relation s.values.now drifts s.x s.y (mark_of s k) k) s.count
+          → r ≡ all_below (λ k. lines_say values table part sides drifts (from + k)) (to - from)
+      lines_said drifts e =
+          e
+          ∙ ap (all_below (λ k. under_agree x.relation s.values.now drifts s.x s.y (mark_of s k) k)) on.count_is
+          ∙ all_ext _ _ (to - from) (λ k _. ap₂ verdict_agrees
+          (same_verdict on.left_top (line x.left left.code s.x (d.left_in h).0 on.left_stands k) on.right_top (line x.right right.code s.y (d.right_in h).0 on.right_stands k))
+          (mark_is k))
+        where
+          line : (y : Term) (code : ℕ) (c : Column) → 4 ≤ z.lead + from + code → Stands (all_stored z) (z.lead + from) code y c → (k : ℕ)
+              → line_in s.values.now drifts c k ≡ lane_line values drifts (all_stored z) y code (z.lead + (from + k))
+          line y code c low stands k =
+              column_line (all_stored z) (z.lead + from) code low s.values.now drifts y c k stands
+              ∙ ap₂ (λ (l : List ℕ) (row : ℕ). lane_line l drifts (all_stored z) y code row) on.values_are (behind k)
+
           same_verdict : {a b : ℕ} {u v : Line} {e g : ℕ} {w y : Line} → a ≡ b → u ≡ v → e ≡ g → w ≡ y → judge_under x.relation (pos a) u (pos e) w ≡ judge_under x.relation (pos b) v (pos g) y
           same_verdict m n o p = rw (m, n, o, p) refl

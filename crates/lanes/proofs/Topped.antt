@@ -1,35 +1,33 @@
 -- Columns with tops: what the sweeps over them test is how what is seen in them compares, and which lines do not come to a top. Assumes
 -- nothing.
 use Prim.Native.Nat.{ℕ, ◌+◌, ◌*◌, ◌≤◌, ◌<◌}
-use native.Mathlib.Decide.{dec_lt}
 use native.Mathlib.Omega.{arith}
-use mathlib.Core.Path.{◌≡◌, refl, sym, ap, ap₂, ◌∙◌, subst}
+use mathlib.Core.Path.{◌≡◌, refl, sym, ap, ap₂, ◌∙◌}
 use mathlib.Core.Bool.{Bool, true, false, cond, not, ◌&&◌, ◌||◌, beq, and-eq-true_iff}
-use mathlib.Core.Logic.{by_cases}
 use mathlib.Core.List.{List}
 use lib.Dec.{ltb, leb, eqb}
-use lib.IntN.{ℤ, pos}
-use lib.Signed.{le_z}
+use lib.IntN.{ℤ, pos, sub_ℕ}
+use lib.Signed.{lt_z, le_z}
 use borrow.Author.Tests.{ltb-true, leb-true}
 use Rattle.cltlb.specs.Run.{Seen, number, pinned, is_top, is_pinned, under}
 use Rattle.fields.specs.inner.Biased.{bias, unbiased}
-use Rattle.fields.proofs.Differences.{pos_sub, sub_same, sub_pos}
+use Rattle.fields.proofs.Differences.{pos_sub, sub_same}
 use Rattle.plan.specs.inner.Lifted.{value_bias}
 use Rattle.table.specs.inner.Tables.{all_below}
-use Rattle.table.proofs.AllBelow.{all_ext}
+use Rattle.table.proofs.AllBelow.{all_ext, all_each}
 use Rattle.verdict.specs.Comparisons.{test_of, of_number, seen_pinned, of_numbers, tested, judge_lines}
 use Rattle.verdict.specs.Lines.{Line, level}
 use Rattle.verdict.specs.Stretches.{is_all, has_pass, common, passes_below, passes_at_most}
 use Rattle.verdict.specs.Tops.{passes_pinned, judge_on, judge_pinned, judge_free, judge_under}
 use Rattle.verdict.specs.declared.Relation.{Relation}
 use Rattle.verdict.specs.declared.Relation.TheVariants.{Below, Same, Within, Pinned}
-use Rattle.verdict.proofs.Decisions.{lifted, bias_le_z}
+use Rattle.verdict.proofs.Decisions.{lifted, by_lifted, bias_lt_z, bias_le_z}
 use Rattle.verdict.proofs.PassesBelow.{below_always, below_never, raised_lifted}
 use Rattle.verdict.proofs.UnderTops.{free_none, free_below, pinned_none, pinned_above}
-use Rattle.lanes.proofs.Comparing.{free_test, line_is}
+use Rattle.lanes.proofs.Comparing.{free_test}
 use Rattle.lanes.specs.declared.columns.Column.{Column}
-use Rattle.lanes.specs.inner.Agreement.{line_from, verdict_agrees, values_agree, lines_agree, seen_agree, under_agree, Free, StayFree}
-use Rattle.lanes.specs.inner.Columns.{number_in, drift_in, line_in}
+use Rattle.lanes.specs.inner.Agreement.{line_from, verdict_agrees, values_agree, lines_agree, seen_agree, under_agree, lies_below, Free, StayFree}
+use Rattle.lanes.specs.inner.Columns.{number_in, line_in, top_in}
 
 -- ---- a number under a top
 
@@ -79,38 +77,46 @@ module _ (relation : Relation) (values : List ℕ) (x y : Column) (mark : ℕ �
 free_without : (top : ℕ) (x : Line) → top ≡ 0 → Free (pos top) x
 free_without top x e = record { free = free_none x top e; pinned = pinned_none x top e }
 
-free_below_top : (top a d : ℕ) → (top ≡ 0 → ⊥) → a < top + bias → d ≤ bias → Free (pos top) (line_from a d)
-unfolding passes_below passes_at_most passes_pinned
-free_below_top top a d e h g = record {
-  free = sym (below_always bias bias a d (top + bias) bias h g) ∙ ap (passes_below (line_from a d)) at_top ∙ free_below (line_from a d) top e;
-  pinned = sym (below_never bias bias (top + bias) bias (a + 1) d (omega arith) g)
-      ∙ ap₂ passes_below at_top (sym (raised_lifted bias bias a d)) ∙ pinned_above (line_from a d) top e;
-}
-  where
-    at_top : lifted bias bias (top + bias) bias ≡ level (pos top)
-    at_top = rw (sub_pos (top + bias) bias (omega arith), sub_pos bias bias (omega arith)) (ap (λ (n : ℕ). level (pos n)) (omega arith))
+module _ (B D : ℕ) where
+  at_top : (top : ℕ) → pos top ≡ sub_ℕ (top + B) B
+  at_top top = pos_sub top ∙ sub_same top 0 (top + B) B (omega arith)
+
+  at_rest : pos 0 ≡ sub_ℕ D D
+  at_rest = pos_sub 0 ∙ sub_same 0 0 D D (omega arith)
+
+  -- lies below it and does not rise, by the numbers that are kept
+  pub below_lifted : (top a d : ℕ) → (ltb a (top + B) && leb d D) ≡ lies_below (pos top) (lifted B D a d)
+  below_lifted top a d =
+      ap₂ ◌&&◌ (sym (ap (lt_z (sub_ℕ a B)) (at_top top) ∙ bias_lt_z a (top + B) B))
+      (sym (ap (le_z (sub_ℕ d D)) at_rest ∙ bias_le_z d D D))
+
+  free_below_top : (top a d : ℕ) → (top ≡ 0 → ⊥) → a < top + B → d ≤ D → Free (pos top) (lifted B D a d)
+  unfolding passes_below passes_at_most passes_pinned
+  free_below_top top a d e h g = record {
+    free = sym (below_always B D a d (top + B) D h g) ∙ ap (passes_below (lifted B D a d)) top_line ∙ free_below (lifted B D a d) top e;
+    pinned = sym (below_never B D (top + B) D (a + 1) d (omega arith) g)
+        ∙ ap₂ passes_below top_line (sym (raised_lifted B D a d)) ∙ pinned_above (lifted B D a d) top e;
+  }
+    where
+      top_line : lifted B D (top + B) D ≡ level (pos top)
+      top_line = ap₂ (λ (m n : ℤ). record { at = m; step = n }) (sym (at_top top)) (sym at_rest)
+
+lies_free : (top : ℕ) (x : Line) → (top ≡ 0 → ⊥) → lies_below (pos top) x ≡ true → Free (pos top) x
+lies_free top x e =
+    by_lifted (λ x _. lies_below (pos top) x ≡ true → Free (pos top) x)
+    (λ B D a d _ _ s.
+    let v = (and-eq-true_iff (ltb a (top + B)) (leb d D)).0 (below_lifted B D top a d ∙ s) in
+    free_below_top B D top a d e (ltb-true a (top + B) v.0) (leb-true d D v.1)) x x
 
 module _ (values drifts : List ℕ) (x : Column) where
   pub stay_without : (count : ℕ) → x.top ≡ 0 → StayFree values drifts x count
   unfolding StayFree
   stay_without count e k l = free_without x.top (line_in values drifts x k) e
 
-  -- of no row, and of one more, in a sweep that says so
-  pub stay_none : StayFree values drifts x 0
+  -- and where a sweep says of all its rows that they lie below it and do not rise
+  pub stay_swept : (count : ℕ) → (x.top ≡ 0 → ⊥) → all_below (λ k. lies_below (top_in x) (line_in values drifts x k)) count ≡ true → StayFree values drifts x count
   unfolding StayFree
-  stay_none k l = absurd (omega arith)
-
-  pub stay_swept : (k : ℕ) (all : Bool) (a d : ℕ) → (x.top ≡ 0 → ⊥) → (all ≡ true → StayFree values drifts x k) → unbiased a ≡ number_in values x k → unbiased d ≡ drift_in drifts x k
-      → (all && (ltb a (x.top + bias) && leb d bias)) ≡ true → StayFree values drifts x (k + 1)
-  unfolding StayFree
-  stay_swept k all a d e s f g t j l =
-      let u = (and-eq-true_iff all (ltb a (x.top + bias) && leb d bias)).0 t in
-      let v = (and-eq-true_iff (ltb a (x.top + bias)) (leb d bias)).0 u.1 in
-      by_cases (dec_lt j k) (s u.0 j)
-      (λ n. let z : k ≡ j = omega arith in
-      subst (λ (i : ℕ). Free (pos x.top) (line_in values drifts x i)) z
-      (subst (Free (pos x.top)) (line_is a d f g)
-      (free_below_top x.top a d e (ltb-true a (x.top + bias) v.0) (leb-true d bias v.1))))
+  stay_swept count e s k l = lies_free x.top (line_in values drifts x k) e (all_each _ count s k l)
 
 -- Where neither line comes to its top, the verdict is the one on the lines,
 judged_below_tops : (relation : Relation) (s : ℤ) (x : Line) (t : ℤ) (y : Line) → Free s x → Free t y → judge_under relation s x t y ≡ judge_lines relation x y

@@ -9,22 +9,25 @@ use mathlib.Core.Logic.{by_cases}
 use mathlib.Core.List.{List}
 use lib.Dec.{ltb, eqb}
 use lib.IntN.{ℤ, sub_ℕ}
-use borrow.Author.Tests.{lt-ltb, le-ltb, eqb-true}
+use borrow.Author.Tests.{lt-ltb, le-ltb}
 use Rattle.cltlb.specs.Week.{week, minute_of}
 use Rattle.fields.specs.inner.Biased.{bias, patterns, unbiased}
 use Rattle.table.specs.inner.Tables.{all_below, mark_in}
-use Rattle.table.proofs.AllBelow.{all_ext}
+use Rattle.table.proofs.AllBelow.{all_ext, all_each}
+use Rattle.verdict.specs.Comparisons.{test_of}
+use Rattle.verdict.specs.Lines.{eq_z}
 use Rattle.verdict.specs.Weeks.{judge_spaced, judge_within}
-use Rattle.verdict.specs.declared.Relation.TheVariants.{Within}
+use Rattle.verdict.specs.declared.Relation.TheVariants.{Same, Within}
 use Rattle.verdict.specs.declared.Verdict.{Verdict}
+use Rattle.verdict.proofs.Decisions.{Decides, eq_decides}
 use Rattle.verdict.proofs.Euclid.{common_step}
 use Rattle.verdict.proofs.Minutes.{minute_sub, within_spaced}
 use Rattle.lanes.specs.declared.columns.Column.{Column}
 use Rattle.lanes.specs.declared.weeks.Spacing.{Spacing}
-use Rattle.lanes.specs.inner.Agreement.{verdict_agrees, values_agree, lines_agree}
+use Rattle.lanes.specs.inner.Agreement.{line_from, verdict_agrees, values_agree, lines_agree}
 use Rattle.lanes.specs.inner.Columns.{number_in, drift_in}
-use Rattle.lanes.specs.inner.Spacing.{Spaces, share_of, Shares, HaveDrifts, SameDrifts, spaced_says}
-use Rattle.lanes.proofs.Comparing.{level_numbers, spaced_agrees}
+use Rattle.lanes.specs.inner.Spacing.{Spaces, share_of, Shares, HaveDrifts, SameDrifts, same_drifts, spaced_says}
+use Rattle.lanes.proofs.Comparing.{numbers_same, level_numbers, spaced_agrees}
 
 -- ---- shares of a spacing
 
@@ -150,16 +153,11 @@ module _ (s : Spacing) {minutes left right : ℕ} (k : Spaces minutes left right
       early : ltb f s.once ≡ ltb l minutes
       early = bound (min minutes s.apart) (omega arith) k.once_is ∙ same_test l _ l minutes (λ u. omega arith) (λ u. omega arith)
 
--- One row of the stretch.
-pub row_says : (values : List ℕ) (x y : Column) (table : List ℕ) (m k a b : ℕ) (s : Spacing) → Spaces s.minutes s.left s.right s
-    → unbiased a ≡ number_in values x k → unbiased b ≡ number_in values y k
-    → {r : Bool} → r ≡ verdict_agrees (judge_spaced s.minutes s.apart (minute_of (sub_ℕ a b) % s.apart)) (mark_in table (m + k))
-    → r ≡ spaced_says values s.minutes s.left s.right x y table m k
-row_says values x y table m k a b s known e f i =
-    i
-    ∙ ap (λ (v : Verdict). verdict_agrees v (mark_in table (m + k)))
-    (within_spaced s.minutes bias bias a s.left b s.right refl known.apart_is refl
-    ∙ ap₂ (λ (p q : ℤ). judge_within s.minutes (record { at = p; step = unbiased s.left }) (record { at = q; step = unbiased s.right })) e f)
+-- and what it says of two lines
+pub lines_agree_by : (a b : ℕ) (s : Spacing) (mark : Bool) → Spaces s.minutes s.left s.right s → {r : Bool}
+    → r ≡ verdict_agrees (judge_spaced s.minutes s.apart (minute_of (sub_ℕ a b) % s.apart)) mark
+    → r ≡ verdict_agrees (judge_within s.minutes (line_from a s.left) (line_from b s.right)) mark
+lines_agree_by a b s mark known i = i ∙ ap (λ (v : Verdict). verdict_agrees v mark) (within_spaced s.minutes bias bias a s.left b s.right refl known.apart_is refl)
 
 -- ---- the spacing that is found
 
@@ -246,6 +244,14 @@ levels_say values n x y table m count h e =
     ap (spaced_says values n bias bias x y table m) z ∙ sym (level_numbers (Within n) (number_in values x k) (number_in values y k) (mark_in table (m + k))))
     ∙ ap (all_below (λ k. values_agree (Within n) values x y (mark_in table (m + k)) k)) (omega arith)
 
+eq_z-true : (a b : ℤ) → eq_z a b ≡ true → a ≡ b
+unfolding Decides
+eq_z-true a b = (eq_decides a b).0
+
+-- Two drifts are those of two steps.
+pub drifts_said : (p q left right : ℕ) {x y : ℤ} → unbiased p ≡ x → unbiased q ≡ y → (eqb p left && eqb q right) ≡ (test_of Same x (unbiased left) && test_of Same y (unbiased right))
+drifts_said p q left right e f = ap₂ ◌&&◌ (numbers_same p left e refl) (numbers_same q right f refl)
+
 -- Drifts that are the same so far.
 module _ (drifts : List ℕ) (x y : Column) (left right from : ℕ) where
   -- of no row, and of one more
@@ -258,14 +264,6 @@ module _ (drifts : List ℕ) (x y : Column) (left right from : ℕ) where
   unfolding HaveDrifts
   have_next end s e f k h l = by_cases (dec_lt k end) (s k h) (λ n. let z : end ≡ k = omega arith in (e ∙ ap (drift_in drifts x) z, f ∙ ap (drift_in drifts y) z))
 
-  -- in a sweep that says so
-  pub have_swept : (end : ℕ) (all : Bool) (p q : ℕ) → (all ≡ true → HaveDrifts drifts x y left right from end) → unbiased p ≡ drift_in drifts x end → unbiased q ≡ drift_in drifts y end
-      → (all && (eqb p left && eqb q right)) ≡ true → HaveDrifts drifts x y left right from (end + 1)
-  have_swept end all p q h e f t =
-      let s = (and-eq-true_iff all (eqb p left && eqb q right)).0 t in
-      let u = (and-eq-true_iff (eqb p left) (eqb q right)).0 s.1 in
-      have_next end (h s.0) (ap unbiased (sym (eqb-true p left u.0)) ∙ e) (ap unbiased (sym (eqb-true q right u.1)) ∙ f)
-
   pub same_first : unbiased left ≡ drift_in drifts x from → unbiased right ≡ drift_in drifts y from → SameDrifts drifts x y left right from (from + 1)
   same_first e f = record { on = omega arith; same = have_next from have_none e f }
 
@@ -274,12 +272,15 @@ module _ (drifts : List ℕ) (x y : Column) (left right from : ℕ) where
   same_next end s e f = record { on = (let h = s.on in omega arith); same = have_next end s.same e f }
 
   -- several rows more, of which a sweep says so
-  pub same_block : (end next : ℕ) (all : Bool) → SameDrifts drifts x y left right from end → end ≤ next → (all ≡ true → HaveDrifts drifts x y left right end next) → not all ≡ false
-      → SameDrifts drifts x y left right from next
+  pub same_block : (end next : ℕ) (all : Bool) → SameDrifts drifts x y left right from end → end ≤ next
+      → all ≡ all_below (λ k. same_drifts drifts x y left right (end + k)) (next - end) → not all ≡ false → SameDrifts drifts x y left right from next
   unfolding HaveDrifts
   same_block end next all s g h e = record {
     on = (let l = s.on in omega arith);
-    same = λ k l u. by_cases (dec_lt k end) (s.same k l) (λ n. h (yes all e) k (omega arith) u);
+    same = λ k l u. by_cases (dec_lt k end) (s.same k l) (λ n.
+        let i : end + (k - end) ≡ k = omega arith in
+        let both = (and-eq-true_iff _ _).0 (all_each (λ j. same_drifts drifts x y left right (end + j)) (next - end) (sym h ∙ yes all e) (k - end) (omega arith)) in
+        (sym (eq_z-true _ _ both.0) ∙ ap (drift_in drifts x) i, sym (eq_z-true _ _ both.1) ∙ ap (drift_in drifts y) i));
   }
     where
       yes : (b : Bool) → not b ≡ false → b ≡ true

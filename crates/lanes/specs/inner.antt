@@ -7,3 +7,4 @@ pub mod Positions
 pub mod Ranges
 pub mod Spacing
 pub mod Still
+pub mod Stretches

@@ -1,10 +1,11 @@
 // An array of a plan laid out as lanes: all rows of channel 0, the lead-in rows first, then all of channel 1, and on.
-ghost use Rattle.std.specs.Prelude.{◌≡◌, ◌+◌, ◌*◌, ◌<◌, length};
-ghost use Rattle.plan.specs.Layout.{readings, drifts};
-ghost use Rattle.plan.specs.inner.Sizes.{all_stored, most_array, Fitting};
+ghost use Rattle.std.specs.Prelude.{◌≡◌, ◌+◌, ◌*◌, ◌≤◌, ◌<◌, length, slice_range};
+ghost use Rattle.plan.specs.Layout.{array_length, readings, drifts};
+ghost use Rattle.plan.specs.inner.Sizes.{all_stored, most_array};
 ghost use Rattle.lanes.specs.inner.Lanes.{LaidTo, Laid, Room};
 
 use fields::{put_u32, u32_at};
+use plan::Plan;
 use plan::layout::{array_length, cell_of, drifts_start, head_length};
 use plan::sizes::Sizes;
 
@@ -17,12 +18,10 @@ fn lay_channel(array: &[u8], sizes: Sizes, channel: usize, lanes: &mut [u8])
     ensures { (length lanes.new ≡ length lanes.old) × (LaidTo array.now sizes.channels (all_stored sizes) lanes.new (channel * all_stored sizes + all_stored sizes)) }
 {
     let stored = sizes.lead + (sizes.start + sizes.cycle);
-    let mut k = 0;
-    while k < stored {
+    for k in 0..stored {
         let to = 4 * (channel * stored + k);
         let x = u32_at(array, 4 * cell_of(sizes, k, channel));
         put_u32(&mut lanes[to..], x);
-        k += 1;
     }
 }
 
@@ -31,29 +30,33 @@ fn lay_out(array: &[u8], sizes: Sizes, lanes: &mut [u8])
     requires { Room array.now sizes.channels (all_stored sizes) lanes.old }
     ensures { Laid array.now sizes.channels (all_stored sizes) lanes.new }
 {
-    let mut channel = 0;
-    while channel < sizes.channels {
+    for channel in 0..sizes.channels {
         lay_channel(array, sizes, channel, lanes);
-        channel += 1;
     }
 }
 
-// The readings of a plan.
-pub fn lay_readings(plan: &[u8], sizes: Sizes, lanes: &mut [u8])
-    requires { (Fitting plan.now sizes) × (length lanes.old ≡ most_array) }
-    ensures { Laid (readings plan.now) sizes.channels (all_stored sizes) lanes.new }
+// The array of a plan that begins at `start`.
+fn lay_array(plan: &Plan, start: usize, lanes: &mut [u8])
+    requires { (length lanes.old ≡ most_array) × (start + array_length plan.now.sizes.channels (all_stored plan.now.sizes) ≤ length plan.now.bytes.now) }
+    ensures { Laid (slice_range plan.now.bytes.now start (start + array_length plan.now.sizes.channels (all_stored plan.now.sizes))) plan.now.sizes.channels (all_stored plan.now.sizes) lanes.new }
 {
-    let a = head_length(sizes);
-    let b = drifts_start(sizes);
-    lay_out(&plan[a..b], sizes, lanes);
+    let sizes = plan.sizes;
+    let end = start + array_length(sizes);
+    lay_out(&plan.bytes[start..end], sizes, lanes);
+}
+
+// The readings of a plan.
+pub fn lay_readings(plan: &Plan, lanes: &mut [u8])
+    requires { length lanes.old ≡ most_array }
+    ensures { Laid (readings plan.now.bytes.now) plan.now.sizes.channels (all_stored plan.now.sizes) lanes.new }
+{
+    lay_array(plan, head_length(plan.sizes), lanes);
 }
 
 // The drifts of a plan.
-pub fn lay_drifts(plan: &[u8], sizes: Sizes, lanes: &mut [u8])
-    requires { (Fitting plan.now sizes) × (length lanes.old ≡ most_array) }
-    ensures { Laid (drifts plan.now) sizes.channels (all_stored sizes) lanes.new }
+pub fn lay_drifts(plan: &Plan, lanes: &mut [u8])
+    requires { length lanes.old ≡ most_array }
+    ensures { Laid (drifts plan.now.bytes.now) plan.now.sizes.channels (all_stored plan.now.sizes) lanes.new }
 {
-    let b = drifts_start(sizes);
-    let e = b + array_length(sizes);
-    lay_out(&plan[b..e], sizes, lanes);
+    lay_array(plan, drifts_start(plan.sizes), lanes);
 }

@@ -7,6 +7,7 @@ pub mod columns;
 pub mod layout;
 pub mod ranges;
 pub mod rows;
+pub mod stretch;
 pub mod sweeps;
 pub mod tops;
 pub mod weeks;

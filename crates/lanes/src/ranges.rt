@@ -5,7 +5,6 @@ ghost use Rattle.plan.specs.inner.Sizes.{all_rows};
 ghost use Rattle.lanes.specs.inner.Ranges.{Divides};
 
 use plan::sizes::Sizes;
-use verdict::bounds::{larger, less_by, smaller};
 
 // At positions below `before` a term is read before the run; from there up to `numbers` the numbers of the lead-in and of pass 0 tell
 // all, and from there up to `end` the lines that begin there. Those from `end` up to W + back, at most eight, are not direct.
@@ -20,10 +19,7 @@ pub struct Ranges {
 fn told_by_numbers(still: bool, lines: usize, inside: usize) -> usize
     ensures { result ≡ cond still inside (min lines inside) }
 {
-    if still {
-        return inside;
-    }
-    smaller(lines, inside)
+    if still { inside } else { lines.min(inside) }
 }
 
 pub fn ranges_of(sizes: Sizes, back: usize, high: usize, still: bool) -> Ranges
@@ -31,13 +27,13 @@ pub fn ranges_of(sizes: Sizes, back: usize, high: usize, still: bool) -> Ranges
     ensures { Divides sizes back high still result }
 {
     let w = sizes.start + sizes.cycle;
-    let inside = less_by(w, less_by(high, 4));
-    let before = smaller(less_by(back, sizes.lead), w);
-    let numbers = larger(before, told_by_numbers(still, sizes.start + back, inside));
-    let end = larger(numbers, inside);
+    let inside = w.saturating_sub(high.saturating_sub(4));
+    let before = back.saturating_sub(sizes.lead).min(w);
+    let numbers = before.max(told_by_numbers(still, sizes.start + back, inside));
+    let end = numbers.max(inside);
     Ranges {
-        before: before,
-        numbers: numbers,
-        end: end,
+        before,
+        numbers,
+        end,
     }
 }

@@ -1,16 +1,18 @@
 // Sweeps over two columns and the marks of a part. Each goes through all its rows and leaves none early, so that the compiler can
 // take many at once; but for equalities of lines that drift, where each row may need a remainder.
-ghost use Rattle.std.specs.Prelude.{◌≡◌, ◌+◌};
-ghost use Rattle.table.specs.inner.Tables.{all_below, mark_in};
+ghost use Rattle.std.specs.Prelude.{◌≡◌};
+ghost use Rattle.table.specs.inner.Tables.{all_below};
 ghost use Rattle.fields.specs.inner.Biased.{unbiased};
 ghost use Rattle.verdict.specs.Comparisons.{test_of};
 ghost use Rattle.verdict.specs.declared.Relation.TheVariants.{Below, Same};
 ghost use Rattle.verdict.specs.Lines.{judge_less, judge_equal};
-ghost use Rattle.lanes.specs.inner.Agreement.{line_from, verdict_agrees, stays, values_agree, lines_agree};
-ghost use Rattle.lanes.specs.inner.Columns.{line_in, InLanes, InMarks};
+ghost use Rattle.lanes.specs.inner.Agreement.{line_from, verdict_agrees, stays};
+ghost use Rattle.lanes.specs.inner.Columns.{line_in};
+ghost use Rattle.lanes.specs.inner.Stretches.{all_values_agree, all_lines_agree};
 
-use crate::columns::{Column, drift, number};
+use crate::stretch::{Lines, Stretch};
 use crate::weeks::{within_lines, within_values};
+use table::all::all_hold;
 use table::sweeps::{agree, none_marked};
 use verdict::weeks::minutes_after;
 use verdict::{Relation, Verdict};
@@ -28,39 +30,29 @@ pub fn numbers_compare(relation: Relation, a: u64, b: u64) -> bool
 }
 
 // The marks say whether the left number is below the right one.
-fn less_values(values: &[u8], x: Column, y: Column, table: &[u8], m: usize, count: usize) -> bool
-    requires { (InLanes values.now x y count) × (InMarks table.now m count) }
-    ensures { result ≡ all_below (λ k. values_agree Below values.now x y (mark_in table.now (m + k)) k) count }
+fn less_values(stretch: &Stretch) -> bool
+    ensures { result ≡ all_values_agree Below stretch.now }
 {
-    let mut all = true;
-    let mut k = 0;
-    while k < count {
-        all = all
-            & agree(
-                table[m + k] == 1,
-                number(values, x, k) < number(values, y, k),
-            );
-        k += 1;
-    }
-    all
+    all_hold(
+        stretch.count,
+        |k| agree(
+            stretch.mark(k),
+            stretch.left_number(k) < stretch.right_number(k),
+        ),
+    )
 }
 
 // The marks say whether the two numbers are the same.
-fn same_values(values: &[u8], x: Column, y: Column, table: &[u8], m: usize, count: usize) -> bool
-    requires { (InLanes values.now x y count) × (InMarks table.now m count) }
-    ensures { result ≡ all_below (λ k. values_agree Same values.now x y (mark_in table.now (m + k)) k) count }
+fn same_values(stretch: &Stretch) -> bool
+    ensures { result ≡ all_values_agree Same stretch.now }
 {
-    let mut all = true;
-    let mut k = 0;
-    while k < count {
-        all = all
-            & agree(
-                table[m + k] == 1,
-                number(values, x, k) == number(values, y, k),
-            );
-        k += 1;
-    }
-    all
+    all_hold(
+        stretch.count,
+        |k| agree(
+            stretch.mark(k),
+            stretch.left_number(k) == stretch.right_number(k),
+        ),
+    )
 }
 
 // The mark of a row says whether a line that begins at a and gains d on each pass is below one from b that gains e, on every pass.
@@ -72,32 +64,20 @@ fn less_agrees(mark: bool, a: u64, d: u64, b: u64, e: u64) -> bool
 }
 
 // The marks say on every pass whether the left line is below the right one.
-fn less_lines(
-    values: &[u8],
-    drifts: &[u8],
-    x: Column,
-    y: Column,
-    table: &[u8],
-    m: usize,
-    count: usize,
-) -> bool
-    requires { (InLanes values.now x y count) × (InLanes drifts.now x y count) × (InMarks table.now m count) }
-    ensures { result ≡ all_below (λ k. lines_agree Below values.now drifts.now x y (mark_in table.now (m + k)) k) count }
+fn less_lines(lines: &Lines) -> bool
+    ensures { result ≡ all_lines_agree Below lines.now }
 {
-    let mut all = true;
-    let mut k = 0;
-    while k < count {
-        all = all
-            & less_agrees(
-                table[m + k] == 1,
-                number(values, x, k),
-                drift(drifts, x, k),
-                number(values, y, k),
-                drift(drifts, y, k),
-            );
-        k += 1;
-    }
-    all
+    let stretch = &lines.stretch;
+    all_hold(
+        stretch.count,
+        |k| less_agrees(
+            stretch.mark(k),
+            stretch.left_number(k),
+            lines.left_drift(k),
+            stretch.right_number(k),
+            lines.right_drift(k),
+        ),
+    )
 }
 
 // Whether two such lines are the same is on every pass what it is at first.
@@ -123,21 +103,19 @@ fn same_stays(a: u64, d: u64, b: u64, e: u64) -> bool
 }
 
 // Whether the two lines are the same is on every pass what it is at first, on all rows.
-fn same_stay(values: &[u8], drifts: &[u8], x: Column, y: Column, count: usize) -> bool
-    requires { (InLanes values.now x y count) × (InLanes drifts.now x y count) }
-    ensures { result ≡ all_below (λ k. stays (judge_equal (line_in values.now drifts.now x k) (line_in values.now drifts.now y k))) count }
+fn same_stay(lines: &Lines) -> bool
+    ensures { result ≡ all_below (λ k. stays (judge_equal (line_in lines.now.stretch.values.now lines.now.drifts.now lines.now.stretch.x k) (line_in lines.now.stretch.values.now lines.now.drifts.now lines.now.stretch.y k))) lines.now.stretch.count }
 {
-    let mut k = 0;
-    while k < count {
+    let stretch = &lines.stretch;
+    for k in 0..stretch.count {
         if !same_stays(
-            number(values, x, k),
-            drift(drifts, x, k),
-            number(values, y, k),
-            drift(drifts, y, k),
+            stretch.left_number(k),
+            lines.left_drift(k),
+            stretch.right_number(k),
+            lines.right_drift(k),
         ) {
             return false;
         }
-        k += 1;
     }
     true
 }
@@ -154,52 +132,32 @@ pub fn verdict_agrees(verdict: Verdict, mark: bool) -> bool
 }
 
 // The marks say how the two numbers compare.
-pub fn values_agree(
-    values: &[u8],
-    relation: Relation,
-    x: Column,
-    y: Column,
-    table: &[u8],
-    m: usize,
-    count: usize,
-) -> bool
-    requires { (InLanes values.now x y count) × (InMarks table.now m count) }
-    ensures { result ≡ all_below (λ k. values_agree relation values.now x y (mark_in table.now (m + k)) k) count }
+pub fn values_agree(stretch: &Stretch, relation: Relation) -> bool
+    ensures { result ≡ all_values_agree relation stretch.now }
 {
     match relation {
-        Relation::Below => less_values(values, x, y, table, m, count),
-        Relation::Same => same_values(values, x, y, table, m, count),
-        Relation::Within(minutes) => within_values(values, minutes, x, y, table, m, count),
-        Relation::Pinned => none_marked(table, m, count),
+        Relation::Below => less_values(stretch),
+        Relation::Same => same_values(stretch),
+        Relation::Within(minutes) => within_values(stretch, minutes),
+        Relation::Pinned => none_marked(stretch.table, stretch.m, stretch.count),
     }
 }
 
 // The marks say on every pass how the two lines compare.
-pub fn lines_agree(
-    values: &[u8],
-    drifts: &[u8],
-    relation: Relation,
-    x: Column,
-    y: Column,
-    table: &[u8],
-    m: usize,
-    count: usize,
-) -> bool
-    requires { (InLanes values.now x y count) × (InLanes drifts.now x y count) × (InMarks table.now m count) }
-    ensures { result ≡ all_below (λ k. lines_agree relation values.now drifts.now x y (mark_in table.now (m + k)) k) count }
+pub fn lines_agree(lines: &Lines, relation: Relation) -> bool
+    ensures { result ≡ all_lines_agree relation lines.now }
 {
+    let stretch = &lines.stretch;
     match relation {
-        Relation::Below => less_lines(values, drifts, x, y, table, m, count),
+        Relation::Below => less_lines(lines),
         Relation::Same => {
-            if same_values(values, x, y, table, m, count) {
-                same_stay(values, drifts, x, y, count)
+            if same_values(stretch) {
+                same_stay(lines)
             } else {
                 false
             }
         }
-        Relation::Within(minutes) => {
-            within_lines(values, drifts, minutes, x, y, table, m, count)
-        }
-        Relation::Pinned => none_marked(table, m, count),
+        Relation::Within(minutes) => within_lines(lines, minutes),
+        Relation::Pinned => none_marked(stretch.table, stretch.m, stretch.count),
     }
 }

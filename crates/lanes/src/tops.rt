@@ -4,16 +4,18 @@ ghost use Rattle.std.specs.Prelude.{◌≡◌, true, ◌+◌, ◌≤◌, ◌<◌
 ghost use Rattle.cltlb.specs.Run.{is_pinned, under};
 ghost use Rattle.fields.specs.inner.Biased.{patterns, bias, unbiased};
 ghost use Rattle.plan.specs.inner.Sizes.{most_array};
-ghost use Rattle.table.specs.inner.Tables.{all_below, mark_in};
 ghost use Rattle.verdict.specs.Comparisons.{tested};
 ghost use Rattle.verdict.specs.Tops.{judge_under};
-ghost use Rattle.lanes.specs.inner.Agreement.{line_from, verdict_agrees, seen_agree, under_agree, StayFree};
-ghost use Rattle.lanes.specs.inner.Columns.{Reaches, InLanes, InMarks};
+ghost use Rattle.lanes.specs.inner.Agreement.{line_from, verdict_agrees, lies_below, StayFree};
+ghost use Rattle.lanes.specs.inner.Columns.{Reaches};
+ghost use Rattle.lanes.specs.inner.Stretches.{all_seen_agree, all_under_agree};
 
 use crate::columns::{Column, drift, number};
+use crate::stretch::{Lines, Stretch};
 use crate::sweeps::{lines_agree, numbers_compare, values_agree, verdict_agrees};
 use fields::BIAS;
 use plan::lookup::LAST_PASS;
+use table::all::all_hold;
 use table::sweeps::agree;
 use verdict::Relation;
 use verdict::lines::LiftedLine;
@@ -42,31 +44,16 @@ pub fn seen_compare(relation: Relation, s: u64, a: u64, t: u64, b: u64) -> bool
 }
 
 // The marks say how what is seen in two columns compares.
-fn topped_values(
-    values: &[u8],
-    relation: Relation,
-    x: Column,
-    y: Column,
-    table: &[u8],
-    m: usize,
-    count: usize,
-) -> bool
-    requires { (InLanes values.now x y count) × (InMarks table.now m count) × (x.top < bias) × (y.top < bias) }
-    ensures { result ≡ all_below (λ k. seen_agree relation values.now x y (mark_in table.now (m + k)) k) count }
+fn topped_values(stretch: &Stretch, relation: Relation) -> bool
+    ensures { result ≡ all_seen_agree relation stretch.now }
 {
-    let mut all = true;
-    let mut k = 0;
-    while k < count {
-        let a = number(values, x, k);
-        let b = number(values, y, k);
-        all = all
-            & agree(
-                table[m + k] == 1,
-                seen_compare(relation, x.top, a, y.top, b),
-            );
-        k += 1;
-    }
-    all
+    let x = stretch.x;
+    let y = stretch.y;
+    all_hold(stretch.count, |k| {
+        let a = stretch.left_number(k);
+        let b = stretch.right_number(k);
+        agree(stretch.mark(k), seen_compare(relation, x.top, a, y.top, b))
+    })
 }
 
 // The mark of a row says on every pass how a line that begins at a and gains d on each pass compares with one from b that gains e, each
@@ -96,30 +83,27 @@ fn under_agrees(
 }
 
 // The marks say on every pass how the lines of two columns compare under their tops.
-fn topped_lines(
-    values: &[u8],
-    drifts: &[u8],
-    relation: Relation,
-    x: Column,
-    y: Column,
-    table: &[u8],
-    m: usize,
-    count: usize,
-) -> bool
-    requires { (InLanes values.now x y count) × (InLanes drifts.now x y count) × (InMarks table.now m count) × (x.top < bias) × (y.top < bias) }
-    ensures { result ≡ all_below (λ k. under_agree relation values.now drifts.now x y (mark_in table.now (m + k)) k) count }
+fn topped_lines(lines: &Lines, relation: Relation) -> bool
+    ensures { result ≡ all_under_agree relation lines.now }
 {
-    let mut all = true;
-    let mut k = 0;
-    while k < count {
-        let a = number(values, x, k);
-        let d = drift(drifts, x, k);
-        let b = number(values, y, k);
-        let e = drift(drifts, y, k);
-        all = all & under_agrees(relation, table[m + k] == 1, x.top, a, d, y.top, b, e);
-        k += 1;
-    }
-    all
+    let stretch = &lines.stretch;
+    let x = stretch.x;
+    let y = stretch.y;
+    all_hold(stretch.count, |k| {
+        let a = stretch.left_number(k);
+        let d = lines.left_drift(k);
+        let b = stretch.right_number(k);
+        let e = lines.right_drift(k);
+        under_agrees(relation, stretch.mark(k), x.top, a, d, y.top, b, e)
+    })
+}
+
+// A line that begins at a and gains d on each pass lies below its top, and does not rise.
+fn lies_below(top: u64, a: u64, d: u64) -> bool
+    requires { top < bias }
+    ensures { result ≡ lies_below (pos top) (line_from a d) }
+{
+    (a < top + BIAS) & (d <= BIAS)
 }
 
 // No line of a column comes to its top: each lies below it and does not rise.
@@ -130,55 +114,33 @@ fn stays_free(values: &[u8], drifts: &[u8], x: Column, count: usize) -> bool
     if x.top == 0 {
         return true;
     }
-    let end = x.top + BIAS;
-    let mut all = true;
-    let mut k = 0;
-    while k < count {
-        all = all & ((number(values, x, k) < end) & (drift(drifts, x, k) <= BIAS));
-        k += 1;
-    }
-    all
+    all_hold(
+        count,
+        |k| lies_below(x.top, number(values, x, k), drift(drifts, x, k)),
+    )
 }
 
 // The marks say how what is seen in two columns compares.
-pub fn seen_agree(
-    values: &[u8],
-    relation: Relation,
-    x: Column,
-    y: Column,
-    table: &[u8],
-    m: usize,
-    count: usize,
-) -> bool
-    requires { (InLanes values.now x y count) × (InMarks table.now m count) × (x.top < bias) × (y.top < bias) }
-    ensures { result ≡ all_below (λ k. seen_agree relation values.now x y (mark_in table.now (m + k)) k) count }
+pub fn seen_agree(stretch: &Stretch, relation: Relation) -> bool
+    ensures { result ≡ all_seen_agree relation stretch.now }
 {
-    if x.top == 0 {
-        if y.top == 0 {
-            return values_agree(values, relation, x, y, table, m, count);
+    if stretch.x.top == 0 {
+        if stretch.y.top == 0 {
+            return values_agree(stretch, relation);
         }
     }
-    topped_values(values, relation, x, y, table, m, count)
+    topped_values(stretch, relation)
 }
 
 // The marks say on every pass how the lines of two columns compare under their tops.
-pub fn under_agree(
-    values: &[u8],
-    drifts: &[u8],
-    relation: Relation,
-    x: Column,
-    y: Column,
-    table: &[u8],
-    m: usize,
-    count: usize,
-) -> bool
-    requires { (InLanes values.now x y count) × (InLanes drifts.now x y count) × (InMarks table.now m count) × (x.top < bias) × (y.top < bias) }
-    ensures { result ≡ all_below (λ k. under_agree relation values.now drifts.now x y (mark_in table.now (m + k)) k) count }
+pub fn under_agree(lines: &Lines, relation: Relation) -> bool
+    ensures { result ≡ all_under_agree relation lines.now }
 {
-    if stays_free(values, drifts, x, count) {
-        if stays_free(values, drifts, y, count) {
-            return lines_agree(values, drifts, relation, x, y, table, m, count);
+    let stretch = &lines.stretch;
+    if stays_free(stretch.values, lines.drifts, stretch.x, stretch.count) {
+        if stays_free(stretch.values, lines.drifts, stretch.y, stretch.count) {
+            return lines_agree(lines, relation);
         }
     }
-    topped_lines(values, drifts, relation, x, y, table, m, count)
+    topped_lines(lines, relation)
 }

@@ -5,16 +5,17 @@ ghost use Rattle.std.specs.Prelude.{◌≡◌, true, ◌+◌, ◌*◌, ◌-◌, 
 ghost use Rattle.std.proofs.Math.IntN.{sub_ℕ};
 ghost use Rattle.cltlb.specs.Week.{minute_of};
 ghost use Rattle.fields.specs.inner.Biased.{patterns, unbiased};
-ghost use Rattle.table.specs.inner.Tables.{all_below, mark_in};
+ghost use Rattle.table.specs.inner.Tables.{all_below};
 ghost use Rattle.verdict.specs.declared.Relation.TheVariants.{Within};
-ghost use Rattle.verdict.specs.Weeks.{judge_spaced};
-ghost use Rattle.lanes.specs.inner.Agreement.{verdict_agrees, values_agree, lines_agree};
-ghost use Rattle.lanes.specs.inner.Columns.{drift_in, InLanes, InMarks};
-ghost use Rattle.lanes.specs.inner.Spacing.{Spaces, share_of, Shares, HaveDrifts, SameDrifts, spaced_says};
+ghost use Rattle.verdict.specs.Weeks.{judge_within};
+ghost use Rattle.lanes.specs.inner.Agreement.{line_from, verdict_agrees};
+ghost use Rattle.lanes.specs.inner.Columns.{drift_in};
+ghost use Rattle.lanes.specs.inner.Spacing.{Spaces, share_of, Shares, SameDrifts, same_drifts, spaced_says};
+ghost use Rattle.lanes.specs.inner.Stretches.{all_values_agree, all_lines_agree};
 
-use crate::columns::{Column, drift, number};
+use crate::stretch::{Lines, Stretch};
 use fields::BIAS;
-use verdict::bounds::{less_by, smaller};
+use table::all::all_hold;
 use verdict::weeks::{WEEK, minutes_after, spacing};
 
 // All shares of a spacing, and the part of them by which a share may fall short.
@@ -46,20 +47,17 @@ fn spacing_of(minutes: u64, left: u64, right: u64) -> Spacing
     let apart = spacing(minutes_after(left, right));
     let inverse = (WHOLE - 1) / apart;
     let over = WHOLE - inverse * apart;
-    let once = smaller(minutes as usize, apart as usize);
-    let always = less_by(
-        smaller(minutes as usize, WEEK as usize),
-        (WEEK - apart) as usize,
-    );
+    let once = minutes.min(apart);
+    let always = minutes.min(WEEK).saturating_sub(WEEK - apart);
     Spacing {
-        minutes: minutes,
-        left: left,
-        right: right,
+        minutes,
+        left,
+        right,
         apart: apart as u32,
         inverse: inverse as u32,
         rest: ((over * 65536 - 1) / apart * 65536) as u32,
-        always: ((always as u64) * inverse) as u32,
-        once: ((once as u64) * inverse) as u32,
+        always: (always * inverse) as u32,
+        once: (once * inverse) as u32,
     }
 }
 
@@ -83,7 +81,7 @@ fn share_after(a: u64, b: u64, known: Spacing) -> u32
 // The mark says on every pass whether the first of two such lines, which begin at a and b, is less than so many minutes after the other.
 fn spaced_agrees(mark: bool, known: Spacing, a: u64, b: u64) -> bool
     requires { (a < patterns) × (b < patterns) × (Spaces known.minutes known.left known.right known) }
-    ensures { result ≡ verdict_agrees (judge_spaced known.minutes known.apart (minute_of (sub_ℕ a b) % known.apart)) mark }
+    ensures { result ≡ verdict_agrees (judge_within known.minutes (line_from a known.left) (line_from b known.right)) mark }
 {
     let share = share_after(a, b, known);
     (mark & (share < known.always)) | !(mark | (share < known.once))
@@ -91,92 +89,52 @@ fn spaced_agrees(mark: bool, known: Spacing, a: u64, b: u64) -> bool
 
 // The marks of the rows from one up to another, on which the lines have one spacing, say on every pass whether the left line is less
 // than so many minutes after the right one.
-fn within_stretch(
-    values: &[u8],
-    known: Spacing,
-    x: Column,
-    y: Column,
-    table: &[u8],
-    m: usize,
-    from: usize,
-    to: usize,
-) -> bool
-    requires { (InLanes values.now x y to) × (InMarks table.now m to) × (from ≤ to) × (Spaces known.minutes known.left known.right known) }
-    ensures { result ≡ all_below (λ k. spaced_says values.now known.minutes known.left known.right x y table.now m (from + k)) (to - from) }
+fn within_stretch(stretch: &Stretch, known: Spacing, from: usize, to: usize) -> bool
+    requires { (from ≤ to) × (to ≤ stretch.now.count) × (Spaces known.minutes known.left known.right known) }
+    ensures { result ≡ all_below (λ k. spaced_says stretch.now.values.now known.minutes known.left known.right stretch.now.x stretch.now.y stretch.now.table.now stretch.now.m (from + k)) (to - from) }
 {
-    let count = to - from;
-    let mut all = true;
-    let mut k = 0;
-    while k < count {
+    all_hold(to - from, |k| {
         let row = from + k;
-        all = all
-            & spaced_agrees(
-                table[m + row] == 1,
-                known,
-                number(values, x, row),
-                number(values, y, row),
-            );
-        k += 1;
-    }
-    all
+        spaced_agrees(
+            stretch.mark(row),
+            known,
+            stretch.left_number(row),
+            stretch.right_number(row),
+        )
+    })
 }
 
 // The marks say whether the left number is less than so many minutes after the right one: as of lines that do not drift.
-pub fn within_values(
-    values: &[u8],
-    minutes: u64,
-    x: Column,
-    y: Column,
-    table: &[u8],
-    m: usize,
-    count: usize,
-) -> bool
-    requires { (InLanes values.now x y count) × (InMarks table.now m count) }
-    ensures { result ≡ all_below (λ k. values_agree (Within minutes) values.now x y (mark_in table.now (m + k)) k) count }
+pub fn within_values(stretch: &Stretch, minutes: u64) -> bool
+    ensures { result ≡ all_values_agree (Within minutes) stretch.now }
 {
     let known = spacing_of(minutes, BIAS, BIAS);
-    within_stretch(values, known, x, y, table, m, 0, count)
+    within_stretch(stretch, known, 0, stretch.count)
 }
 
 // All rows from one up to another have these drifts; none is left early, so that the compiler can take many at once.
-fn have_drifts(
-    drifts: &[u8],
-    x: Column,
-    y: Column,
-    left: u64,
-    right: u64,
-    from: usize,
-    to: usize,
-) -> bool
-    requires { (InLanes drifts.now x y to) × (from ≤ to) }
-    ensures { result ≡ true → HaveDrifts drifts.now x y left right from to }
+#[tactic(auto, using(crate::proofs::Windows::drifts_said))]
+fn have_drifts(lines: &Lines, left: u64, right: u64, from: usize, to: usize) -> bool
+    requires { (from ≤ to) × (to ≤ lines.now.stretch.count) }
+    ensures { result ≡ all_below (λ k. same_drifts lines.now.drifts.now lines.now.stretch.x lines.now.stretch.y left right (from + k)) (to - from) }
 {
-    let mut all = true;
-    let mut row = from;
-    while row < to {
-        all = all & ((drift(drifts, x, row) == left) & (drift(drifts, y, row) == right));
-        row += 1;
-    }
-    all
+    all_hold(
+        to - from,
+        |k| (lines.left_drift(from + k) == left) & (lines.right_drift(from + k) == right),
+    )
 }
 
 // The end of the blocks of rows after `from` that have these drifts, which that row has.
-fn blocks_end(
-    drifts: &[u8],
-    x: Column,
-    y: Column,
-    left: u64,
-    right: u64,
-    from: usize,
-    count: usize,
-) -> usize
-    requires { (InLanes drifts.now x y count) × (from < count) × (unbiased left ≡ drift_in drifts.now x from) × (unbiased right ≡ drift_in drifts.now y from) }
-    ensures { (result ≤ count) × (SameDrifts drifts.now x y left right from result) }
+fn blocks_end(lines: &Lines, left: u64, right: u64, from: usize) -> usize
+    requires { (from < lines.now.stretch.count) × (unbiased left ≡ drift_in lines.now.drifts.now lines.now.stretch.x from) × (unbiased right ≡ drift_in lines.now.drifts.now lines.now.stretch.y from) }
+    ensures { (result ≤ lines.now.stretch.count) × (SameDrifts lines.now.drifts.now lines.now.stretch.x lines.now.stretch.y left right from result) }
 {
+    let count = lines.stretch.count;
     let mut end = from + 1;
+    // No `for`: each step is a block long, and the last rows that fill none are left.
     while BLOCK <= count - end {
         let next = end + BLOCK;
-        if !have_drifts(drifts, x, y, left, right, end, next) {
+        if !have_drifts(lines, left, right, end, next) {
             return end;
         }
         end = next;
@@ -185,53 +143,36 @@ fn blocks_end(
 }
 
 // The end of the stretch of rows from `from` on that have these drifts, which that row has: whole blocks, and row by row from there on.
-fn stretch_end(
-    drifts: &[u8],
-    x: Column,
-    y: Column,
-    left: u64,
-    right: u64,
-    from: usize,
-    count: usize,
-) -> usize
-    requires { (InLanes drifts.now x y count) × (from < count) × (unbiased left ≡ drift_in drifts.now x from) × (unbiased right ≡ drift_in drifts.now y from) }
-    ensures { (result ≤ count) × (SameDrifts drifts.now x y left right from result) }
+fn stretch_end(lines: &Lines, left: u64, right: u64, from: usize) -> usize
+    requires { (from < lines.now.stretch.count) × (unbiased left ≡ drift_in lines.now.drifts.now lines.now.stretch.x from) × (unbiased right ≡ drift_in lines.now.drifts.now lines.now.stretch.y from) }
+    ensures { (result ≤ lines.now.stretch.count) × (SameDrifts lines.now.drifts.now lines.now.stretch.x lines.now.stretch.y left right from result) }
 {
-    let mut end = blocks_end(drifts, x, y, left, right, from, count);
-    while end < count {
-        if drift(drifts, x, end) != left {
-            return end;
+    let count = lines.stretch.count;
+    for row in blocks_end(lines, left, right, from)..count {
+        if lines.left_drift(row) != left {
+            return row;
         }
-        if drift(drifts, y, end) != right {
-            return end;
+        if lines.right_drift(row) != right {
+            return row;
         }
-        end += 1;
     }
-    end
+    count
 }
 
 // The marks say on every pass whether the left line is less than so many minutes after the right one.
-pub fn within_lines(
-    values: &[u8],
-    drifts: &[u8],
-    minutes: u64,
-    x: Column,
-    y: Column,
-    table: &[u8],
-    m: usize,
-    count: usize,
-) -> bool
-    requires { (InLanes values.now x y count) × (InLanes drifts.now x y count) × (InMarks table.now m count) }
-    ensures { result ≡ all_below (λ k. lines_agree (Within minutes) values.now drifts.now x y (mark_in table.now (m + k)) k) count }
+pub fn within_lines(lines: &Lines, minutes: u64) -> bool
+    ensures { result ≡ all_lines_agree (Within minutes) lines.now }
 {
+    let stretch = &lines.stretch;
     let mut all = true;
     let mut k = 0;
-    while k < count {
-        let left = drift(drifts, x, k);
-        let right = drift(drifts, y, k);
-        let end = stretch_end(drifts, x, y, left, right, k, count);
+    // No `for`: each step is as long as the stretch of rows with the same drifts.
+    while k < stretch.count {
+        let left = lines.left_drift(k);
+        let right = lines.right_drift(k);
+        let end = stretch_end(lines, left, right, k);
         let known = spacing_of(minutes, left, right);
-        all = all & within_stretch(values, known, x, y, table, m, k, end);
+        all &= within_stretch(stretch, known, k, end);
         k = end;
     }
     all

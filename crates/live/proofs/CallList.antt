@@ -1,4 +1,5 @@
 -- For every list of calls from the empty state, the state answers what each place means. Assumes nothing.
+use Rattle.std.specs.Prelude.{Ok, Err}
 use Prim.Native.Nat.{ℕ, zero, suc, ◌+◌, ◌*◌, ◌≤◌, ◌<◌}
 use native.Mathlib.Decide.{dec_lt, ℕ_discrete}
 use native.Mathlib.Omega.{arith}
@@ -13,8 +14,7 @@ use borrow.Author.Tests.{lt-ltb, le-ltb, le-leb, eq-eqb, ne_eqb, leb-true, ltb-t
 use Rattle.fields.specs.LittleEndian.{number_at}
 use Rattle.fields.specs.inner.Ranges.{Bytes}
 use Rattle.fields.proofs.ByteParts.{as_bytes}
-use Rattle.refusal.specs.declared.Outcome.{Outcome}
-use Rattle.refusal.specs.declared.Outcome.TheVariants.{Clear, Refused}
+use Rattle.refusal.specs.Outcome.{Outcome, unrefused}
 use Rattle.refusal.specs.declared.Refusal.TheVariants.{PlanSizes, Unwatchable, Unfitting}
 use Rattle.refusal.specs.First.{◌or_else◌, unless}
 use Rattle.refusal.proofs.First.{or_else_clear, unless_clear}
@@ -45,7 +45,7 @@ pub record Good (v : ℕ) (tops : List ℕ) (places : ℕ → Place) (s : Live) 
 
 -- ---- what may be started
 
-pub started : (v : ℕ) (tops : List ℕ) → start_outcome v tops ≡ Clear → (v ≤ 8) × (tops_fit tops v ≡ true)
+pub started : (v : ℕ) (tops : List ℕ) → start_outcome v tops ≡ unrefused → (v ≤ 8) × (tops_fit tops v ≡ true)
 unfolding start_outcome
 started v tops e =
     let a = (unless_clear (leb 1 v && (leb v 8 && (eqb (length tops) (4 * v) && tops_fit tops v))) PlanSizes).0 e in
@@ -189,7 +189,7 @@ module _ (v : ℕ) (tops : List ℕ) (few : v ≤ 8) (fit : tops_fit tops v ≡ 
 
   -- ---- a call that is not refused
 
-  call_good : (call : Call) (places : ℕ → Place) (s : Live) → Sent call → Good v tops places s → outcome_meant v tops call places ≡ Clear
+  call_good : (call : Call) (places : ℕ → Place) (s : Live) → Sent call → Good v tops places s → outcome_meant v tops call places ≡ unrefused
       → Good v tops (changed_places v tops call places) (changed_state call s)
   unfolding Sent OfBytes outcome_meant add_outcome drop_outcome changed_places changed_state after_add after_drop
   call_good (add p sheet) places s sent g e =
@@ -208,11 +208,11 @@ module _ (v : ℕ) (tops : List ℕ) (few : v ≤ 8) (fit : tops_fit tops v ≡ 
       put_good places s p vacant empty_watch s.rules g (ltb-true p 4 c.0) g.long (λ q n j h. refl) (none_held 0 (omega arith))
   call_good (row bytes) places s sent g e = row_good places s bytes (as_bytes bytes sent) g
 
-  chosen : (x : Outcome) (new old : ℕ → Place) (s t : Live) → (x ≡ Clear → Good v tops new s) → Good v tops old t
+  chosen : (x : Outcome) (new old : ℕ → Place) (s t : Live) → (x ≡ unrefused → Good v tops new s) → Good v tops old t
       → Good v tops (places_unless v tops x new old) (unless_refused x s t)
   unfolding places_unless unless_refused
-  chosen Clear new old s t h k = h refl
-  chosen (Refused r) new old s t h k = k
+  chosen (Ok _) new old s t h k = h refl
+  chosen (Err r) new old s t h k = k
 
   -- A call keeps it, refused or not,
   after_good : (call : Call) (places : ℕ → Place) (s : Live) → Sent call → Good v tops places s
@@ -232,7 +232,7 @@ module _ (v : ℕ) (tops : List ℕ) (few : v ≤ 8) (fit : tops_fit tops v ≡ 
       all_good calls (places_unless v tops (outcome_meant v tops call places) (changed_places v tops call places) places) (state_after call s) sent.1
       (after_good call places s sent.0 g)
 
-pub reached_good : (v : ℕ) (tops : List ℕ) (calls : List Call) → start_outcome v tops ≡ Clear → OfBytes tops → AllSent calls
+pub reached_good : (v : ℕ) (tops : List ℕ) (calls : List Call) → start_outcome v tops ≡ unrefused → OfBytes tops → AllSent calls
     → Good v tops (places_meant v tops calls) (reached v tops calls)
 unfolding OfBytes places_meant reached
 reached_good v tops calls start bytes sent =
@@ -240,19 +240,19 @@ reached_good v tops calls start bytes sent =
     all_good v tops k.0 k.1 (as_bytes tops bytes) calls (λ q. vacant) (empty_live v tops) sent (empty_good v tops k.0 k.1 (as_bytes tops bytes))
 
 -- After every list of calls from the empty state, the next call is refused, and by which number, as the places mean.
-pub refused_as_meant : (call : Call) (v : ℕ) (tops : List ℕ) (calls : List Call) → start_outcome v tops ≡ Clear → OfBytes tops → AllSent calls
+pub refused_as_meant : (call : Call) (v : ℕ) (tops : List ℕ) (calls : List Call) → start_outcome v tops ≡ unrefused → OfBytes tops → AllSent calls
     → outcome_of call (reached v tops calls) ≡ outcome_meant v tops call (places_meant v tops calls)
 unfolding OfBytes
 refused_as_meant call v tops calls start bytes sent =
     let k = started v tops start in
     outcome_same v tops k.0 k.1 (as_bytes tops bytes) call (places_meant v tops calls) (reached v tops calls) (reached_good v tops calls start bytes sent)
 
-answer_at : (s : Live) (p : ℕ) → p < 4 → answer_of s p ≡ watch_answer (watch_at s p)
+answer_at : (s : Live) (p : ℕ) → p < 4 → answer_of s p ≡ Ok (watch_answer (watch_at s p))
 unfolding answer_of
 answer_at s p h = simp (lt-ltb p 4 h)
 
 -- The answer that the state then holds for a place is what the place means.
-pub answers_right : (v : ℕ) (tops : List ℕ) (calls : List Call) → start_outcome v tops ≡ Clear → OfBytes tops → AllSent calls → (p : ℕ) → p < 4
+pub answers_right : (v : ℕ) (tops : List ℕ) (calls : List Call) → start_outcome v tops ≡ unrefused → OfBytes tops → AllSent calls → (p : ℕ) → p < 4
     → Tells (places_meant v tops calls p) (answer_of (reached v tops calls) p)
 answers_right v tops calls start bytes sent p h =
     let s : Live = reached v tops calls in

@@ -5,11 +5,10 @@ use native.Mathlib.Decide.{dec_lt}
 use native.Mathlib.Omega.{arith}
 use mathlib.Core.Path.{◌≡◌, refl, ap₂, ◌∙◌, subst}
 use mathlib.Core.Logic.{by_cases}
-use mathlib.Core.List.{List, [], ◌∷◌}
+use mathlib.Core.List.{List, [], ◌∷◌, map}
 use lib.ListN.{length, get_or, set, replicate, length-set, length-replicate}
 use lib.Seq.{get_or-set_same, get_or-set_other}
 use Rattle.live.specs.Kept.{tabulated}
-use Rattle.live.specs.inner.Filling.{Filled}
 
 pub tab_get : (n : ℕ) (f : ℕ → ℕ) (j : ℕ) → j < n → get_or (tabulated n f) j 0 ≡ f j
 unfolding tabulated
@@ -29,30 +28,39 @@ tab_ext zero f (x ∷ l) e h = absurd (omega arith)
 tab_ext (suc n) f [] e h = absurd (omega arith)
 tab_ext (suc n) f (x ∷ l) e h = ap₂ ◌∷◌ (h 0 (omega arith)) (tab_ext n (λ k. f (suc k)) l (omega arith) (λ j k. h (suc j) (omega arith)))
 
-zeros : (n j : ℕ) → ◌≡◌ {A = ℕ} (get_or {A = ℕ} (replicate {A = ℕ} n 0) j 0) 0
-zeros zero j = refl
-zeros (suc n) zero = refl
-zeros (suc n) (suc j) = zeros n j
+-- A list whose first i elements are those of f, the rest being as they were.
+pub record Filled {X : Type 0} (d : X) (old : List X) (f : ℕ → X) (i : ℕ) (l : List X) : Type 0 where
+  pub long : length l ≡ length old
+  pub done : (j : ℕ) → j < i → get_or l j d ≡ f j
+  pub rest : (j : ℕ) → i ≤ j → get_or l j d ≡ get_or old j d
 
-pub fill_none : (n : ℕ) (f : ℕ → ℕ) → Filled n f 0 (replicate n 0)
-fill_none n f = record { long = length-replicate n 0; done = λ j h. absurd (not-suc-le-zero h); rest = λ j h. zeros n j }
+module _ {X : Type 0} (d : X) (old : List X) (f : ℕ → X) where
+  pub fill_none : Filled d old f 0 old
+  fill_none = record { long = refl; done = λ j h. absurd (not-suc-le-zero h); rest = λ j h. refl }
 
-pub fill_one : (n : ℕ) (f : ℕ → ℕ) (i : ℕ) (l : List ℕ) (x : ℕ) → Filled n f i l → i < n → x ≡ f i → Filled n f (i + 1) (set l i x)
-fill_one n f i l x w h e = record {
-  long = length-set l i x ∙ w.long;
-  done = λ j k. by_cases (dec_lt j i)
-      (λ s. get_or-set_other l i j x 0 (λ q. absurd (omega arith)) ∙ w.done j s)
-      (λ s. let q : i ≡ j = omega arith in subst (λ (j : ℕ). get_or (set l i x) j 0 ≡ f j) q (get_or-set_same l i x 0 (let z = w.long in omega arith) ∙ e));
-  rest = λ j k. get_or-set_other l i j x 0 (λ q. absurd (omega arith)) ∙ w.rest j (omega arith);
-}
+  pub fill_one : (i : ℕ) (l : List X) (x : X) → Filled d old f i l → i < length old → x ≡ f i → Filled d old f (i + 1) (set l i x)
+  fill_one i l x w h e = record {
+    long = length-set l i x ∙ w.long;
+    done = λ j k. by_cases (dec_lt j i)
+        (λ s. get_or-set_other l i j x d (λ q. absurd (omega arith)) ∙ w.done j s)
+        (λ s. let q : i ≡ j = omega arith in subst (λ (j : ℕ). get_or (set l i x) j d ≡ f j) q (get_or-set_same l i x d (let z = w.long in omega arith) ∙ e));
+    rest = λ j k. get_or-set_other l i j x d (λ q. absurd (omega arith)) ∙ w.rest j (omega arith);
+  }
 
--- one of those behind the first i
-pub fill_behind : (n : ℕ) (f : ℕ → ℕ) (i k : ℕ) (l : List ℕ) (x : ℕ) → Filled n f (i + k) l → i + k < n → x ≡ f (i + k) → Filled n f (i + (k + 1)) (set l (i + k) x)
-fill_behind n f i k l x w h e = subst (λ (j : ℕ). Filled n f j (set l (i + k) x)) (omega arith) (fill_one n f (i + k) l x w h e)
+  -- one of those behind the first i
+  pub fill_behind : (i k : ℕ) (l : List X) (x : X) → Filled d old f (i + k) l → i + k < length old → x ≡ f (i + k) → Filled d old f (i + (k + 1)) (set l (i + k) x)
+  fill_behind i k l x w h e = subst (λ (j : ℕ). Filled d old f j (set l (i + k) x)) (omega arith) (fill_one (i + k) l x w h e)
 
-pub fill_all : (n : ℕ) (f : ℕ → ℕ) (i : ℕ) (l : List ℕ) → Filled n f i l → n ≤ i → l ≡ tabulated n f
-fill_all n f i l w h = tab_ext n f l w.long (λ j k. w.done j (omega arith))
+pub fill_all : (old : List ℕ) (f : ℕ → ℕ) (i : ℕ) (l : List ℕ) → Filled 0 old f i l → (n : ℕ) → length old ≡ n → n ≤ i → l ≡ tabulated n f
+fill_all old f i l w n e h = tab_ext n f l (w.long ∙ e) (λ j k. w.done j (omega arith))
 
--- The same elements, given another way.
-pub fill_same : (n : ℕ) (f g : ℕ → ℕ) (i : ℕ) (l : List ℕ) → Filled n f i l → ((j : ℕ) → j < i → f j ≡ g j) → Filled n g i l
-fill_same n f g i l w e = record { long = w.long; done = λ j h. w.done j h ∙ e j h; rest = w.rest }
+pub fill_four : {X : Type 0} (d : X) (old : List X) (f : ℕ → X) (i : ℕ) (l : List X) → Filled d old f i l → length old ≡ 4 → 4 ≤ i → l ≡ map f (0 ∷ 1 ∷ 2 ∷ 3 ∷ [])
+fill_four {X} d old f i l w e h = of_four l (w.long ∙ e) (w.done 0 (omega arith)) (w.done 1 (omega arith)) (w.done 2 (omega arith)) (w.done 3 (omega arith))
+  where
+    of_four : (l : List X) → length l ≡ 4 → get_or l 0 d ≡ f 0 → get_or l 1 d ≡ f 1 → get_or l 2 d ≡ f 2 → get_or l 3 d ≡ f 3 → l ≡ map f (0 ∷ 1 ∷ 2 ∷ 3 ∷ [])
+    of_four (v ∷ x ∷ y ∷ z ∷ []) k a b c q = rw (a, b, c, q) refl
+    of_four [] k a b c q = absurd (omega arith)
+    of_four (v ∷ []) k a b c q = absurd (omega arith)
+    of_four (v ∷ x ∷ []) k a b c q = absurd (omega arith)
+    of_four (v ∷ x ∷ y ∷ []) k a b c q = absurd (omega arith)
+    of_four (v ∷ x ∷ y ∷ z ∷ u ∷ r) k a b c q = absurd (omega arith)

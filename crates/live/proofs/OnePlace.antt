@@ -1,4 +1,6 @@
 -- What a place of the state keeps of the rule and the rows that it stands for, over one row, and in its answer. Assumes nothing.
+use Rattle.std.specs.Prelude.{Ok}
+use Rattle.refusal.specs.Outcome.{unrefused}
 use Prim.Native.Nat.{ℕ, zero, suc, ◌+◌, ◌*◌, ◌-◌, ◌≤◌, ◌<◌, min}
 use native.Mathlib.Omega.{arith}
 use mathlib.Core.Path.{◌≡◌, refl, ap, ◌∙◌, subst, subst⁻¹}
@@ -10,7 +12,6 @@ use lib.Dec.{T, eqb}
 use lib.ListN.{length, get_or, replicate}
 use borrow.Author.Tests.{le-leb, ne_eqb, eqb-true, not-true}
 use Rattle.fields.specs.inner.Ranges.{Bytes}
-use Rattle.refusal.specs.declared.Outcome.TheVariants.{Clear}
 use Rattle.cltlb.specs.Fits.{view_fits}
 use Rattle.cltlb.specs.Parts.{formula_of}
 use Rattle.rule.specs.Layout.{part_count, channel_count}
@@ -35,7 +36,7 @@ use Rattle.live.proofs.KeptRows.{Keeps, none_kept, age_on, age_first, kept_sees}
 
 -- ---- a rule that can be watched
 
-module _ (v : ℕ) (sheet : List ℕ) (clear : sheet_outcome sheet ≡ Clear) (can : watchable v sheet ≡ true) where
+module _ (v : ℕ) (sheet : List ℕ) (clear : sheet_outcome sheet ≡ unrefused) (can : watchable v sheet ≡ true) where
   watch_tests : (eqb (channel_count sheet) v ≡ true) × (not (any_below (λ i. view_ahead (views_of sheet i)) (part_count sheet)) ≡ true)
   unfolding watchable
   watch_tests = (and-eq-true_iff (eqb (channel_count sheet) v) (not (any_below (λ i. view_ahead (views_of sheet i)) (part_count sheet)))).0 can
@@ -53,7 +54,7 @@ module _ (v : ℕ) (sheet : List ℕ) (clear : sheet_outcome sheet ≡ Clear) (c
 
 -- What place p of the state keeps of a rule and the rows since it was added.
 pub record Watching (v : ℕ) (readings rules : List ℕ) (p : ℕ) (sheet : List ℕ) (rows : List Row) (w : Watch) : Type 0 where
-  pub clear : sheet_outcome sheet ≡ Clear
+  pub clear : sheet_outcome sheet ≡ unrefused
   pub can : watchable v sheet ≡ true
   pub bytes : Bytes sheet
   pub parts_are : w.parts ≡ part_count sheet
@@ -91,7 +92,7 @@ zeros zero i = refl
 zeros (suc n) zero = refl
 zeros (suc n) (suc i) = zeros n i
 
-pub begun : (v : ℕ) (readings rules : List ℕ) (p : ℕ) (sheet : List ℕ) → sheet_outcome sheet ≡ Clear → watchable v sheet ≡ true → Bytes sheet
+pub begun : (v : ℕ) (readings rules : List ℕ) (p : ℕ) (sheet : List ℕ) → sheet_outcome sheet ≡ unrefused → watchable v sheet ≡ true → Bytes sheet
     → ((j : ℕ) → j < length sheet → get_or rules (836 * p + j) 0 ≡ get_or sheet j 0) → Watching v readings rules p sheet [] (new_watch sheet)
 begun v readings rules p sheet clear can bytes copied = record {
   clear = clear;
@@ -182,18 +183,18 @@ answer_truth : (w : Watch) (b : Bool) → is_held w ≡ true → (w.age ≡ 0 �
 unfolding watch_answer
 answer_truth w b e f g = simp (e, ne_eqb w.age 0 f, g) (ap answer.Truth (byte_back b))
 
-pub place_tells : (v : ℕ) (readings rules : List ℕ) (p : ℕ) (place : Place) (w : Watch) → Stands v readings rules p place w → Tells place (watch_answer w)
+pub place_tells : (v : ℕ) (readings rules : List ℕ) (p : ℕ) (place : Place) (w : Watch) → Stands v readings rules p place w → Tells place (Ok (watch_answer w))
 unfolding Tells HoldsNow whole_rule
-place_tells v readings rules p vacant w h = answer_free w h
-place_tells v readings rules p (watched sheet []) w h = answer_yet w (watching_held h) h.age_is
+place_tells v readings rules p vacant w h = ap Ok (answer_free w h)
+place_tells v readings rules p (watched sheet []) w h = ap Ok (answer_yet w (watching_held h) h.age_is)
 place_tells v readings rules p (watched sheet (r ∷ rows)) w h =
     let k = (sizes_known sheet (cleared_sizes sheet h.clear)).0 in
     let a = h.age_is in
     let last : part_count sheet - 1 < part_count sheet = omega arith in
     let right = h.right (part_count sheet - 1) last (omega arith) in (
       h.marks (part_count sheet - 1),
-      answer_truth w (h.marks (part_count sheet - 1)) (watching_held h) (λ z. absurd (omega arith))
-          (ap (λ (m : ℕ). get_or w.truths (m - 1) 0) h.parts_are ∙ h.stored (part_count sheet - 1) last),
+      ap Ok (answer_truth w (h.marks (part_count sheet - 1)) (watching_held h) (λ z. absurd (omega arith))
+          (ap (λ (m : ℕ). get_or w.truths (m - 1) 0) h.parts_are ∙ h.stored (part_count sheet - 1) last)),
       right,
       λ q begins. Iff.trans right (any_run v (part_count sheet) (views_of sheet) (watch_fits v sheet h.clear h.can) (watch_past v sheet h.clear h.can)
           r rows q begins (part_count sheet - 1) last),

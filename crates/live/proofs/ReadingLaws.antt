@@ -1,15 +1,15 @@
 -- What the code keeps of rows and reads of them, as the definitions have it. Assumes nothing.
 use Prim.Native.Nat.{ℕ, ◌+◌, ◌*◌, ◌-◌, ◌≤◌, ◌<◌}
 use native.Mathlib.Omega.{arith}
-use mathlib.Core.Path.{◌≡◌, sym, ◌∙◌}
+use mathlib.Core.Path.{◌≡◌, refl, sym, ap, ◌∙◌}
 use mathlib.Core.List.{List}
-use lib.ListN.{get_or}
+use lib.ListN.{length, get_or}
+use Rattle.std.specs.List.{CopiedTo}
 use borrow.Author.Tests.{lt-ltb, le-ltb, le-leb, lt-leb, eq-eqb, ne_eqb}
 use Rattle.fields.specs.LittleEndian.{number_at}
 use Rattle.live.specs.Kept.{kept, kept_under, new_reading, reading_after}
 use Rattle.live.specs.Truths.{reading_at, term_value}
-use Rattle.live.specs.inner.Filling.{Filled}
-use Rattle.live.proofs.Filling.{fill_same}
+use Rattle.live.proofs.Filling.{Filled}
 
 module _ (top n : ℕ) where
   pub no_top : top ≡ 0 → n ≡ kept_under top n
@@ -34,20 +34,24 @@ module _ (tops row : List ℕ) (v channel : ℕ) where
   new_channel h e f g = rw (lt-ltb channel v h, ← e, ← f) g
 
 module _ (readings tops row : List ℕ) (v : ℕ) where
+  abbrev f : ℕ → ℕ
+  f = reading_after readings tops row v
+
   -- The rows that stay stand where the definition has them,
-  pub older_kept : (l : List ℕ) → Filled 40 (λ j. get_or readings (j + 8) 0) 32 l → Filled 40 (reading_after readings tops row v) 32 l
+  pub older_kept : (l : List ℕ) (n : ℕ) → 32 ≤ n → CopiedTo readings l 8 0 n → Filled 0 l f 32 l
   unfolding reading_after
-  older_kept l w = fill_same 40 _ _ 32 l w (λ j h. simp (lt-ltb j 32 h))
+  older_kept l n long copied = record {
+    long = refl;
+    done = λ j h. copied j 0 (omega arith) (omega arith) ∙ sym (simp (lt-ltb j 32 h) (ap (λ (k : ℕ). get_or readings k 0) (omega arith)));
+    rest = λ j h. refl;
+  }
 
   -- and so does the new one.
-  pub newest_kept : {r : ℕ} (channel : ℕ) → r ≡ new_reading tops row v channel → r ≡ reading_after readings tops row v (32 + channel)
+  pub newest_kept : {r : ℕ} (channel : ℕ) → r ≡ new_reading tops row v channel → r ≡ f (32 + channel)
   unfolding reading_after
   newest_kept channel e =
       let k : 32 ≤ 32 + channel = omega arith in
-      let q : 32 + channel - 32 ≡ channel = omega arith in e ∙ sym (rw (le-ltb (32 + channel) 32 k, q) refl')
-    where
-      refl' : new_reading tops row v channel ≡ new_reading tops row v channel
-      refl' = λ i. new_reading tops row v channel
+      let q : 32 + channel - 32 ≡ channel = omega arith in e ∙ sym (rw (le-ltb (32 + channel) 32 k, q) refl)
 
 module _ (readings : List ℕ) (age at : ℕ) where
   pub before_add : at < 40 - 8 * age → 4294967297 ≡ reading_at readings age at
@@ -67,7 +71,7 @@ module _ (readings : List ℕ) (age : ℕ) (rule : List ℕ) (at : ℕ) where
   unfolding term_value
   constant_value z e f = rw (eq-eqb (get_or rule at 0) 0 z, ← e) f
 
-  pub reading_value : {p q c r : ℕ} → (get_or rule at 0 ≡ 0 → ⊥) → p ≡ number_at 4 rule (at + 2) → q ≡ p → c ≡ get_or rule (at + 1) 0
-      → r ≡ reading_at readings age (8 * c + q) → r ≡ term_value readings age rule at
+  pub reading_value : {p r : ℕ} → (get_or rule at 0 ≡ 0 → ⊥) → p ≡ number_at 4 rule (at + 2)
+      → r ≡ reading_at readings age (8 * get_or rule (at + 1) 0 + p) → r ≡ term_value readings age rule at
   unfolding term_value
-  reading_value z e d f g = rw (ne_eqb (get_or rule at 0) 0 z, ← e, ← d, ← f) g
+  reading_value z e g = rw (ne_eqb (get_or rule at 0) 0 z, ← e) g

@@ -1,4 +1,6 @@
 -- What an add reads of a rule sheet, as the definitions have it. Assumes nothing.
+use Rattle.rule.specs.inner.Sizes.{sizes}
+use Rattle.std.specs.Prelude.{Result, Ok, Err}
 use Prim.Native.Nat.{ℕ, zero, suc, ◌+◌, ◌<◌}
 use native.Mathlib.Nat.{not-suc-le-zero}
 use native.Mathlib.Decide.{dec_lt}
@@ -11,16 +13,12 @@ use mathlib.Core.List.{List}
 use borrow.Author.Tests.{eq-eqb, ne_eqb}
 use Rattle.refusal.specs.declared.Refusal.{Refusal}
 use Rattle.refusal.specs.declared.Refusal.TheVariants.{Unwatchable}
-use Rattle.refusal.specs.declared.Outcome.{Outcome}
-use Rattle.refusal.specs.declared.Outcome.TheVariants as outcome
+use Rattle.refusal.specs.Outcome.{Outcome, unrefused}
 use Rattle.refusal.specs.First.{◌or_else◌, unless}
 use Rattle.cltlb.specs.Views.{view_of}
 use Rattle.cltlb.specs.declared.Part.{Part}
 use Rattle.cltlb.specs.declared.View.{View}
-use Rattle.rule.specs.declared.Taken.{Taken}
-use Rattle.rule.specs.declared.Taken.TheVariants as K
-use Rattle.rule.specs.declared.SheetRead.{SheetRead}
-use Rattle.rule.specs.declared.SheetRead.TheVariants as R
+use Rattle.rule.specs.declared.sizes.Sizes.{Sizes}
 use Rattle.rule.specs.Layout.{part_count, channel_count}
 use Rattle.rule.specs.Take.{part_taken, parts_of, views_of}
 use Rattle.rule.specs.Sheet.{sheet_outcome}
@@ -34,11 +32,11 @@ use Rattle.live.specs.inner.Rules.{rule_read}
 -- ---- one part
 
 module _ (sheet : List ℕ) (i : ℕ) where
-  pub none_ahead : {taken : Taken} {r : Refusal} → TakePromise sheet i taken → taken ≡ K.Refused r → false ≡ view_ahead (views_of sheet i)
+  pub none_ahead : {taken : Result Part Refusal} {r : Refusal} → TakePromise sheet i taken → taken ≡ Err r → false ≡ view_ahead (views_of sheet i)
   unfolding views_of parts_of part_taken view_ahead atom_ahead term_ahead
   none_ahead p e = rw (← p.is_take, e) refl
 
-  pub part_ahead : {taken : Taken} {part : Part} {view : View} {r : Bool} → TakePromise sheet i taken → taken ≡ K.Part part → view ≡ view_of part
+  pub part_ahead : {taken : Result Part Refusal} {part : Part} {view : View} {r : Bool} → TakePromise sheet i taken → taken ≡ Ok part → view ≡ view_of part
       → r ≡ view_ahead view → r ≡ view_ahead (views_of sheet i)
   unfolding views_of parts_of part_taken
   part_ahead p e f g = rw (← p.is_take, e, ← f) g
@@ -68,32 +66,41 @@ module _ (f : ℕ → Bool) where
 
 -- ---- the whole sheet
 
-by_outcome : (v : ℕ) (sheet : List ℕ) (o : Outcome) {read : SheetRead} {r : Refusal} → read ≡ counts_unless o sheet → read ≡ R.Refused r
+by_outcome : (v : ℕ) (sheet : List ℕ) (o : Outcome) {read : Result Sizes Refusal} {r : Refusal} → read ≡ counts_unless o sheet → read ≡ Err r
     → read ≡ counts_unless (o or_else unless (watchable v sheet) Unwatchable) sheet
 unfolding counts_unless ◌or_else◌
-by_outcome v sheet outcome.Clear {read} {r} g h =
-    absurd (let z : R.Counts (part_count sheet) (channel_count sheet) ≡ R.Refused r = sym g ∙ h in let y : ◌≡◌ {A = ℕ} 0 1 = cc in omega arith)
-by_outcome v sheet (outcome.Refused q) g h = g
+by_outcome v sheet (Ok _) {read} {r} g h =
+    absurd (let z : Ok (sizes (part_count sheet) (channel_count sheet)) ≡ Err r = sym g ∙ h in let y : ◌≡◌ {A = ℕ} 0 1 = cc in omega arith)
+by_outcome v sheet (Err q) g h = g
 
-counted : (sheet : List ℕ) (o : Outcome) {read : SheetRead} {p c : ℕ} → read ≡ counts_unless o sheet → read ≡ R.Counts p c
-    → (o ≡ outcome.Clear) × (p ≡ part_count sheet) × (c ≡ channel_count sheet)
+-- N and V, where they were read
+abbrev counts : Result Sizes Refusal → Sizes
+counts (Ok s) = s
+counts (Err r) = sizes 0 0
+
+counted : (sheet : List ℕ) (o : Outcome) {read : Result Sizes Refusal} {p c : ℕ} → read ≡ counts_unless o sheet → read ≡ Ok (sizes p c)
+    → (o ≡ unrefused) × (p ≡ part_count sheet) × (c ≡ channel_count sheet)
 unfolding counts_unless
-counted sheet outcome.Clear {read} {p} {c} g h = let z : R.Counts p c ≡ R.Counts (part_count sheet) (channel_count sheet) = sym h ∙ g in (refl, cc, cc)
-counted sheet (outcome.Refused q) {read} {p} {c} g h = absurd (let z : R.Counts p c ≡ R.Refused q = sym h ∙ g in let y : ◌≡◌ {A = ℕ} 0 1 = cc in omega arith)
+counted sheet (Ok _) {read} {p} {c} g h = let z : Ok (sizes p c) ≡ Ok (sizes (part_count sheet) (channel_count sheet)) = sym h ∙ g in (
+  refl,
+  ap (λ (x : Result Sizes Refusal). (counts x).parts) z,
+  ap (λ (x : Result Sizes Refusal). (counts x).channels) z,
+)
+counted sheet (Err q) {read} {p} {c} g h = absurd (let z : Ok (sizes p c) ≡ Err q = sym h ∙ g in let y : ◌≡◌ {A = ℕ} 0 1 = cc in omega arith)
 
-module _ (v : ℕ) (sheet : List ℕ) {read : SheetRead} (e : read ≡ sheet_read sheet) where
+module _ (v : ℕ) (sheet : List ℕ) {read : Result Sizes Refusal} (e : read ≡ sheet_read sheet) where
   -- A sheet that 1 to 3 refuse.
-  pub read_refused : {r : Refusal} → read ≡ R.Refused r → read ≡ rule_read v sheet
+  pub read_refused : {r : Refusal} → read ≡ Err r → Err r ≡ rule_read v sheet
   unfolding rule_read sheet_read
-  read_refused f = by_outcome v sheet (sheet_outcome sheet) e f
+  read_refused f = sym f ∙ by_outcome v sheet (sheet_outcome sheet) e f
 
-  module _ {p c : ℕ} (f : read ≡ R.Counts p c) where
-    known : (sheet_outcome sheet ≡ outcome.Clear) × (p ≡ part_count sheet) × (c ≡ channel_count sheet)
+  module _ {p c : ℕ} (f : read ≡ Ok (sizes p c)) where
+    known : (sheet_outcome sheet ≡ unrefused) × (p ≡ part_count sheet) × (c ≡ channel_count sheet)
     unfolding sheet_read
     known = counted sheet (sheet_outcome sheet) e f
 
     -- Another V than the state's.
-    pub other_channels : (c ≡ v → ⊥) → R.Refused Unwatchable ≡ rule_read v sheet
+    pub other_channels : (c ≡ v → ⊥) → Err Unwatchable ≡ rule_read v sheet
     unfolding rule_read watchable counts_unless ◌or_else◌ unless
     other_channels n = rw (known.0, ne_eqb (channel_count sheet) v (λ q. n (known.2 ∙ q))) refl
 
@@ -101,10 +108,10 @@ module _ (v : ℕ) (sheet : List ℕ) {read : SheetRead} (e : read ≡ sheet_rea
       any : b ≡ any_below (λ i. view_ahead (views_of sheet i)) (part_count sheet)
       any = subst (λ (n : ℕ). b ≡ any_below (λ i. view_ahead (views_of sheet i)) n) known.1 g
 
-      pub looks_ahead : b ≡ true → R.Refused Unwatchable ≡ rule_read v sheet
+      pub looks_ahead : b ≡ true → Err Unwatchable ≡ rule_read v sheet
       unfolding rule_read watchable counts_unless ◌or_else◌ unless
       looks_ahead t = rw (known.0, eq-eqb (channel_count sheet) v (sym known.2 ∙ h), ← any, t) refl
 
-      pub looks_back : b ≡ false → R.Counts p c ≡ rule_read v sheet
+      pub looks_back : b ≡ false → Ok (sizes p c) ≡ rule_read v sheet
       unfolding rule_read watchable counts_unless ◌or_else◌ unless
-      looks_back t = rw (known.0, eq-eqb (channel_count sheet) v (sym known.2 ∙ h), ← any, t) (λ i. R.Counts (known.1 i) (known.2 i))
+      looks_back t = rw (known.0, eq-eqb (channel_count sheet) v (sym known.2 ∙ h), ← any, t) (λ i. Ok (sizes (known.1 i) (known.2 i)))

@@ -1,5 +1,7 @@
 -- On a sheet that clears refusals 1 to 3, the truths that are read off its bytes are made as its parts ask for. Assumes nothing.
-use Prim.Native.Nat.{ℕ, zero, suc, ◌+◌, ◌*◌, ◌%◌, ◌≤◌, ◌<◌}
+use Rattle.std.specs.Prelude.{Option, Some, None}
+use Rattle.refusal.specs.Outcome.{unrefused}
+use Prim.Native.Nat.{ℕ, zero, suc, ◌+◌, ◌*◌, ◌%◌, ◌≤◌, ◌<◌, min, max}
 use native.Mathlib.Decide.{dec_lt, ℕ_discrete}
 use native.Mathlib.Omega.{arith}
 use mathlib.Core.Path.{◌≡◌, refl, sym, ap, ap₂, ◌∙◌}
@@ -18,7 +20,6 @@ use Rattle.fields.specs.inner.Ranges.{Bytes}
 use Rattle.fields.proofs.Bias.{biased_signed}
 use Rattle.fields.proofs.Differences.{sub_pos, sub_neg}
 use Rattle.fields.proofs.Widths.{number_lt, number_same}
-use Rattle.refusal.specs.declared.Outcome.TheVariants.{Clear}
 use Rattle.cltlb.specs.Run.{Seen, number}
 use Rattle.cltlb.specs.Week.{in_window}
 use Rattle.cltlb.specs.Fits.{view_fits}
@@ -31,12 +32,8 @@ use Rattle.cltlb.specs.declared.Unary.TheVariants as unary
 use Rattle.cltlb.specs.declared.Binary.TheVariants as binary
 use Rattle.cltlb.specs.declared.Operator.TheVariants as operator
 use Rattle.cltlb.proofs.Fits.{operator_fits, one_lower, two_lower}
-use Rattle.rule.specs.declared.terms.TermRead.{TermRead}
-use Rattle.rule.specs.declared.terms.TermRead.TheVariants as R
 use Rattle.rule.specs.declared.operands.Operand.{Operand}
 use Rattle.rule.specs.declared.operands.Operand.TheVariants.{Terms, One, Two, Window, Pinned}
-use Rattle.rule.specs.declared.operands.OperandRead.{OperandRead}
-use Rattle.rule.specs.declared.operands.OperandRead.TheVariants as O
 use Rattle.rule.specs.declared.operands.Shape.TheVariants as S
 use Rattle.rule.specs.Layout.{part_count, channel_count, kind_byte, kind_place, operand_place}
 use Rattle.rule.specs.Terms.{shift_of, code_of, term_at}
@@ -54,7 +51,7 @@ use Rattle.verdict.specs.Lines.{eq_z}
 use Rattle.verdict.specs.Comparisons.{of_number, of_numbers, seen_pinned}
 use Rattle.past.proofs.Step.{value_now, atom_now, truth_from}
 use Rattle.live.specs.Kept.{kept, seen_of}
-use Rattle.live.specs.Truths.{negated, lower, higher, earlier, named, reading_at, term_value, kind_truth, truths_to}
+use Rattle.live.specs.Truths.{negated, earlier, named, reading_at, term_value, kind_truth, truths_to}
 
 -- what the kept readings show of a channel at a shift from the newest row
 unfoldable pub seen_kept : List ℕ → ℕ → ℕ → ℤ → Seen
@@ -67,15 +64,13 @@ unfolding negated
 byte_not true = refl
 byte_not false = refl
 
-byte_and : (a b : Bool) → lower (byte_of a) (byte_of b) ≡ byte_of (a && b)
-unfolding lower
+byte_and : (a b : Bool) → min (byte_of a) (byte_of b) ≡ byte_of (a && b)
 byte_and true true = refl
 byte_and true false = refl
 byte_and false true = refl
 byte_and false false = refl
 
-byte_or : (a b : Bool) → higher (byte_of a) (byte_of b) ≡ byte_of (a || b)
-unfolding higher
+byte_or : (a b : Bool) → max (byte_of a) (byte_of b) ≡ byte_of (a || b)
 byte_or true true = refl
 byte_or true false = refl
 byte_or false true = refl
@@ -108,11 +103,11 @@ code_back c =
     (λ l. ap code_of (sub_neg c 4 l) ∙ omega arith)
     (λ l. ap code_of (sub_pos c 4 (omega arith)) ∙ omega arith)
 
-term_shown : (readings : List ℕ) (age : ℕ) (s : List ℕ) (at : ℕ) → Bytes s → (x : Term) → term_at s at ≡ R.Term x
+term_shown : (readings : List ℕ) (age : ℕ) (s : List ℕ) (at : ℕ) → Bytes s → (x : Term) → term_at s at ≡ Some x
     → seen_of (term_value readings age s at) ≡ value_now (seen_kept readings age) x
 unfolding term_value value_now seen_kept signed_at
 term_shown readings age s at bytes x =
-    by_form s at (λ (t : TermRead). t ≡ R.Term x → seen_of (term_value readings age s at) ≡ value_now (seen_kept readings age) x)
+    by_form s at (λ (t : Option Term). t ≡ Some x → seen_of (term_value readings age s at) ≡ value_now (seen_kept readings age) x)
     (λ f c e.
     let same : Constant (signed_of 4 (number_at 4 s (at + 2))) ≡ x = cc in
     simp f (seen_kept_lem (number_at 4 s (at + 2)) (number_lt 4 s (at + 2) bytes)) ∙ ap (value_now (seen_kept readings age)) same)
@@ -123,38 +118,38 @@ term_shown readings age s at bytes x =
 
 -- ---- operands
 
-both_read : (t u : TermRead) (x y : Term) → both_terms t u ≡ O.Operand (Terms x y) → (t ≡ R.Term x) × (u ≡ R.Term y)
+both_read : (t u : Option Term) (x y : Term) → both_terms t u ≡ Some (Terms x y) → (t ≡ Some x) × (u ≡ Some y)
 unfolding both_terms
-both_read R.Broken u x y e = absurd (let z : ◌≡◌ {A = ℕ} 0 1 = cc in omega arith)
-both_read (R.Term a) R.Broken x y e = absurd (let z : ◌≡◌ {A = ℕ} 0 1 = cc in omega arith)
-both_read (R.Term a) (R.Term b) x y e = (cc, cc)
+both_read None u x y e = absurd (let z : ◌≡◌ {A = ℕ} 0 1 = cc in omega arith)
+both_read (Some a) None x y e = absurd (let z : ◌≡◌ {A = ℕ} 0 1 = cc in omega arith)
+both_read (Some a) (Some b) x y e = (cc, cc)
 
 -- an operand that is there by a test
-there : (b : Bool) (x : OperandRead) (o : Operand) → cond b x O.Broken ≡ O.Operand o → x ≡ O.Operand o
+there : (b : Bool) (x : Option Operand) (o : Operand) → cond b x None ≡ Some o → x ≡ Some o
 there true x o e = e
 there false x o e = absurd (let z : ◌≡◌ {A = ℕ} 0 1 = cc in omega arith)
 
-window_read : (t : TermRead) (a b c : ℕ) (d : ℤ) (from to : ℕ) → window_over t a b ≡ O.Operand (Window c d from to)
-    → (t ≡ R.Term (Reading c d)) × (a ≡ from) × (b ≡ to)
+window_read : (t : Option Term) (a b c : ℕ) (d : ℤ) (from to : ℕ) → window_over t a b ≡ Some (Window c d from to)
+    → (t ≡ Some (Reading c d)) × (a ≡ from) × (b ≡ to)
 unfolding window_over
-window_read R.Broken a b c d from to e = absurd (let z : ◌≡◌ {A = ℕ} 0 1 = cc in omega arith)
-window_read (R.Term (Constant z)) a b c d from to e = absurd (let z : ◌≡◌ {A = ℕ} 0 1 = cc in omega arith)
-window_read (R.Term (Reading u w)) a b c d from to e = (cc, cc, cc)
+window_read None a b c d from to e = absurd (let z : ◌≡◌ {A = ℕ} 0 1 = cc in omega arith)
+window_read (Some (Constant z)) a b c d from to e = absurd (let z : ◌≡◌ {A = ℕ} 0 1 = cc in omega arith)
+window_read (Some (Reading u w)) a b c d from to e = (cc, cc, cc)
 
-pinned_read : (t : TermRead) (c : ℕ) (d : ℤ) → pinned_over t ≡ O.Operand (Pinned c d) → t ≡ R.Term (Reading c d)
+pinned_read : (t : Option Term) (c : ℕ) (d : ℤ) → pinned_over t ≡ Some (Pinned c d) → t ≡ Some (Reading c d)
 unfolding pinned_over
-pinned_read R.Broken c d e = absurd (let z : ◌≡◌ {A = ℕ} 0 1 = cc in omega arith)
-pinned_read (R.Term (Constant z)) c d e = absurd (let z : ◌≡◌ {A = ℕ} 0 1 = cc in omega arith)
-pinned_read (R.Term (Reading u w)) c d e = cc
+pinned_read None c d e = absurd (let z : ◌≡◌ {A = ℕ} 0 1 = cc in omega arith)
+pinned_read (Some (Constant z)) c d e = absurd (let z : ◌≡◌ {A = ℕ} 0 1 = cc in omega arith)
+pinned_read (Some (Reading u w)) c d e = cc
 
-one_read : (s : List ℕ) (at a : ℕ) → operand_at S.NamesOne s at ≡ O.Operand (One a) → number_at 2 s at ≡ a
+one_read : (s : List ℕ) (at a : ℕ) → operand_at S.NamesOne s at ≡ Some (One a) → number_at 2 s at ≡ a
 unfolding operand_at
-one_read s at a e = let f = there (all_zero (take 10 (drop (at + 2) s))) (O.Operand (One (number_at 2 s at))) (One a) e in cc
+one_read s at a e = let f = there (all_zero (take 10 (drop (at + 2) s))) (Some (One (number_at 2 s at))) (One a) e in cc
 
-two_read : (s : List ℕ) (at a b : ℕ) → operand_at S.NamesTwo s at ≡ O.Operand (Two a b) → (number_at 2 s at ≡ a) × (number_at 2 s (at + 2) ≡ b)
+two_read : (s : List ℕ) (at a b : ℕ) → operand_at S.NamesTwo s at ≡ Some (Two a b) → (number_at 2 s at ≡ a) × (number_at 2 s (at + 2) ≡ b)
 unfolding operand_at
 two_read s at a b e =
-    let f = there (all_zero (take 8 (drop (at + 4) s))) (O.Operand (Two (number_at 2 s at) (number_at 2 s (at + 2)))) (Two a b) e in (cc, cc)
+    let f = there (all_zero (take 8 (drop (at + 4) s))) (Some (Two (number_at 2 s at) (number_at 2 s (at + 2)))) (Two a b) e in (cc, cc)
 
 -- ---- one part
 
@@ -179,7 +174,7 @@ module _ (readings : List ℕ) (age : ℕ) (s before this : List ℕ) (at i n : 
   abbrev Made : Part → Type 0
   Made p = kind_truth readings age s before (kind_of p) at this i ≡ byte_of (truth_from now_seen (eqb age 1) b i (view_of p) m)
 
-  part_made : (p : Part) (v : ℕ) → view_fits v i (view_of p) ≡ true → operand_at (shape_of (kind_of p)) s at ≡ O.Operand (operand_of p) → Made p
+  part_made : (p : Part) (v : ℕ) → view_fits v i (view_of p) ≡ true → operand_at (shape_of (kind_of p)) s at ≡ Some (operand_of p) → Made p
   unfolding kind_truth truth_from atom_now shape_of operand_at value_now
   part_made (part.Less x y) v f e =
       let r = both_read (term_at s at) (term_at s (at + 6)) x y e in
@@ -192,11 +187,11 @@ module _ (readings : List ℕ) (age : ℕ) (s before this : List ℕ) (at i n : 
   part_made (part.And a c) v f e =
       let r = two_read s at a c e in
       let l = two_lower i binary.And a c (operator_fits v i (operator.Two binary.And a c) f) in
-      ap₂ lower (this_named at a r.0 l.0) (this_named (at + 2) c r.1 l.1) ∙ byte_and (m a) (m c)
+      ap₂ min (this_named at a r.0 l.0) (this_named (at + 2) c r.1 l.1) ∙ byte_and (m a) (m c)
   part_made (part.Or a c) v f e =
       let r = two_read s at a c e in
       let l = two_lower i binary.Or a c (operator_fits v i (operator.Two binary.Or a c) f) in
-      ap₂ higher (this_named at a r.0 l.0) (this_named (at + 2) c r.1 l.1) ∙ byte_or (m a) (m c)
+      ap₂ max (this_named at a r.0 l.0) (this_named (at + 2) c r.1 l.1) ∙ byte_or (m a) (m c)
   part_made (part.Next a) v f e = refl
   part_made (part.Until a c) v f e = refl
   part_made (part.Release a c) v f e = refl
@@ -209,14 +204,14 @@ module _ (readings : List ℕ) (age : ℕ) (s before this : List ℕ) (at i n : 
   part_made (part.Since a c) v f e =
       let r = two_read s at a c e in
       let l = two_lower i binary.Since a c (operator_fits v i (operator.Two binary.Since a c) f) in
-      ap₂ higher (this_named (at + 2) c r.1 l.1)
-      (ap₂ lower (this_named at a r.0 l.0) (ap (earlier age 0) (held i here) ∙ byte_earlier age false (b i)) ∙ byte_and (m a) (cond (eqb age 1) false (b i)))
+      ap₂ max (this_named (at + 2) c r.1 l.1)
+      (ap₂ min (this_named at a r.0 l.0) (ap (earlier age 0) (held i here) ∙ byte_earlier age false (b i)) ∙ byte_and (m a) (cond (eqb age 1) false (b i)))
       ∙ byte_or (m c) (m a && cond (eqb age 1) false (b i))
   part_made (part.Trigger a c) v f e =
       let r = two_read s at a c e in
       let l = two_lower i binary.Trigger a c (operator_fits v i (operator.Two binary.Trigger a c) f) in
-      ap₂ lower (this_named (at + 2) c r.1 l.1)
-      (ap₂ higher (this_named at a r.0 l.0) (ap (earlier age 1) (held i here) ∙ byte_earlier age true (b i)) ∙ byte_or (m a) (cond (eqb age 1) true (b i)))
+      ap₂ min (this_named (at + 2) c r.1 l.1)
+      (ap₂ max (this_named at a r.0 l.0) (ap (earlier age 1) (held i here) ∙ byte_earlier age true (b i)) ∙ byte_or (m a) (cond (eqb age 1) true (b i)))
       ∙ byte_and (m c) (m a || cond (eqb age 1) true (b i))
   part_made (part.Window c d from to) v f e =
       let r = window_read (term_at s at) (number_at 2 s (at + 6)) (number_at 2 s (at + 8)) c d from to
@@ -286,20 +281,20 @@ module _ (readings : List ℕ) (age : ℕ) (rule before : List ℕ) (n : ℕ) wh
 
 -- ---- the sheet
 
-module _ (sheet : List ℕ) (clear : sheet_outcome sheet ≡ Clear) (bytes : Bytes sheet) where
+module _ (sheet : List ℕ) (clear : sheet_outcome sheet ≡ unrefused) (bytes : Bytes sheet) where
   abbrev count : ℕ
   count = part_count sheet
 
   -- a part by its kind byte and its operand
   part_read : (i : ℕ) → i < count
       → (kind_byte sheet i ≡ kind_of (parts_of sheet i))
-      × (operand_at (shape_of (kind_of (parts_of sheet i))) sheet (operand_place count i) ≡ O.Operand (operand_of (parts_of sheet i)))
+      × (operand_at (shape_of (kind_of (parts_of sheet i))) sheet (operand_place count i) ≡ Some (operand_of (parts_of sheet i)))
   part_read i h =
       let t = cleared_taken sheet clear i h in
       let o = (passed sheet i (parts_of sheet i) t).from in
       let k = (taken_laid sheet i (parts_of sheet i) bytes t).0.kind in
       let same : o.operand ≡ operand_of (parts_of sheet i) = sym (operand_back (kind_byte sheet i) o.operand) ∙ ap operand_of o.made in
-      (k, ap (λ (x : ℕ). operand_at (shape_of x) sheet (operand_place count i)) (sym k) ∙ o.found ∙ ap O.Operand same)
+      (k, ap (λ (x : ℕ). operand_at (shape_of x) sheet (operand_place count i)) (sym k) ∙ o.found ∙ ap Some same)
 
   module _ (readings : List ℕ) (age : ℕ) (rule before : List ℕ) (copied : (j : ℕ) → j < length sheet → get_or rule j 0 ≡ get_or sheet j 0)
       (b : ℕ → Bool) (held : (j : ℕ) → j < count → get_or before j 0 ≡ byte_of (b j)) where

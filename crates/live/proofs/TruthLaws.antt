@@ -1,5 +1,5 @@
 -- The tests and the truths that the code makes of what is kept, as the definitions have it. Assumes nothing.
-use Prim.Native.Nat.{ℕ, zero, suc, ◌+◌, ◌*◌, ◌%◌, ◌≤◌, ◌<◌}
+use Prim.Native.Nat.{ℕ, zero, suc, ◌+◌, ◌*◌, ◌%◌, ◌≤◌, ◌<◌, min, max}
 use native.Mathlib.Omega.{arith}
 use native.Mathlib.Decide.{dec_lt}
 use native.Mathlib.Numerals.{add-one}
@@ -11,6 +11,7 @@ use lib.Dec.{ltb, leb, eqb}
 use lib.ListN.{length, get_or, set, replicate, length-set}
 use lib.IntN.{ℤ, sub_ℕ}
 use lib.Signed.{lt_z}
+use Rattle.std.specs.Int.{from_bool}
 use borrow.Author.Tests.{lt-ltb, le-ltb, eq-eqb, ne_eqb, eqb-true, ltb-true}
 use Rattle.cltlb.specs.Run.{Seen, number, pinned, before_run}
 use Rattle.cltlb.specs.Week.{minute_of, in_window}
@@ -22,8 +23,13 @@ use Rattle.verdict.specs.Lines.{eq_z}
 use Rattle.verdict.specs.Comparisons.{of_number, of_numbers, seen_pinned}
 use Rattle.verdict.proofs.Decisions.{Decides, lt_decides, eq_decides}
 use Rattle.live.specs.Kept.{seen_of}
-use Rattle.live.specs.Truths.{negated, lower, higher, earlier, named, term_value, kind_truth, truths_to}
+use Rattle.live.specs.Truths.{negated, earlier, named, term_value, kind_truth, truths_to}
 use Rattle.live.specs.inner.Minutes.{in_minutes}
+
+-- the byte that std makes of a bool
+pub byte_from : (b : Bool) → from_bool b ≡ byte_of b
+byte_from true = refl
+byte_from false = refl
 
 -- ---- what is seen of what is kept
 
@@ -167,11 +173,11 @@ module _ (readings : List ℕ) (age : ℕ) (rule before : List ℕ) (at : ℕ) (
   unfolding kind_truth
   of_not e f h = rw (e, ← f) h
 
-  pub of_and : {k a b r : ℕ} → k ≡ 4 → a ≡ named rule this at → b ≡ named rule this (at + 2) → r ≡ lower a b → r ≡ Truth k
+  pub of_and : {k a b r : ℕ} → k ≡ 4 → a ≡ named rule this at → b ≡ named rule this (at + 2) → r ≡ min a b → r ≡ Truth k
   unfolding kind_truth
   of_and e f g h = rw (e, ← f, ← g) h
 
-  pub of_or : {k a b r : ℕ} → k ≡ 5 → a ≡ named rule this at → b ≡ named rule this (at + 2) → r ≡ higher a b → r ≡ Truth k
+  pub of_or : {k a b r : ℕ} → k ≡ 5 → a ≡ named rule this at → b ≡ named rule this (at + 2) → r ≡ max a b → r ≡ Truth k
   unfolding kind_truth
   of_or e f g h = rw (e, ← f, ← g) h
 
@@ -184,12 +190,12 @@ module _ (readings : List ℕ) (age : ℕ) (rule before : List ℕ) (at : ℕ) (
   of_weak e f h = rw (e, ← f) h
 
   pub of_since : {k a b c d r : ℕ} → k ≡ 11 → b ≡ named rule this (at + 2) → a ≡ named rule this at → c ≡ earlier age 0 (get_or before i 0)
-      → d ≡ lower a c → r ≡ higher b d → r ≡ Truth k
+      → d ≡ min a c → r ≡ max b d → r ≡ Truth k
   unfolding kind_truth
   of_since e f g h d q = rw (e, ← f, ← g, ← h, ← d) q
 
   pub of_trigger : {k a b c d r : ℕ} → k ≡ 12 → b ≡ named rule this (at + 2) → a ≡ named rule this at → c ≡ earlier age 1 (get_or before i 0)
-      → d ≡ higher a c → r ≡ lower b d → r ≡ Truth k
+      → d ≡ max a c → r ≡ min b d → r ≡ Truth k
   unfolding kind_truth
   of_trigger e f g h d q = rw (e, ← f, ← g, ← h, ← d) q
 

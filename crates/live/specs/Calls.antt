@@ -1,7 +1,7 @@
 -- Lists of calls on a live state, what each place then means, and the state that they lead to. Assumes nothing.
-use Rattle.std.specs.Prelude.{ℕ, ◌*◌, ◌-◌, ◌<◌, ◌≡◌, Bool, true, false, cond, not, ◌↔◌, List, [], ◌∷◌, T, eqb, length, get_or}
-use Rattle.refusal.specs.declared.Outcome.{Outcome}
-use Rattle.refusal.specs.declared.Outcome.TheVariants.{Clear, Refused}
+use Rattle.std.specs.Prelude.{Result, Ok, Err, ℕ, ◌*◌, ◌-◌, ◌<◌, ◌≡◌, Bool, true, false, cond, not, ◌↔◌, List, [], ◌∷◌, T, eqb, length, get_or}
+use Rattle.refusal.specs.Outcome.{Outcome}
+use Rattle.refusal.specs.declared.Refusal.{Refusal}
 use Rattle.refusal.specs.declared.Refusal.TheVariants.{Unfitting}
 use Rattle.refusal.specs.First.{unless}
 use Rattle.cltlb.specs.Run.{Run, under}
@@ -74,8 +74,8 @@ module _ (v : ℕ) (tops : List ℕ) where
 
   -- a refused call changes nothing
   unfoldable pub places_unless : Outcome → (ℕ → Place) → (ℕ → Place) → ℕ → Place
-  places_unless Clear new old = new
-  places_unless (Refused r) new old = old
+  places_unless (Ok _) new old = new
+  places_unless (Err r) new old = old
 
   unfoldable pub places_after : List Call → (ℕ → Place) → ℕ → Place
   places_after [] places = places
@@ -91,11 +91,11 @@ whole_rule sheet = formula_of (views_of sheet) (part_count sheet - 1)
 
 -- What is to be told of a place: "empty"; "not yet" before a first row; then the published truth of the whole rule at the last row, over
 -- the run of the rows since the add, and so over every endless run that begins with them.
-unfoldable pub Tells : Place → Answer → Type 0
-Tells vacant told = told ≡ answer.Empty
-Tells (watched sheet []) told = told ≡ answer.NotYet
+unfoldable pub Tells : Place → Result Answer Refusal → Type 0
+Tells vacant told = told ≡ Ok answer.Empty
+Tells (watched sheet []) told = told ≡ Ok answer.NotYet
 Tells (watched sheet (r ∷ rows)) told = (b : Bool)
-    × (told ≡ answer.Truth b)
+    × (told ≡ Ok (answer.Truth b))
     × (T b ↔ Holds (run_of (r ∷ rows)) (whole_rule sheet) (length rows))
     × ((q : Run) → BeginsWith q (r ∷ rows) → T b ↔ Holds q (whole_rule sheet) (length rows))
 

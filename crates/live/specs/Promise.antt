@@ -1,8 +1,7 @@
 -- What the calls on a live state promise, on every state, and what an answer means after every list of calls. Assumes nothing.
-use Rattle.std.specs.Prelude.{ℕ, ◌<◌, ◌≡◌, List}
+use Rattle.std.specs.Prelude.{Result, Err, ℕ, ◌<◌, ◌≡◌, List}
 use Rattle.refusal.specs.declared.Refusal.{Refusal}
-use Rattle.refusal.specs.declared.Outcome.{Outcome}
-use Rattle.refusal.specs.declared.Outcome.TheVariants.{Clear, Refused}
+use Rattle.refusal.specs.Outcome.{Outcome, unrefused}
 use Rattle.live.specs.declared.Live.{Live}
 use Rattle.live.specs.declared.Answer.{Answer}
 use Rattle.live.specs.State.{start_outcome, empty_live, answer_of, unless_refused}
@@ -22,17 +21,17 @@ pub record CallPromise (call : Call) (before after : Live) (outcome : Outcome) :
   -- the state after it
   pub state : after ≡ state_after call before
   -- A refused call leaves the state as it was, whatever state that is.
-  pub unchanged : (r : Refusal) → outcome ≡ Refused r → after ≡ before
+  pub unchanged : (r : Refusal) → outcome ≡ Err r → after ≡ before
   -- After every list of calls from an empty state, it is refused as the places mean.
   pub refuses : (v : ℕ) (tops : List ℕ) (calls : List Call)
-      → start_outcome v tops ≡ Clear → OfBytes tops → AllSent calls → before ≡ reached v tops calls
+      → start_outcome v tops ≡ unrefused → OfBytes tops → AllSent calls → before ≡ reached v tops calls
       → outcome ≡ outcome_meant v tops call (places_meant v tops calls)
 
 -- the answer of a place
-pub record AnswerPromise (state : Live) (p : ℕ) (told : Answer) : Type 0 where
+pub record AnswerPromise (state : Live) (p : ℕ) (told : Result Answer Refusal) : Type 0 where
   pub is_answer : told ≡ answer_of state p
   -- After every list of adds, drops and rows from an empty state, refused calls standing anywhere, it is "empty", "not yet", or the
   -- published truth of the whole rule at the last row, over the rows since the rule was added.
   pub meaning : (v : ℕ) (tops : List ℕ) (calls : List Call)
-      → start_outcome v tops ≡ Clear → OfBytes tops → AllSent calls → state ≡ reached v tops calls
+      → start_outcome v tops ≡ unrefused → OfBytes tops → AllSent calls → state ≡ reached v tops calls
       → p < 4 → Tells (places_meant v tops calls p) told

@@ -1,7 +1,7 @@
 -- The state of live rules, and what each call does to it, on every state, also one that no list of calls leads to. Assumes nothing.
-use Rattle.std.specs.Prelude.{ℕ, ◌+◌, ◌*◌, ◌-◌, Bool, cond, not, ◌&&◌, List, [], ◌∷◌, map, leb, ltb, eqb, length, get_or, set, take, drop, replicate}
-use Rattle.refusal.specs.declared.Outcome.{Outcome}
-use Rattle.refusal.specs.declared.Outcome.TheVariants.{Clear, Refused}
+use Rattle.std.specs.Prelude.{Result, Ok, Err, ℕ, ◌+◌, ◌*◌, ◌-◌, Bool, cond, not, ◌&&◌, List, [], ◌∷◌, map, leb, ltb, eqb, length, get_or, set, take, drop, replicate}
+use Rattle.refusal.specs.Outcome.{Outcome}
+use Rattle.refusal.specs.declared.Refusal.{Refusal}
 use Rattle.refusal.specs.declared.Refusal.TheVariants.{PlanSizes, Unwatchable, Unfitting}
 use Rattle.refusal.specs.First.{◌or_else◌, unless}
 use Rattle.fields.specs.LittleEndian.{number_at}
@@ -78,14 +78,11 @@ unfoldable pub row_outcome : Live → List ℕ → Outcome
 row_outcome s row = unless (leb s.channels 8 && eqb (length row) (4 * s.channels)) Unfitting
 
 -- A row changes the readings and the watches, and no other field.
-abbrev pub with_row : Live → List ℕ → List Watch → Live
-with_row s readings watches = record { channels = s.channels; tops = s.tops; readings = readings; watches = watches; rules = s.rules }
-
 unfoldable pub after_row : Live → List ℕ → Live
-after_row s row =
-    with_row s
-    (readings_after s.readings s.tops row s.channels)
-    (map (λ p. watch_after (readings_after s.readings s.tops row s.channels) (rule_at s p) (watch_at s p)) (0 ∷ 1 ∷ 2 ∷ 3 ∷ []))
+after_row s row = record s {
+  readings = readings_after s.readings s.tops row s.channels;
+  watches = map (λ p. watch_after (readings_after s.readings s.tops row s.channels) (rule_at s p) (watch_at s p)) (0 ∷ 1 ∷ 2 ∷ 3 ∷ []);
+}
 
 -- ---- add and drop
 
@@ -120,12 +117,12 @@ watch_answer w =
     answer.Empty
 
 -- A place above 3 is refused, also when its answer is read.
-unfoldable pub answer_of : Live → ℕ → Answer
-answer_of s p = cond (ltb p 4) (watch_answer (watch_at s p)) (answer.Refused Unfitting)
+unfoldable pub answer_of : Live → ℕ → Result Answer Refusal
+answer_of s p = cond (ltb p 4) (Ok (watch_answer (watch_at s p))) (Err Unfitting)
 
 -- ---- a call that may be refused
 
 -- the state after it: where it was refused, as it was
 unfoldable pub unless_refused : Outcome → Live → Live → Live
-unless_refused Clear new old = new
-unless_refused (Refused r) new old = old
+unless_refused (Ok _) new old = new
+unless_refused (Err r) new old = old

@@ -1,7 +1,7 @@
 -- The truths of a rule's parts on the newest row, a byte for each, from the newest rows that are kept and the truths on the row before.
 -- They are read off the bytes of the rule, whatever those are; on a sheet that clears refusals 1 to 3 they are the bytes of its parts.
 -- Assumes nothing.
-use Rattle.std.specs.Prelude.{ℕ, zero, suc, ◌+◌, ◌*◌, ◌-◌, ◌%◌, cond, List, leb, ltb, eqb, get_or, set, replicate}
+use Rattle.std.specs.Prelude.{ℕ, zero, suc, ◌+◌, ◌*◌, ◌-◌, ◌%◌, cond, List, min, max, leb, ltb, eqb, get_or, set, replicate}
 use Rattle.std.specs.Int.Signed.{lt_z}
 use Rattle.cltlb.specs.Week.{in_window}
 use Rattle.fields.specs.LittleEndian.{number_at}
@@ -11,15 +11,9 @@ use Rattle.verdict.specs.Lines.{eq_z}
 use Rattle.verdict.specs.Comparisons.{of_number, of_numbers, seen_pinned}
 use Rattle.live.specs.Kept.{kept, unseen, seen_of}
 
--- not, and, or of bytes that are 0 or 1
+-- not, of a byte that is 0 or 1; and, or are min, max
 unfoldable pub negated : ℕ → ℕ
 negated x = cond (eqb x 1) 0 1
-
-unfoldable pub lower : ℕ → ℕ → ℕ
-lower x y = cond (ltb x y) x y
-
-unfoldable pub higher : ℕ → ℕ → ℕ
-higher x y = cond (ltb x y) y x
 
 -- on the first row since the add what an operator begins with, later what is known of the row before
 unfoldable pub earlier : ℕ → ℕ → ℕ → ℕ
@@ -50,12 +44,12 @@ module _ (readings : List ℕ) (age : ℕ) where
         cond (eqb kind 1) (byte_of (of_numbers lt_z (seen_of (term_value rule at)) (seen_of (term_value rule (at + 6)))))
         (cond (eqb kind 2) (byte_of (of_numbers eq_z (seen_of (term_value rule at)) (seen_of (term_value rule (at + 6)))))
         (cond (eqb kind 3) (negated (named rule this at))
-        (cond (eqb kind 4) (lower (named rule this at) (named rule this (at + 2)))
-        (cond (eqb kind 5) (higher (named rule this at) (named rule this (at + 2)))
+        (cond (eqb kind 4) (min (named rule this at) (named rule this (at + 2)))
+        (cond (eqb kind 5) (max (named rule this at) (named rule this (at + 2)))
         (cond (eqb kind 9) (earlier age 0 (named rule before at))
         (cond (eqb kind 10) (earlier age 1 (named rule before at))
-        (cond (eqb kind 11) (higher (named rule this (at + 2)) (lower (named rule this at) (earlier age 0 (get_or before i 0))))
-        (cond (eqb kind 12) (lower (named rule this (at + 2)) (higher (named rule this at) (earlier age 1 (get_or before i 0))))
+        (cond (eqb kind 11) (max (named rule this (at + 2)) (min (named rule this at) (earlier age 0 (get_or before i 0))))
+        (cond (eqb kind 12) (min (named rule this (at + 2)) (max (named rule this at) (earlier age 1 (get_or before i 0))))
         (cond (eqb kind 13) (byte_of (of_number (seen_of (term_value rule at)) (in_window (number_at 2 rule (at + 6)) (number_at 2 rule (at + 8)))))
         (cond (eqb kind 14) (byte_of (seen_pinned (seen_of (term_value rule at)))) 0))))))))))
 

@@ -1,5 +1,3 @@
 -- What only the contracts of inner functions cite: no promise of an entry point leans on it.
-pub mod Filling
 pub mod Minutes
 pub mod Rules
-pub mod Unless

@@ -1,9 +1,8 @@
 // The newest rows as the state keeps them, and what is seen of a term in them.
-ghost use Rattle.std.specs.Prelude.{◌≡◌, ℕ, ◌+◌, ◌*◌, ◌-◌, ◌≤◌, ◌<◌, length, get_or};
+ghost use Rattle.std.specs.Prelude.{◌≡◌, ℕ, ◌+◌, ◌*◌, ◌≤◌, ◌<◌, length};
 ghost use Rattle.fields.specs.LittleEndian.{number_at};
 ghost use Rattle.live.specs.Kept.{kept, kept_under, new_reading, reading_after, readings_after};
 ghost use Rattle.live.specs.Truths.{reading_at, term_value};
-ghost use Rattle.live.specs.inner.Filling.{Filled};
 
 use fields::{BIAS, u32_at};
 
@@ -44,31 +43,15 @@ fn new_reading(tops: &[u32; 8], row: &[u8], v: usize, channel: usize) -> u64
     under_top(tops[channel], kept_number(u32_at(row, 4 * channel)))
 }
 
-// The rows that stay, moved to where the oldest was.
-fn older_rows(readings: &[u64; 40]) -> [u64; 40]
-    ensures { Filled 40 (λ j. get_or readings.now (j + 8) 0) 32 result }
-{
-    let mut next = [0u64; 40];
-    let mut j = 0;
-    while j < 32 {
-        next[j] = readings[j + 8];
-        j += 1;
-    }
-    next
-}
-
-// The kept readings with a new row behind them.
-pub fn readings_after(readings: &[u64; 40], tops: &[u32; 8], row: &[u8], v: usize) -> [u64; 40]
+// A new row kept: the oldest row goes, and the new one comes behind the others.
+pub fn keep_row(readings: &mut [u64; 40], tops: &[u32; 8], row: &[u8], v: usize)
     requires { length row.now ≡ 4 * v }
-    ensures { result ≡ readings_after readings.now tops.now row.now v }
+    ensures { readings.new ≡ readings_after readings.old tops.now row.now v }
 {
-    let mut next = older_rows(readings);
-    let mut channel = 0;
-    while channel < 8 {
-        next[32 + channel] = new_reading(tops, row, v, channel);
-        channel += 1;
+    readings.copy_within(8.., 0);
+    for channel in 0..8 {
+        readings[32 + channel] = new_reading(tops, row, v, channel);
     }
-    next
 }
 
 // The reading at a place of the kept rows, of which those from before the add are not seen.
@@ -94,21 +77,5 @@ pub fn term_value(rule: &[u8], at: usize, readings: &[u64; 40], age: usize) -> u
     if rule[at] == 0 {
         return kept_number(number);
     }
-    reading_at(
-        readings,
-        age,
-        8 * wide_index(rule[at + 1]) + wide_number(number),
-    )
-}
-
-fn wide_index(x: u8) -> usize
-    ensures { (result ≡ x) × (result < 256) }
-{
-    x as usize
-}
-
-fn wide_number(x: u32) -> usize
-    ensures { (result ≡ x) × (result < 4294967296) }
-{
-    x as usize
+    reading_at(readings, age, 8 * rule[at + 1] as usize + number as usize)
 }

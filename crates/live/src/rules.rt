@@ -7,46 +7,41 @@ ghost use Rattle.live.specs.inner.Rules.{rule_read};
 
 use past::view_ahead;
 use refusal::Refusal;
-use rule::{SheetRead, Taken, check_sheet, take};
+use rule::sizes::Sizes;
+use rule::{check_sheet, take};
 
 // Part i of a sheet looks at a later row; a part that is not there does not.
 fn part_ahead(sheet: &[u8], i: usize) -> bool
     ensures { result ≡ view_ahead (views_of sheet.now i) }
 {
-    let taken = take(sheet, i);
-    let Taken::Part(part) = taken else {
-        return false;
-    };
-    view_ahead(cltlb::view_of(part))
+    match take(sheet, i) {
+        Ok(part) => view_ahead(cltlb::view_of(part)),
+        Err(_) => false,
+    }
 }
 
 // One of the first n parts does.
 fn any_ahead(sheet: &[u8], n: usize) -> bool
     ensures { result ≡ any_below (λ i. view_ahead (views_of sheet.now i)) n }
 {
-    let mut i = 0;
-    while i < n {
+    for i in 0..n {
         if part_ahead(sheet, i) {
             return true;
         }
-        i += 1;
     }
     false
 }
 
-// The number of parts of a rule that can be watched over v channels, or why it cannot.
-pub fn read_rule(sheet: &[u8], v: usize) -> SheetRead
+// The sizes of a rule that can be watched over v channels, or why it cannot.
+pub fn read_rule(sheet: &[u8], v: usize) -> Result<Sizes, Refusal>
     ensures { result ≡ rule_read v sheet.now }
 {
-    let read = check_sheet(sheet);
-    let SheetRead::Counts { parts, channels } = read else {
-        return read;
-    };
-    if channels != v {
-        return SheetRead::Refused(Refusal::Unwatchable);
+    let sizes = check_sheet(sheet)?;
+    if sizes.channels != v {
+        return Err(Refusal::Unwatchable);
     }
-    if any_ahead(sheet, parts) {
-        return SheetRead::Refused(Refusal::Unwatchable);
+    if any_ahead(sheet, sizes.parts) {
+        return Err(Refusal::Unwatchable);
     }
-    read
+    Ok(sizes)
 }

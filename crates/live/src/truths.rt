@@ -9,53 +9,35 @@ ghost use Rattle.verdict.specs.Lines.{eq_z};
 ghost use Rattle.verdict.specs.Comparisons.{of_number, of_numbers, seen_pinned};
 ghost use Rattle.live.specs.Kept.{seen_of};
 ghost use Rattle.live.specs.inner.Minutes.{in_minutes};
-ghost use Rattle.live.specs.Truths.{negated, lower, higher, earlier, named, kind_truth, truths_to};
+ghost use Rattle.live.specs.Truths.{negated, earlier, named, kind_truth, truths_to};
 
 use crate::readings::{PINNED, term_value};
 use fields::u16_at;
 
-// Not, and, or of bytes that are 0 or 1.
+// Not, of a byte that is 0 or 1.
 fn negation(x: u8) -> u8
     ensures { result ≡ negated x }
 {
     if x == 1 { 0 } else { 1 }
 }
 
-fn both(x: u8, y: u8) -> u8
-    ensures { result ≡ lower x y }
-{
-    if x < y { x } else { y }
-}
-
-fn either(x: u8, y: u8) -> u8
-    ensures { result ≡ higher x y }
-{
-    if x < y { y } else { x }
-}
-
-fn byte_of(b: bool) -> u8
-    ensures { result ≡ byte_of b }
-{
-    if b { 1 } else { 0 }
-}
-
 // Comparisons of what is kept: false where one is pinned or not seen.
 fn below(x: u64, y: u64) -> u8
     ensures { result ≡ byte_of (of_numbers lt_z (seen_of x) (seen_of y)) }
 {
-    byte_of((x < y) & (y < PINNED))
+    u8::from((x < y) & (y < PINNED))
 }
 
 fn same(x: u64, y: u64) -> u8
     ensures { result ≡ byte_of (of_numbers eq_z (seen_of x) (seen_of y)) }
 {
-    byte_of((x == y) & (y < PINNED))
+    u8::from((x == y) & (y < PINNED))
 }
 
 fn is_pinned(x: u64) -> u8
     ensures { result ≡ byte_of (seen_pinned (seen_of x)) }
 {
-    byte_of(x == PINNED)
+    u8::from(x == PINNED)
 }
 
 // The minute is in the window; one that runs over the end of the week has its end before its beginning.
@@ -76,7 +58,7 @@ fn within(x: u64, from: usize, to: usize) -> u8
         return 0;
     }
     // 2^31 + 9952 is whole weeks.
-    byte_of(in_window((x + 9952) % 10080, from as u64, to as u64))
+    u8::from(in_window((x + 9952) % 10080, from as u64, to as u64))
 }
 
 // On the first row since the add what an operator begins with, later what is known of the row before.
@@ -94,7 +76,7 @@ fn byte_named(rule: &[u8], at: usize, truths: &[u8; 64]) -> u8
     truths[u16_at(rule, at) % 64]
 }
 
-// Part i of a kind, its operand from `at` on, from the truths of lower parts.
+// Part i of a kind, its operand from `at` on, from the truths of lower parts. The kind is a byte and no enum, as it may be any byte.
 fn kind_truth(
     rule: &[u8],
     kind: u8,
@@ -118,18 +100,18 @@ fn kind_truth(
             term_value(rule, at + 6, readings, age),
         ),
         3 => negation(byte_named(rule, at, this)),
-        4 => both(byte_named(rule, at, this), byte_named(rule, at + 2, this)),
-        5 => either(byte_named(rule, at, this), byte_named(rule, at + 2, this)),
+        4 => byte_named(rule, at, this).min(byte_named(rule, at + 2, this)),
+        5 => byte_named(rule, at, this).max(byte_named(rule, at + 2, this)),
         9 => since_add(age, 0, byte_named(rule, at, before)),
         10 => since_add(age, 1, byte_named(rule, at, before)),
-        11 => either(
-            byte_named(rule, at + 2, this),
-            both(byte_named(rule, at, this), since_add(age, 0, before[i])),
-        ),
-        12 => both(
-            byte_named(rule, at + 2, this),
-            either(byte_named(rule, at, this), since_add(age, 1, before[i])),
-        ),
+        11 => {
+            let since = since_add(age, 0, before[i]);
+            byte_named(rule, at + 2, this).max(byte_named(rule, at, this).min(since))
+        }
+        12 => {
+            let trigger = since_add(age, 1, before[i]);
+            byte_named(rule, at + 2, this).min(byte_named(rule, at, this).max(trigger))
+        }
         13 => within(
             term_value(rule, at, readings, age),
             u16_at(rule, at + 6),
@@ -152,8 +134,7 @@ pub fn truths_of(
     ensures { result ≡ truths_to readings.now age rule.now before.now n n }
 {
     let mut this = [0u8; 64];
-    let mut i = 0;
-    while i < n {
+    for i in 0..n {
         let byte = kind_truth(
             rule,
             rule[4 + i],
@@ -165,7 +146,6 @@ pub fn truths_of(
             i,
         );
         this[i] = byte;
-        i += 1;
     }
     this
 }

@@ -1,5 +1,7 @@
 -- A guess that the check accepts is the table: its marks are the marks made, since an accepted table is unique but for its witnesses,
 -- and these are the lowest by the marks. Assumes nothing.
+use Rattle.std.specs.Prelude.{Result, Ok, Err}
+use Rattle.refusal.specs.declared.Refusal.{Refusal}
 use Prim.Native.Nat.{ℕ, zero, suc, ◌+◌, ◌*◌, ◌-◌, ◌≤◌, ◌<◌}
 use native.Mathlib.Decide.{dec_lt}
 use native.Mathlib.Omega.{arith}
@@ -13,12 +15,9 @@ use Rattle.cltlb.specs.Views.{view_of}
 use Rattle.cltlb.specs.declared.Part.{Part}
 use Rattle.cltlb.specs.declared.View.{View}
 use Rattle.fields.specs.LittleEndian.{bytes_of}
-use Rattle.refusal.specs.declared.Outcome.{Outcome}
-use Rattle.refusal.specs.declared.Outcome.TheVariants.{Clear, Refused}
+use Rattle.refusal.specs.Outcome.{Outcome, unrefused}
 use Rattle.rule.specs.Layout.{part_count, channel_count}
 use Rattle.rule.specs.Take.{take_of, views_of}
-use Rattle.rule.specs.declared.Taken.{Taken}
-use Rattle.rule.specs.declared.Taken.TheVariants as K
 use Rattle.plan.specs.Layout.{cycle_rows, rows}
 use Rattle.plan.specs.declared.sizes.Sizes.{Sizes}
 use Rattle.plan.specs.inner.Sizes.{all_rows}
@@ -40,12 +39,9 @@ use Rattle.labelling.specs.Labels.{lowest_witness, made_mark, made_witness, made
 use Rattle.labelling.proofs.SameMarks.{SameBelow, witness_same}
 use Rattle.labelling.proofs.Made.{agree_witness, made_accepted}
 use Rattle.labelling.proofs.Guessing.{as_long}
-use Rattle.acceptance.specs.declared.Checked.{Checked}
-use Rattle.acceptance.specs.declared.Checked.TheVariants as C
 use Rattle.acceptance.specs.Check.{mark_of, witness_at, parts_outcome, check_outcome, check_of}
 use Rattle.acceptance.specs.Promise.{Cleared}
 use Rattle.acceptance.proofs.Promised.{accepted_clear, all_clear}
-use Rattle.maker.specs.declared.Made.TheVariants as M
 use Rattle.maker.specs.Make.{closings_outcome, make_of, bytes_after}
 use Rattle.maker.specs.Promise.{NoneAccepted}
 use Rattle.maker.specs.inner.Parts.{AgreeOn, MadeBelow}
@@ -83,7 +79,7 @@ module _ (rule plan : List ℕ) {n : ℕ} {z : Sizes} (ready : Ready rule plan n
   as_read : (F : ℕ → ℕ → Type 0) → F (part_count rule) (rows plan) → F n (all_rows z)
   as_read F h = subst⁻¹ (λ (m : ℕ). F m (all_rows z)) ready.parts (subst (F (part_count rule)) (rows_are ready.fits) h)
 
-  module _ (i : ℕ) (low : i < n) {t : Taken} (e : t ≡ take_of rule i) {part : Part} (f : t ≡ K.Part part) {p : View} (g : p ≡ view_of part)
+  module _ (i : ℕ) (low : i < n) {t : Result Part Refusal} (e : t ≡ take_of rule i) {part : Part} (f : t ≡ Ok part) {p : View} (g : p ≡ view_of part)
       {old mid : List ℕ} (so_far : Witnessed rule plan old mid n (all_rows z) i) where
     own_witness : {x : ℕ} → x ≡ lowest_witness plan (marked (all_rows z) mid) p i → x ≡ lowest_witness plan (marked (all_rows z) old) (views_of rule i) i
     own_witness d =
@@ -113,7 +109,7 @@ witnessed_sized done sized = as_long done.long sized
 
 -- ---- a table that is accepted
 
-module _ (rule plan : List ℕ) (e : inputs_outcome rule plan ≡ Clear) where
+module _ (rule plan : List ℕ) (e : inputs_outcome rule plan ≡ unrefused) where
   abbrev n : ℕ
   n = part_count rule
 
@@ -126,17 +122,17 @@ module _ (rule plan : List ℕ) (e : inputs_outcome rule plan ≡ Clear) where
   h_c : 1 ≤ cycle_rows plan
   h_c = some_cycle rule plan e
 
-  module _ (new : List ℕ) (v : Bool) (a : check_of rule plan new ≡ C.Accepted v) where
+  module _ (new : List ℕ) (v : Bool) (a : check_of rule plan new ≡ Ok v) where
     -- every part closes,
-    pub accepted_closed : closings_outcome rule plan ≡ Clear
+    pub accepted_closed : closings_outcome rule plan ≡ unrefused
     unfolding NoneAccepted
     accepted_closed = go (closings_outcome rule plan) refl
       where
-        go : (o : Outcome) → closings_outcome rule plan ≡ o → closings_outcome rule plan ≡ Clear
-        go Clear c = c
-        go (Refused q) c = absurd (none_accepted rule plan e q c new v a)
+        go : (o : Outcome) → closings_outcome rule plan ≡ o → closings_outcome rule plan ≡ unrefused
+        go (Ok _) c = c
+        go (Err q) c = absurd (none_accepted rule plan e q c new v a)
 
-    clears : Cleared rule plan new × (parts_outcome rule plan new ≡ Clear)
+    clears : Cleared rule plan new × (parts_outcome rule plan new ≡ unrefused)
     unfolding check_of
     clears = all_clear rule plan new (accepted_clear rule plan new (check_outcome rule plan new) v a).0
 
@@ -202,7 +198,7 @@ module _ (rule plan : List ℕ) {n : ℕ} {z : Sizes} (ready : Ready rule plan n
   -- Marks, then the lowest witnesses by them, then the sizes: where it is accepted, it is the table.
   pub guess_right : (old mid third new : List ℕ) → Witnessed rule plan old mid n (all_rows z) n → Sized old n (all_rows z)
       → Stored mid third 0 0 2 (λ k. get_or (bytes_of 2 n) k 0) → Stored third new 2 0 2 (λ k. get_or (bytes_of 2 (all_rows z)) k 0)
-      → (v : Bool) → check_of rule plan new ≡ C.Accepted v → new ≡ made_table (views_of rule) plan n
+      → (v : Bool) → check_of rule plan new ≡ Ok v → new ≡ made_table (views_of rule) plan n
   guess_right old mid third new done sized first second v a =
       table_left rule plan ready old sized.whole mid third new
       (as_read rule plan ready (λ n w. Sized mid n w → Witnessed rule plan old mid n w n → MadeBelow rule plan mid n w n)
@@ -211,8 +207,8 @@ module _ (rule plan : List ℕ) {n : ℕ} {z : Sizes} (ready : Ready rule plan n
       first second
 
   -- The answer then, and the bytes left.
-  pub guess_left : (before : List ℕ) → length before ≡ 4 + n * all_rows z + 2 * n → {old new : List ℕ} {answer : Checked} → Guessed rule plan old new n answer
-      → {v : Bool} → answer ≡ C.Accepted v → (M.Table v ≡ make_of rule plan before) × (new ≡ bytes_after rule plan before)
+  pub guess_left : (before : List ℕ) → length before ≡ 4 + n * all_rows z + 2 * n → {old new : List ℕ} {answer : Result Bool Refusal} → Guessed rule plan old new n answer
+      → {v : Bool} → answer ≡ Ok v → (Ok v ≡ make_of rule plan before) × (new ≡ bytes_after rule plan before)
   unfolding check_of mark_of
   guess_left before long {old} {new} guessed {v} a =
       let accepted = sym guessed.is_check ∙ a in

@@ -1,5 +1,7 @@
 -- 14 and 10 name the same part and row. Of a part below which every part is right, the maker says 14, in a buffer of the right length,
 -- exactly where the check says 10, on the same row, whatever the marks of that part and of higher ones are. Assumes nothing.
+use Rattle.refusal.specs.Outcome.{unrefused}
+use Rattle.std.specs.Prelude.{Err}
 use Prim.Native.Nat.{ℕ, ◌+◌, ◌*◌, ◌≤◌, ◌<◌}
 use native.Mathlib.Omega.{arith}
 use mathlib.Core.Path.{◌≡◌, refl, sym, ◌∙◌}
@@ -9,7 +11,6 @@ use mathlib.Core.Logic.Iff
 use mathlib.Core.Logic.{◌↔◌}
 use lib.ListN.{length}
 use Rattle.cltlb.specs.Fits.{view_fits}
-use Rattle.refusal.specs.declared.Outcome.TheVariants.{Clear}
 use Rattle.refusal.specs.declared.Refusal.TheVariants.{Closing, NoTable}
 use Rattle.rule.specs.Layout.{part_count, channel_count}
 use Rattle.rule.specs.Take.{views_of}
@@ -23,12 +24,10 @@ use Rattle.labelling.specs.Labels.{made_mark}
 use Rattle.labelling.proofs.SameMarks.{SameBelow, closing_same}
 use Rattle.labelling.proofs.Made.{Closed, lower_true, agree}
 use Rattle.labelling.proofs.Settled.{settled_closed}
-use Rattle.acceptance.specs.declared.Checked.TheVariants as C
 use Rattle.acceptance.specs.Check.{mark_of, witness_at, check_of}
 use Rattle.acceptance.specs.Promise.{Cleared, ClosingMeans}
 use Rattle.acceptance.proofs.Promised.{check_promise}
 use Rattle.acceptance.proofs.ClosingAnswer.{closing_turn, closing_answer, right_passed}
-use Rattle.maker.specs.declared.Made.TheVariants as M
 use Rattle.maker.specs.Make.{make_of}
 use Rattle.maker.proofs.Promised.{some_cycle, fits, open_answer}
 
@@ -36,13 +35,13 @@ module _ (rule plan table before : List ℕ) (lent : length before ≡ 4 + part_
   -- Part i is one of the rule's, and every lower one is right.
   pub same_place : Cleared rule plan table
       → FirstFault (views_of rule) (part_count rule) plan (mark_of rule plan table) (witness_at rule plan table) i
-      → (check_of rule plan table ≡ C.Refused (Closing i row)) ↔ (make_of rule plan before ≡ M.Refused (NoTable i row))
+      → (check_of rule plan table ≡ Err (Closing i row)) ↔ (make_of rule plan before ≡ Err (NoTable i row))
   same_place c fault =
       Iff.trans (closing_answer rule plan table clear c.table_clear i row fault.present passed)
       (Iff.trans (λ e. same_closing ∙ e, λ e. sym same_closing ∙ e)
       (Iff.symm (open_answer rule plan before (record { sheet = c.sheet; plan_clear = c.plan_clear; buffer = lent }) i row fault.present closed)))
     where
-      clear : inputs_outcome rule plan ≡ Clear
+      clear : inputs_outcome rule plan ≡ unrefused
       clear = both_clear rule plan c.sheet c.plan_clear
 
       cycle : 1 ≤ cycle_rows plan
@@ -55,7 +54,7 @@ module _ (rule plan table before : List ℕ) (lent : length before ≡ 4 + part_
       few = let l = fault.present in omega arith
 
       -- the lower parts pass the check,
-      passed : (a : ℕ) → a < i → part_outcome plan (mark_of rule plan table) (views_of rule a) a (witness_at rule plan table a) ≡ Clear
+      passed : (a : ℕ) → a < i → part_outcome plan (mark_of rule plan table) (views_of rule a) a (witness_at rule plan table a) ≡ unrefused
       passed = right_passed rule plan table c i fault
 
       -- and close by the marks made,
@@ -75,7 +74,7 @@ module _ (rule plan table before : List ℕ) (lent : length before ≡ 4 + part_
           closing_same plan cycle (made_mark (views_of rule) plan) (mark_of rule plan table) i same (channel_count rule) (views_of rule i) (fit i fault.present)
 
   -- So where the check answers 10, the maker answers 14.
-  pub closing_no_table : check_of rule plan table ≡ C.Refused (Closing i row) → make_of rule plan before ≡ M.Refused (NoTable i row)
+  pub closing_no_table : check_of rule plan table ≡ Err (Closing i row) → make_of rule plan before ≡ Err (NoTable i row)
   unfolding ClosingMeans
   closing_no_table e =
       let t = closing_turn rule plan table i row e in

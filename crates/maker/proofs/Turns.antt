@@ -1,4 +1,5 @@
 -- The maker's turns as the code takes them: one part after another, then the sizes, or zero bytes. Assumes nothing.
+use Rattle.std.specs.Prelude.{Result, Ok, Err}
 use Prim.Native.Nat.{ℕ, suc, ◌+◌, ◌*◌, ◌-◌, ◌≤◌, ◌<◌}
 use native.Mathlib.Numerals.{add-one}
 use native.Mathlib.Omega.{arith}
@@ -15,15 +16,12 @@ use Rattle.cltlb.specs.declared.Part.{Part}
 use Rattle.cltlb.specs.declared.View.{View}
 use Rattle.refusal.specs.First.{◌or_else◌, unless, in_turn_from, in_turn}
 use Rattle.refusal.specs.Report.{report_of}
-use Rattle.refusal.specs.declared.Outcome.{Outcome}
-use Rattle.refusal.specs.declared.Outcome.TheVariants.{Clear, Refused}
+use Rattle.refusal.specs.Outcome.{Outcome, unrefused}
 use Rattle.refusal.specs.declared.Refusal.{Refusal}
 use Rattle.refusal.specs.declared.Refusal.TheVariants.{BufferLength, NoTable}
 use Rattle.refusal.proofs.First.{clear_refused, turn_first, turn_next, turn_end}
 use Rattle.rule.specs.Layout.{part_count, channel_count}
 use Rattle.rule.specs.Take.{take_of, views_of}
-use Rattle.rule.specs.declared.Taken.{Taken}
-use Rattle.rule.specs.declared.Taken.TheVariants as K
 use Rattle.plan.specs.Layout.{cycle_rows, rows}
 use Rattle.plan.specs.declared.sizes.Sizes.{Sizes}
 use Rattle.plan.specs.inner.Sizes.{all_rows}
@@ -43,7 +41,6 @@ use Rattle.labelling.specs.Labels.{label_of, lowest_witness, made_mark, made_tab
 use Rattle.labelling.specs.inner.Rows.{RowsLabelled}
 use Rattle.labelling.proofs.SameMarks.{closing_same}
 use Rattle.labelling.proofs.MadeTable.{table_same}
-use Rattle.maker.specs.declared.Made.TheVariants as M
 use Rattle.maker.specs.Make.{as_no_table, open_outcome, closings_outcome, lent_outcome, make_outcome, answered, make_of, left_by, bytes_after}
 use Rattle.maker.specs.inner.Parts.{AgreeOn, MadeBelow, MadeTo}
 use Rattle.maker.proofs.InMaking.{agree_below, marks_next, witness_is, witnesses_kept, witnesses_next, marks_kept, whole_table}
@@ -72,7 +69,7 @@ module _ (rule plan : List ℕ) {n : ℕ} {z : Sizes} (ready : Ready rule plan n
 
   -- ---- the turn of part i
 
-  module _ (i : ℕ) (low : i < n) {t : Taken} (e : t ≡ take_of rule i) {part : Part} (f : t ≡ K.Part part) {p : View} (g : p ≡ view_of part)
+  module _ (i : ℕ) (low : i < n) {t : Result Part Refusal} (e : t ≡ take_of rule i) {part : Part} (f : t ≡ Ok part) {p : View} (g : p ≡ view_of part)
       (old : List ℕ) (below : MadeBelow rule plan old n (all_rows z) i) where
     same : views_of rule i ≡ p
     same = taken_same rule plan ready i low e f g
@@ -88,24 +85,24 @@ module _ (rule plan : List ℕ) {n : ℕ} {z : Sizes} (ready : Ready rule plan n
         (agree_below plan some_cycle (views_of rule) (channel_count rule) n (all_fit rule plan ready) old i (omega arith) agree)
         (channel_count rule) (views_of rule i) (all_fit rule plan ready i low))) below.marks)
 
-    pub part_open : {r : Outcome} → r ≡ closing_outcome plan (marked (all_rows z) old) p i → {q : Refusal} → r ≡ Refused q
-        → Refused (NoTable (report_of q).part (report_of q).row) ≡ open_outcome rule plan i
+    pub part_open : {r : Outcome} → r ≡ closing_outcome plan (marked (all_rows z) old) p i → {q : Refusal} → r ≡ Err q
+        → Err (NoTable (report_of q).part (report_of q).row) ≡ open_outcome rule plan i
     unfolding as_no_table
     part_open d h = sym (ap as_no_table h) ∙ closing_is d
 
-    pub part_closed : {r : Outcome} → r ≡ closing_outcome plan (marked (all_rows z) old) p i → r ≡ Clear → Clear ≡ open_outcome rule plan i
+    pub part_closed : {r : Outcome} → r ≡ closing_outcome plan (marked (all_rows z) old) p i → r ≡ unrefused → unrefused ≡ open_outcome rule plan i
     unfolding as_no_table
     part_closed d h = sym (ap as_no_table h) ∙ closing_is d
 
     -- What a part that does not close leaves behind it.
     pub left_open : {mid : List ℕ} {r : Outcome} → RowsLabelled old mid (all_rows z) i r (label_of plan (marked (all_rows z) old) p)
-        → {q : Refusal} → MadeTo rule plan old mid n (all_rows z) (i + 1) (Refused q)
+        → {q : Refusal} → MadeTo rule plan old mid n (all_rows z) (i + 1) (Err q)
     left_open labelled = record { long = labelled.rows_alone.1.long; made = λ h. absurd (clear_refused h) }
 
     -- And one that does, once its witness is written.
-    pub left_made : (mid new : List ℕ) {r : Outcome} → RowsLabelled old mid (all_rows z) i r (label_of plan (marked (all_rows z) old) p) → r ≡ Clear
+    pub left_made : (mid new : List ℕ) {r : Outcome} → RowsLabelled old mid (all_rows z) i r (label_of plan (marked (all_rows z) old) p) → r ≡ unrefused
         → {x : ℕ} → x ≡ lowest_witness plan (marked (all_rows z) mid) p i
-        → Stored mid new (4 + n * all_rows z + 2 * i) 0 2 (λ k. get_or (bytes_of 2 x) k 0) → MadeTo rule plan old new n (all_rows z) (i + 1) Clear
+        → Stored mid new (4 + n * all_rows z + 2 * i) 0 2 (λ k. get_or (bytes_of 2 x) k 0) → MadeTo rule plan old new n (all_rows z) (i + 1) unrefused
     left_made mid new labelled h {x} d done = record {
       long = done.long ∙ (labelled.made h).long;
       made = λ _. record {
@@ -157,17 +154,17 @@ module _ (rule plan : List ℕ) {n : ℕ} {z : Sizes} (ready : Ready rule plan n
   turns_first = sym turns_all ∙ turn_first (open_outcome rule plan) n
 
   module _ (i : ℕ) (so_far : closings_outcome rule plan ≡ turns_from i) where
-    pub turns_next : i < n → {r : Outcome} → r ≡ open_outcome rule plan i → r ≡ Clear → closings_outcome rule plan ≡ turns_from (i + 1)
+    pub turns_next : i < n → {r : Outcome} → r ≡ open_outcome rule plan i → r ≡ unrefused → closings_outcome rule plan ≡ turns_from (i + 1)
     unfolding ◌or_else◌
     turns_next l d h =
         so_far ∙ turn_next (open_outcome rule plan) i n l ∙ ap (λ o. o or_else turns_from (i + 1)) (sym d ∙ h)
 
-    pub turns_stop : i < n → {r : Outcome} → r ≡ open_outcome rule plan i → {q : Refusal} → r ≡ Refused q → Refused q ≡ closings_outcome rule plan
+    pub turns_stop : i < n → {r : Outcome} → r ≡ open_outcome rule plan i → {q : Refusal} → r ≡ Err q → Err q ≡ closings_outcome rule plan
     unfolding ◌or_else◌
     turns_stop l d h =
         sym (so_far ∙ turn_next (open_outcome rule plan) i n l ∙ ap (λ o. o or_else turns_from (i + 1)) (sym d ∙ h))
 
-    pub turns_end : n ≤ i → Clear ≡ closings_outcome rule plan
+    pub turns_end : n ≤ i → unrefused ≡ closings_outcome rule plan
     turns_end l = sym (so_far ∙ turn_end (open_outcome rule plan) i n l)
 
   -- ---- the whole
@@ -177,7 +174,7 @@ module _ (rule plan : List ℕ) {n : ℕ} {z : Sizes} (ready : Ready rule plan n
     long_is = ap₂ (λ (n w : ℕ). 4 + n * w + 2 * n) ready.parts (sym (rows_are ready.fits))
 
     -- a buffer of another length
-    pub other_length : (length before ≡ 4 + n * all_rows z + 2 * n → ⊥) → (M.Refused BufferLength ≡ make_of rule plan before) × (before ≡ bytes_after rule plan before)
+    pub other_length : (length before ≡ 4 + n * all_rows z + 2 * n → ⊥) → (Err BufferLength ≡ make_of rule plan before) × (before ≡ bytes_after rule plan before)
     unfolding make_of make_outcome lent_outcome answered bytes_after left_by ◌or_else◌ unless
     other_length differs =
         let wrong = ne_eqb (length before) (4 + part_count rule * rows plan + 2 * part_count rule) (λ e. differs (e ∙ sym long_is)) in
@@ -191,8 +188,8 @@ module _ (rule plan : List ℕ) {n : ℕ} {z : Sizes} (ready : Ready rule plan n
       right_sized = record { few_parts = (few_there rule plan ready).0; few_rows = (few_there rule plan ready).1; whole = long }
 
       -- a part that does not close
-      pub zero_left : (mid new : List ℕ) → length mid ≡ length before → new ≡ zeroed mid → {r : Outcome} → r ≡ closings_outcome rule plan → {q : Refusal} → r ≡ Refused q
-          → (M.Refused q ≡ make_of rule plan before) × (new ≡ bytes_after rule plan before)
+      pub zero_left : (mid new : List ℕ) → length mid ≡ length before → new ≡ zeroed mid → {r : Outcome} → r ≡ closings_outcome rule plan → {q : Refusal} → r ≡ Err q
+          → (Err q ≡ make_of rule plan before) × (new ≡ bytes_after rule plan before)
       unfolding make_of make_outcome lent_outcome answered bytes_after left_by ◌or_else◌ unless
       zero_left mid new same e d h =
           let c = sym d ∙ h in
@@ -208,12 +205,12 @@ module _ (rule plan : List ℕ) {n : ℕ} {z : Sizes} (ready : Ready rule plan n
           (λ whole second. whole_table plan some_cycle (views_of rule) (channel_count rule) n (all_fit rule plan ready) old mid new whole first second)
           made.sized.whole second made.marks made.witnesses
 
-      pub made_left : {new : List ℕ} → new ≡ made_table (views_of rule) plan n → {r : Outcome} → r ≡ closings_outcome rule plan → r ≡ Clear
-          → {b : Bool} → b ≡ marked (all_rows z) new (n - 1) 0 → (M.Table b ≡ make_of rule plan before) × (new ≡ bytes_after rule plan before)
+      pub made_left : {new : List ℕ} → new ≡ made_table (views_of rule) plan n → {r : Outcome} → r ≡ closings_outcome rule plan → r ≡ unrefused
+          → {b : Bool} → b ≡ marked (all_rows z) new (n - 1) 0 → (Ok b ≡ make_of rule plan before) × (new ≡ bytes_after rule plan before)
       unfolding make_of make_outcome lent_outcome answered bytes_after left_by ◌or_else◌ unless
       made_left {new} e d h {b} m =
           let c = sym d ∙ h in (
-            ap M.Table (m ∙ own_mark) ∙ simp (both_ready rule plan ready, fits_long, c),
+            ap Ok (m ∙ own_mark) ∙ simp (both_ready rule plan ready, fits_long, c),
             e ∙ ap (made_table (views_of rule) plan) ready.parts ∙ simp (both_ready rule plan ready, fits_long, c),
           )
         where
@@ -228,8 +225,8 @@ module _ (rule plan : List ℕ) {n : ℕ} {z : Sizes} (ready : Ready rule plan n
               ∙ ap (λ (k : ℕ). made_mark (views_of rule) plan (k - 1) 0) ready.parts
 
 -- Refused before the buffer is looked at.
-pub inputs_refused : (rule plan before : List ℕ) {r : Refusal} → inputs_outcome rule plan ≡ Refused r
-    → (M.Refused r ≡ make_of rule plan before) × (before ≡ bytes_after rule plan before)
+pub inputs_refused : (rule plan before : List ℕ) {r : Refusal} → inputs_outcome rule plan ≡ Err r
+    → (Err r ≡ make_of rule plan before) × (before ≡ bytes_after rule plan before)
 unfolding make_of make_outcome lent_outcome answered bytes_after left_by ◌or_else◌
 inputs_refused rule plan before e = (simp e, simp e)
 
@@ -248,11 +245,11 @@ witness_room n w sized i l = let whole = sized.whole in (omega arith, (at_most n
 -- ---- what the loop leaves
 
 -- a loop that is left at a part that does not close,
-pub stopped : {rule plan old new : List ℕ} {n w i : ℕ} {q : Refusal} → length new ≡ length old → MadeTo rule plan old new n w i (Refused q)
+pub stopped : {rule plan old new : List ℕ} {n w i : ℕ} {q : Refusal} → length new ≡ length old → MadeTo rule plan old new n w i (Err q)
 stopped long = record { long = long; made = λ h. absurd (clear_refused h) }
 
 -- and one that comes to its end
-pub ended : {rule plan old new : List ℕ} {n w i : ℕ} → i ≤ n → n ≤ i → MadeBelow rule plan new n w i → length new ≡ length old → MadeTo rule plan old new n w n Clear
+pub ended : {rule plan old new : List ℕ} {n w i : ℕ} → i ≤ n → n ≤ i → MadeBelow rule plan new n w i → length new ≡ length old → MadeTo rule plan old new n w n unrefused
 ended {rule} {plan} {old} {new} {n} {w} {i} few all made long = record {
   long = long;
   made = λ _. let same : i ≡ n = omega arith in subst (MadeBelow rule plan new n w) same made;

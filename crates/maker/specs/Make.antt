@@ -1,7 +1,7 @@
 -- The maker: its refusals in the order of checking, its answer, and the bytes that it leaves in the lent buffer. Assumes nothing.
-use Rattle.std.specs.Prelude.{ℕ, ◌+◌, ◌*◌, ◌-◌, List, eqb, length}
-use Rattle.refusal.specs.declared.Outcome.{Outcome}
-use Rattle.refusal.specs.declared.Outcome.TheVariants.{Clear, Refused}
+use Rattle.std.specs.Prelude.{Bool, Result, Ok, Err, ℕ, ◌+◌, ◌*◌, ◌-◌, List, eqb, length}
+use Rattle.refusal.specs.declared.Refusal.{Refusal}
+use Rattle.refusal.specs.Outcome.{Outcome, unrefused}
 use Rattle.refusal.specs.declared.Refusal.TheVariants.{BufferLength, NoTable}
 use Rattle.refusal.specs.Report.{report_of}
 use Rattle.refusal.specs.First.{◌or_else◌, unless, in_turn}
@@ -12,13 +12,11 @@ use Rattle.inputs.specs.Outcome.{inputs_outcome}
 use Rattle.table.specs.Bytes.{zeroed}
 use Rattle.marks.specs.Parts.{closing_outcome}
 use Rattle.labelling.specs.Labels.{made_mark, made_table}
-use Rattle.maker.specs.declared.Made.{Made}
-use Rattle.maker.specs.declared.Made.TheVariants as M
 
 -- 14, with part and row as in 10
 unfoldable pub as_no_table : Outcome → Outcome
-as_no_table Clear = Clear
-as_no_table (Refused r) = Refused (NoTable (report_of r).part (report_of r).row)
+as_no_table (Ok _) = unrefused
+as_no_table (Err r) = Err (NoTable (report_of r).part (report_of r).row)
 
 module _ (rule plan : List ℕ) where
   -- 14 of part i: it does not close, by the marks made of the lower parts
@@ -40,18 +38,18 @@ module _ (rule plan before : List ℕ) where
   make_outcome = lent_outcome or_else closings_outcome rule plan
 
   -- made, with the last part's mark on row 0, the verdict; or the first refusal
-  unfoldable pub answered : Outcome → Made
-  answered Clear = M.Table (made_mark (views_of rule) plan (part_count rule - 1) 0)
-  answered (Refused r) = M.Refused r
+  unfoldable pub answered : Outcome → Result Bool Refusal
+  answered (Ok _) = Ok (made_mark (views_of rule) plan (part_count rule - 1) 0)
+  answered (Err r) = Err r
 
-  unfoldable pub make_of : Made
+  unfoldable pub make_of : Result Bool Refusal
   make_of = answered make_outcome
 
   -- The buffer afterwards: as it was on 1 to 6 and 13, all zero bytes on 14, else the table.
   unfoldable pub left_by : Outcome → Outcome → List ℕ
-  left_by (Refused r) closings = before
-  left_by Clear (Refused r) = zeroed before
-  left_by Clear Clear = made_table (views_of rule) plan (part_count rule)
+  left_by (Err r) closings = before
+  left_by (Ok _) (Err r) = zeroed before
+  left_by (Ok _) (Ok _) = made_table (views_of rule) plan (part_count rule)
 
   unfoldable pub bytes_after : List ℕ
   bytes_after = left_by lent_outcome (closings_outcome rule plan)

@@ -4,107 +4,86 @@
 pub mod guesses;
 
 ghost use Rattle.std.specs.Prelude.{◌≡◌, ◌+◌, ◌<◌};
+ghost use Rattle.refusal.specs.Report.{report_of};
 ghost use Rattle.plan.specs.inner.Sizes.{all_rows};
-ghost use Rattle.inputs.specs.inner.Read.{Ready};
 ghost use Rattle.table.specs.inner.Tables.{Sized};
 ghost use Rattle.maker.specs.Make.{open_outcome, closings_outcome, make_of, bytes_after};
 ghost use Rattle.maker.specs.Promise.{MakePromise};
 ghost use Rattle.maker.specs.inner.Parts.{MadeBelow, MadeTo};
 
 use crate::guesses::guess_table;
-use acceptance::Checked;
-use inputs::InputsRead;
+use inputs::Inputs;
 use labelling::label_part;
 use labelling::witnesses::lowest_witness;
-use plan::sizes::Sizes;
-use refusal::{Outcome, Refusal};
-use rule::Taken;
+use refusal::Refusal;
 use table::bytes::mark_at;
 use table::fills::{clear, put_number};
 
-// What the maker answers: the table is made, with the whole rule's truth at position 0, or the first refusal that applies.
-#[derive(Clone, Copy)]
-pub enum Made {
-    Table(bool),
-    Refused(Refusal),
+// Part `i` of a table of `n` parts, of which the lower ones are made: its marks and its witness, or refusal 14.
+fn make_part(inputs: &Inputs, table: &mut [u8], i: usize) -> Result<(), Refusal>
+    requires { (MadeBelow inputs.now.rule.now inputs.now.plan.bytes.now table.old inputs.now.parts (all_rows inputs.now.plan.sizes) i) × (i < inputs.now.parts) }
+    ensures { (result ≡ open_outcome inputs.now.rule.now inputs.now.plan.bytes.now i) × (MadeTo inputs.now.rule.now inputs.now.plan.bytes.now table.old table.new inputs.now.parts (all_rows inputs.now.plan.sizes) (i + 1) result) }
+{
+    let sizes = inputs.plan.sizes;
+    let w = sizes.start + sizes.cycle;
+    let part = rule::take(inputs.rule, i)?;
+    let view = cltlb::view_of(part);
+    if let Err(closing) = label_part(&inputs.plan, table, inputs.parts, i, view) {
+        return Err(no_table(closing));
+    }
+    let witness = lowest_witness(&inputs.plan, table, inputs.parts, i, view);
+    put_number(table, 4 + inputs.parts * w + 2 * i, witness);
+    Ok(())
 }
 
-// Part `i` of a table of `n` parts, of which the lower ones are made: its marks and its witness, or refusal 14.
-fn make_part(
-    rule: &[u8],
-    plan: &[u8],
-    table: &mut [u8],
-    n: usize,
-    sizes: Sizes,
-    i: usize,
-) -> Outcome
-    requires { (Ready rule.now plan.now n sizes) × (MadeBelow rule.now plan.now table.old n (all_rows sizes) i) × (i < n) }
-    ensures { (result ≡ open_outcome rule.now plan.now i) × (MadeTo rule.now plan.now table.old table.new n (all_rows sizes) (i + 1) result) }
+// Refusal 14, by the part and the row at which a part does not close.
+fn no_table(closing: Refusal) -> Refusal
+    ensures { result ≡ Refusal.NoTable (report_of closing).part (report_of closing).row }
 {
-    let w = sizes.start + sizes.cycle;
-    let taken = rule::take(rule, i);
-    let Taken::Part(part) = taken else {
-        return Outcome::Refused(rule::refusal_of(taken));
-    };
-    let view = cltlb::view_of(part);
-    let closing = label_part(plan, table, n, sizes, i, view);
-    if let Outcome::Refused(refusal) = closing {
-        let report = refusal::report_of(refusal);
-        return Outcome::Refused(Refusal::NoTable {
-            part: report.part,
-            row: report.row,
-        });
+    let report = refusal::report_of(closing);
+    Refusal::NoTable {
+        part: report.part,
+        row: report.row,
     }
-    let witness = lowest_witness(plan, table, n, sizes, i, view);
-    put_number(table, 4 + n * w + 2 * i, witness);
-    Outcome::Clear
 }
 
 // All parts, the lowest first.
-fn make_parts(rule: &[u8], plan: &[u8], table: &mut [u8], n: usize, sizes: Sizes) -> Outcome
-    requires { (Ready rule.now plan.now n sizes) × (Sized table.old n (all_rows sizes)) }
-    ensures { (result ≡ closings_outcome rule.now plan.now) × (MadeTo rule.now plan.now table.old table.new n (all_rows sizes) n result) }
+fn make_parts(inputs: &Inputs, table: &mut [u8]) -> Result<(), Refusal>
+    requires { Sized table.old inputs.now.parts (all_rows inputs.now.plan.sizes) }
+    ensures { (result ≡ closings_outcome inputs.now.rule.now inputs.now.plan.bytes.now) × (MadeTo inputs.now.rule.now inputs.now.plan.bytes.now table.old table.new inputs.now.parts (all_rows inputs.now.plan.sizes) inputs.now.parts result) }
 {
-    let mut i = 0;
-    while i < n {
-        let made = make_part(rule, plan, table, n, sizes, i);
-        if let Outcome::Refused(refusal) = made {
-            return Outcome::Refused(refusal);
-        }
-        i += 1;
+    for i in 0..inputs.parts {
+        make_part(inputs, table, i)?;
     }
-    Outcome::Clear
+    Ok(())
 }
 
 // The table of a rule of `n` parts and a plan that clear 1 to 6: the one guessed, where the check accepts it, and else part by part.
-fn make_table(rule: &[u8], plan: &[u8], marks: &mut [u8], n: usize, sizes: Sizes) -> Made
-    requires { Ready rule.now plan.now n sizes }
-    ensures { (result ≡ make_of rule.now plan.now marks.old) × (marks.new ≡ bytes_after rule.now plan.now marks.old) }
+fn make_table(inputs: &Inputs, marks: &mut [u8]) -> Result<bool, Refusal>
+    ensures { (result ≡ make_of inputs.now.rule.now inputs.now.plan.bytes.now marks.old) × (marks.new ≡ bytes_after inputs.now.rule.now inputs.now.plan.bytes.now marks.old) }
 {
+    let sizes = inputs.plan.sizes;
     let w = sizes.start + sizes.cycle;
-    if marks.len() != 4 + n * w + 2 * n {
-        return Made::Refused(Refusal::BufferLength);
+    if marks.len() != 4 + inputs.parts * w + 2 * inputs.parts {
+        return Err(Refusal::BufferLength);
     }
-    let guess = guess_table(rule, plan, marks, n, sizes);
-    if let Checked::Accepted(verdict) = guess {
-        return Made::Table(verdict);
+    if let Ok(verdict) = guess_table(inputs, marks) {
+        return Ok(verdict);
     }
-    let made = make_parts(rule, plan, marks, n, sizes);
-    if let Outcome::Refused(refusal) = made {
+    if let Err(refusal) = make_parts(inputs, marks) {
         clear(marks);
-        return Made::Refused(refusal);
+        return Err(refusal);
     }
-    put_number(marks, 0, n);
+    put_number(marks, 0, inputs.parts);
     put_number(marks, 2, w);
-    Made::Table(mark_at(marks, n, w, n - 1, 0))
+    Ok(mark_at(marks, inputs.parts, w, inputs.parts - 1, 0))
 }
 
-// The mark table of a rule and a plan, each witness the lowest that serves. Refused: 1 to 6, 13, then 14.
-pub fn make(rule: &[u8], plan: &[u8], marks: &mut [u8]) -> Made
+// The mark table of a rule and a plan, each witness the lowest that serves: made, with the whole rule's truth at position 0, or the
+// first refusal that applies: 1 to 6, 13, then 14.
+pub fn make(rule: &[u8], plan: &[u8], marks: &mut [u8]) -> Result<bool, Refusal>
     ensures { MakePromise rule.now plan.now marks.old marks.new result }
 {
-    match inputs::read_inputs(rule, plan) {
-        InputsRead::Refused(refusal) => Made::Refused(refusal),
-        InputsRead::Fit { parts, sizes } => make_table(rule, plan, marks, parts, sizes),
-    }
+    let inputs = inputs::read_inputs(rule, plan)?;
+    make_table(&inputs, marks)
 }

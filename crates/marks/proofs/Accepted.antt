@@ -1,5 +1,6 @@
 -- Demand 3: a mark table is accepted exactly where every part has on each cycle row the same published truth on all passes,
 -- every mark is the truth at its row's first position, and every witness is in order. Assumes nothing.
+use Rattle.refusal.specs.Outcome.{unrefused}
 use mathlib.Core.Path.{◌≡◌, sym, ap, subst⁻¹}
 use mathlib.Core.Bool.{Bool, true}
 use mathlib.Core.List.{List}
@@ -15,7 +16,6 @@ use Rattle.cltlb.specs.Fits.{view_fits}
 use Rattle.cltlb.specs.declared.View.{View}
 use Rattle.cltlb.proofs.Depth.{formula_made}
 use Rattle.refusal.specs.First.{in_turn}
-use Rattle.refusal.specs.declared.Outcome.TheVariants.{Clear}
 use Rattle.refusal.proofs.First.{in_turn_clear}
 use Rattle.plan.specs.Layout.{start_rows, cycle_rows, rows}
 use Rattle.plan.specs.Positions.{pass_of}
@@ -36,7 +36,7 @@ module _ (plan : List ℕ) (parts : ℕ → View) (n : ℕ) (mark : ℕ → ℕ 
 
   -- Refusals 9 to 11 turn nothing away.
   abbrev pub Accepted : (ℕ → ℕ) → Type 0
-  Accepted witness = in_turn (λ i. part_outcome plan mark (parts i) i (witness i)) n ≡ Clear
+  Accepted witness = in_turn (λ i. part_outcome plan mark (parts i) i (witness i)) n ≡ unrefused
 
 module _ (plan : List ℕ) (h_c : 1 ≤ cycle_rows plan) (parts : ℕ → View) (n : ℕ) (mark : ℕ → ℕ → Bool) where
   -- Where the marks of a part are its truth at every position, the part is settled and its marks are true on the rows.
@@ -77,7 +77,7 @@ module _ (plan : List ℕ) (h_c : 1 ≤ cycle_rows plan) (parts : ℕ → View) 
   -- One part, where the marks of the lower ones are the truth: where it passes 10 and 9, its own are the truth if some number is in order
   -- as its witness, and where they are the truth, some number is.
   module _ (mark : ℕ → ℕ → Bool) (i : ℕ) (l : i < n) (named : (a : ℕ) → a < i → TrueAt plan parts n mark a) where
-    pub passed_true : closing_outcome plan mark (parts i) i ≡ Clear → equation_outcome plan mark (parts i) i ≡ Clear → (w : ℕ)
+    pub passed_true : closing_outcome plan mark (parts i) i ≡ unrefused → equation_outcome plan mark (parts i) i ≡ unrefused → (w : ℕ)
         → T (witness_in_order (start_rows plan) (cycle_rows plan) mark (parts i) i w) → TrueAt plan parts n mark i
     unfolding Truth
     passed_true closes met w ok =
@@ -90,13 +90,13 @@ module _ (plan : List ℕ) (h_c : 1 ≤ cycle_rows plan) (parts : ℕ → View) 
   module _ (mark : ℕ → ℕ → Bool) (witness : ℕ → ℕ) where
     -- One part, where the marks of the lower ones are the truth.
     one : (i : ℕ) → i < n → ((a : ℕ) → a < i → TrueAt plan parts n mark a)
-        → (part_outcome plan mark (parts i) i (witness i) ≡ Clear) ↔ (TrueAt plan parts n mark i × T (witness_in_order (start_rows plan) (cycle_rows plan) mark (parts i) i (witness i)))
+        → (part_outcome plan mark (parts i) i (witness i) ≡ unrefused) ↔ (TrueAt plan parts n mark i × T (witness_in_order (start_rows plan) (cycle_rows plan) mark (parts i) i (witness i)))
     unfolding Truth
     one i l named =
         rw (formula_made parts v n fits i l) (part_accepted plan mark (formula_of parts) h_c i named v (parts i) (witness i) (fits i l))
 
     -- The parts below m, where none of them is refused.
-    pub below : (m : ℕ) → m ≤ n → ((i : ℕ) → i < m → part_outcome plan mark (parts i) i (witness i) ≡ Clear) → (i : ℕ) → i < m
+    pub below : (m : ℕ) → m ≤ n → ((i : ℕ) → i < m → part_outcome plan mark (parts i) i (witness i) ≡ unrefused) → (i : ℕ) → i < m
         → TrueAt plan parts n mark i × T (witness_in_order (start_rows plan) (cycle_rows plan) mark (parts i) i (witness i))
     below zero few clear i l = absurd (not-suc-le-zero l)
     below (suc m) few clear i l =

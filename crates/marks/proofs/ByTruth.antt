@@ -1,5 +1,7 @@
 -- Closing is said of a part's truth, whatever its own marks are: where the marks of the lower parts are their truth at every position,
 -- a part closes exactly where its truth in the cycle is the same on every pass. Assumes nothing.
+use Rattle.std.specs.Prelude.{Err}
+use Rattle.refusal.specs.Outcome.{unrefused}
 use mathlib.Core.Path.{◌≡◌, refl, sym, ap, ap₂, ◌∙◌, subst}
 use mathlib.Core.Bool.{Bool, true, false, not, true≢false}
 use mathlib.Core.List.{List}
@@ -27,7 +29,6 @@ use Rattle.cltlb.proofs.Repeats.{RepeatsFrom, one_repeats, two_repeats}
 use Rattle.refusal.specs.Lowest.{lowest_from}
 use Rattle.refusal.specs.declared.Refusal.{Refusal}
 use Rattle.refusal.specs.declared.Refusal.TheVariants.{Closing}
-use Rattle.refusal.specs.declared.Outcome.TheVariants.{Clear, Refused}
 use Rattle.refusal.proofs.Lowest.{from_some}
 use Rattle.refusal.proofs.First.{clear_refused, unless_refused_lem, unless_clear_t, refused_at_refused}
 use Rattle.plan.specs.Layout.{start_rows, cycle_rows, rows}
@@ -66,7 +67,7 @@ as_pass plan h_c G row low t =
 
 module _ (plan : List ℕ) (h_c : 1 ≤ cycle_rows plan) (x : Atom) (i : ℕ) (F : ℕ → Type 0) (judged : Judged plan x F) where
   -- One that does not close changes on the row named, and on no lower cycle row.
-  changing : (r : Refusal) → steady_outcome plan x i ≡ Refused r → Open plan F (view.Atom x) i r
+  changing : (r : Refusal) → steady_outcome plan x i ≡ Err r → Open plan F (view.Atom x) i r
   unfolding steady_outcome rows DiffersOn SameOn
   changing r e =
       let s = refused_at_refused (Closing i) (lowest_from (λ row. is_changes (verdict_of plan x row)) (start_rows plan) (cycle_rows plan)) r e in
@@ -86,7 +87,7 @@ module _ (plan : List ℕ) (h_c : 1 ≤ cycle_rows plan) (x : Atom) (i : ℕ) (F
       )
 
   -- One that closes is at every position what it is on the row.
-  steady_repeats : steady_outcome plan x i ≡ Clear → RepeatsFrom (cycle_rows plan) (start_rows plan) F
+  steady_repeats : steady_outcome plan x i ≡ unrefused → RepeatsFrom (cycle_rows plan) (start_rows plan) F
   steady_repeats e t l =
       let steady = (steady_iff plan h_c x i F judged).0 e in
       let same : atom_at plan x t ≡ atom_at plan x (t + cycle_rows plan) =
@@ -214,12 +215,12 @@ module _ (plan : List ℕ) (mark : ℕ → ℕ → Bool) (f : ℕ → Formula) (
   -- ---- every part
 
   -- 10: the truth of the part is not the same on all passes of the row.
-  atom_open : (x : Atom) → view_fits v i (view.Atom x) ≡ true → (r : Refusal) → closing_outcome plan mark (view.Atom x) i ≡ Refused r
+  atom_open : (x : Atom) → view_fits v i (view.Atom x) ≡ true → (r : Refusal) → closing_outcome plan mark (view.Atom x) i ≡ Err r
       → Open plan (This plan mark f (view.Atom x)) (view.Atom x) i r
   unfolding closing_outcome formula_from Holds
   atom_open x fits r e = changing plan h_c x i (AtomHolds (run_of plan) x) (judged_atom plan h_c v x (atom_fits_lem v i x fits)) r e
 
-  operator_open : (o : Operator) → view_fits v i (view.Operator o) ≡ true → (r : Refusal) → closing_outcome plan mark (view.Operator o) i ≡ Refused r
+  operator_open : (o : Operator) → view_fits v i (view.Operator o) ≡ true → (r : Refusal) → closing_outcome plan mark (view.Operator o) i ≡ Err r
       → Open plan (This plan mark f (view.Operator o)) (view.Operator o) i r
   unfolding closing_outcome closes closes_by rows
   operator_open o fits r e =
@@ -234,17 +235,17 @@ module _ (plan : List ℕ) (mark : ℕ → ℕ → Bool) (f : ℕ → Formula) (
           differs o first d (by (own o first d)) (beq_differs (truth o first d P) (turned o first d) (sym (ap (λ (s : Beside). closes_by P C mark s o) d) ∙ u.0))
       go (Before first) d (by_later kind by later shut decides) = absurd (clear_refused (sym e ∙ shut))
 
-  pub closing_open : (p : View) → view_fits v i p ≡ true → (r : Refusal) → closing_outcome plan mark p i ≡ Refused r
+  pub closing_open : (p : View) → view_fits v i p ≡ true → (r : Refusal) → closing_outcome plan mark p i ≡ Err r
       → Open plan (This plan mark f p) p i r
   closing_open (view.Atom x) = atom_open x
   closing_open (view.Operator o) = operator_open o
 
   -- A part that closes: its truth is the same on all passes of every cycle row.
-  atom_closed : (x : Atom) → view_fits v i (view.Atom x) ≡ true → closing_outcome plan mark (view.Atom x) i ≡ Clear → Repeating (view.Atom x)
+  atom_closed : (x : Atom) → view_fits v i (view.Atom x) ≡ true → closing_outcome plan mark (view.Atom x) i ≡ unrefused → Repeating (view.Atom x)
   unfolding closing_outcome formula_from Holds
   atom_closed x fits e = steady_repeats plan h_c x i (AtomHolds (run_of plan) x) (judged_atom plan h_c v x (atom_fits_lem v i x fits)) e
 
-  operator_closed : (o : Operator) → view_fits v i (view.Operator o) ≡ true → closing_outcome plan mark (view.Operator o) i ≡ Clear → Repeating (view.Operator o)
+  operator_closed : (o : Operator) → view_fits v i (view.Operator o) ≡ true → closing_outcome plan mark (view.Operator o) i ≡ unrefused → Repeating (view.Operator o)
   unfolding closing_outcome closes closes_by
   operator_closed o fits e = go (beside_of o) refl (is_due plan mark f h_c i named v (view.Operator o) fits)
     where
@@ -258,6 +259,6 @@ module _ (plan : List ℕ) (mark : ℕ → ℕ → Bool) (f : ℕ → Formula) (
           ((beq_t (truth o first d P) (turned o first d)).0 (subst T (ap (λ (s : Beside). closes_by P C mark s o) d) closed))
       go (Before first) d (by_later kind by later shut decides) = later
 
-  pub closing_repeats : (p : View) → view_fits v i p ≡ true → closing_outcome plan mark p i ≡ Clear → Repeating p
+  pub closing_repeats : (p : View) → view_fits v i p ≡ true → closing_outcome plan mark p i ≡ unrefused → Repeating p
   closing_repeats (view.Atom x) = atom_closed x
   closing_repeats (view.Operator o) = operator_closed o

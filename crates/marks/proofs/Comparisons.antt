@@ -1,5 +1,6 @@
 -- A comparison that changes on no cycle row is at every position what it is on the position's row, and the other way round.
 -- Assumes nothing.
+use Rattle.refusal.specs.Outcome.{unrefused}
 use mathlib.Core.Path.{◌≡◌, refl, sym, ap, ◌∙◌}
 use mathlib.Core.Bool.{true, false}
 use mathlib.Core.List.{List}
@@ -12,7 +13,6 @@ use lib.Dec.{T}
 use Rattle.cltlb.specs.Truth.{AtomHolds}
 use Rattle.cltlb.specs.Fits.{atom_fits}
 use Rattle.cltlb.specs.declared.Atom.{Atom}
-use Rattle.refusal.specs.declared.Outcome.TheVariants.{Clear}
 use Rattle.refusal.specs.declared.Refusal.TheVariants.{Closing}
 use Rattle.refusal.specs.Lowest.{lowest_from}
 use Rattle.refusal.proofs.Lowest.{from_none}
@@ -47,7 +47,7 @@ module _ (plan : List ℕ) (h_c : 1 ≤ cycle_rows plan) (x : Atom) (i : ℕ) (F
   abbrev pub Steady : Type 0
   Steady = (t : ℕ) → atom_at plan x (row_at plan t) ≡ atom_at plan x t
 
-  changes_nowhere : (steady_outcome plan x i ≡ Clear) ↔ ((row : ℕ) → start_rows plan ≤ row → row < rows plan → is_changes (verdict_of plan x row) ≡ false)
+  changes_nowhere : (steady_outcome plan x i ≡ unrefused) ↔ ((row : ℕ) → start_rows plan ≤ row → row < rows plan → is_changes (verdict_of plan x row) ≡ false)
   unfolding steady_outcome rows
   changes_nowhere =
       Iff.trans (refused_at_clear (Closing i) (lowest_from (λ row. is_changes (verdict_of plan x row)) (start_rows plan) (cycle_rows plan)))
@@ -75,7 +75,7 @@ module _ (plan : List ℕ) (h_c : 1 ≤ cycle_rows plan) (x : Atom) (i : ℕ) (F
           (same_truth (start_rows plan) (cycle_rows plan) row F (verdict_of plan x row) (right.verdict row low high) (none row low high)
           row t (first_position plan row high) refl)
 
-  pub steady_iff : (steady_outcome plan x i ≡ Clear) ↔ Steady
+  pub steady_iff : (steady_outcome plan x i ≡ unrefused) ↔ Steady
   steady_iff = Iff.trans changes_nowhere (steady_rows, back)
     where
       back : Steady → (row : ℕ) → start_rows plan ≤ row → row < rows plan → is_changes (verdict_of plan x row) ≡ false

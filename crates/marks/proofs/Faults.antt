@@ -1,5 +1,7 @@
 -- What refusal 9 of one part says of its truth, where the marks of the lower parts are their truth at every position. Assumes
 -- nothing.
+use Rattle.std.specs.Prelude.{Err}
+use Rattle.refusal.specs.Outcome.{unrefused}
 use mathlib.Core.Path.{◌≡◌, sym, ap, ◌∙◌, subst, subst₂}
 use mathlib.Core.Bool.{Bool, true}
 use mathlib.Core.List.{List}
@@ -16,7 +18,6 @@ use Rattle.refusal.specs.Lowest.{lowest_from, lowest}
 use Rattle.refusal.specs.First.{at_lowest}
 use Rattle.refusal.specs.declared.Refusal.{Refusal}
 use Rattle.refusal.specs.declared.Refusal.TheVariants.{Equation}
-use Rattle.refusal.specs.declared.Outcome.TheVariants.{Clear, Refused}
 use Rattle.refusal.proofs.Lowest.{from_some}
 use Rattle.refusal.proofs.First.{clear_refused, refused_at_refused}
 use Rattle.plan.specs.Layout.{start_rows, cycle_rows, rows}
@@ -74,7 +75,7 @@ module _ (plan : List ℕ) (mark : ℕ → ℕ → Bool) (f : ℕ → Formula) (
           subst₂ (λ (x y : ℕ). F x ↔ F y) (sym (next ∙ start)) end (later (start_rows plan) (omega arith))
 
   -- A part that meets its equation on the rows and does not close, which is none of U and R, has true marks.
-  pub met_open : equation_outcome plan mark p i ≡ Clear → (r : Refusal) → closing_outcome plan mark p i ≡ Refused r → (row : ℕ) → row < rows plan → TrueOn row
+  pub met_open : equation_outcome plan mark p i ≡ unrefused → (r : Refusal) → closing_outcome plan mark p i ≡ Err r → (row : ℕ) → row < rows plan → TrueOn row
   met_open met r e row l = go (is_due plan mark f h_c i named v p fits)
     where
       go : Due plan mark f p i → TrueOn row
@@ -107,7 +108,7 @@ module _ (plan : List ℕ) (mark : ℕ → ℕ → Bool) (f : ℕ → Formula) (
       (row : ℕ) × (Equation i row ≡ r) × (row < rows plan) × (¬ Ahead plan mark f p → ¬ TrueOn row)
       × (¬ (TrueOn row × TrueOn (after (start_rows plan) (cycle_rows plan) row))) × (¬ Ahead plan mark f p → (q : ℕ) → q < row → TrueOn q)
 
-  pub equation_broken : (r : Refusal) → equation_outcome plan mark p i ≡ Refused r → Broken r
+  pub equation_broken : (r : Refusal) → equation_outcome plan mark p i ≡ Err r → Broken r
   unfolding equation_outcome at_lowest lowest breaks
   equation_broken r e =
       let s = refused_at_refused (Equation i) (lowest_from (breaks plan mark p i) 0 (rows plan)) r e in

@@ -1,5 +1,6 @@
 -- The refusals of a mark table, 7 to 11: their numbers, and that two bytes hold the part and the row that one names. Assumes
 -- nothing.
+use Rattle.refusal.specs.Outcome.{unrefused}
 use Prim.Native.Nat.{ℕ, ◌+◌, ◌*◌, ◌≤◌, ◌<◌}
 use native.Mathlib.Omega.{arith}
 use mathlib.Core.Path.{◌≡◌}
@@ -12,7 +13,6 @@ use Rattle.fields.specs.LittleEndian.{number_at}
 use Rattle.cltlb.specs.declared.View.{View}
 use Rattle.cltlb.specs.declared.View.TheVariants as view
 use Rattle.refusal.specs.declared.Refusal.TheVariants.{MarkSizes, MarkByte, Equation, Closing, Witness}
-use Rattle.refusal.specs.declared.Outcome.TheVariants.{Clear}
 use Rattle.refusal.specs.First.{◌or_else◌, unless, at_lowest, in_turn}
 use Rattle.refusal.proofs.First.{or_else_clear, unless_clear}
 use Rattle.refusal.proofs.RefusesOnly.{Small, Within, RefusesOnly, or_else_only, unless_only, search_only, at_lowest_only, in_turn_only}
@@ -24,7 +24,7 @@ use Rattle.marks.specs.Parts.{closes, witness_in_order, steady_outcome, breaks, 
 use Rattle.table.specs.inner.Tables.{Sized}
 
 -- A table that passes refusal 7 has n parts on w rows.
-pub cleared_sized : (n w : ℕ) (table : List ℕ) → n ≤ 64 → w ≤ 256 → table_outcome n w table ≡ Clear → Sized table n w
+pub cleared_sized : (n w : ℕ) (table : List ℕ) → n ≤ 64 → w ≤ 256 → table_outcome n w table ≡ unrefused → Sized table n w
 unfolding table_outcome sizes_fit
 cleared_sized n w table hn hw e =
     let sizes = (unless_clear (sizes_fit n w table) MarkSizes).0 ((or_else_clear (unless (sizes_fit n w table) MarkSizes) (in_turn (bytes_outcome w table) n)).0 e).0 in

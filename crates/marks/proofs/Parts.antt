@@ -1,5 +1,6 @@
 -- One part, where the marks of the parts that it names are the truth: it passes refusals 10, 9 and 11 exactly where its marks
 -- are its published truth at every position and its witness is in order. Assumes nothing.
+use Rattle.refusal.specs.Outcome.{unrefused}
 use mathlib.Core.Path.{◌≡◌, refl, sym, ap, subst}
 use mathlib.Core.Bool.{Bool, true}
 use mathlib.Core.List.{List}
@@ -20,7 +21,6 @@ use Rattle.cltlb.specs.declared.View.TheVariants as view
 use Rattle.cltlb.proofs.Fits.{atom_fits_lem, operator_fits, one_lower, two_lower}
 use Rattle.cltlb.proofs.Repeats.{RepeatsFrom, until_shift, release_shift}
 use Rattle.refusal.specs.First.{◌or_else◌}
-use Rattle.refusal.specs.declared.Outcome.TheVariants.{Clear}
 use Rattle.refusal.specs.declared.Refusal.TheVariants.{Witness}
 use Rattle.refusal.proofs.First.{or_else_clear, unless_clear, unless_clear_t}
 use Rattle.plan.specs.Layout.{start_rows, cycle_rows}
@@ -59,7 +59,7 @@ module _ (plan : List ℕ) (mark : ℕ → ℕ → Bool) (f : ℕ → Formula) w
     by_later : Ahead p
         → ((t : ℕ) → T (mark_at plan mark i (suc t)) ↔ This p (suc t) → T (due plan mark p (mark_at plan mark i) t) ↔ This p t)
         → RepeatsFrom (cycle_rows plan) (start_rows plan) (This p)
-        → closing_outcome plan mark p i ≡ Clear
+        → closing_outcome plan mark p i ≡ unrefused
         → ((w : ℕ) → T (witness_in_order (start_rows plan) (cycle_rows plan) mark p i w) → Meets plan mark p i → Right i (formula_from p f))
         → Due p i
 
@@ -133,16 +133,16 @@ module _ (plan : List ℕ) (mark : ℕ → ℕ → Bool) (f : ℕ → Formula) w
     )
 
     passes_iff : (v : ℕ) (p : View) → view_fits v i p ≡ true
-        → ((closing_outcome plan mark p i ≡ Clear) × (equation_outcome plan mark p i ≡ Clear)) ↔ Meets plan mark p i
+        → ((closing_outcome plan mark p i ≡ unrefused) × (equation_outcome plan mark p i ≡ unrefused)) ↔ Meets plan mark p i
     passes_iff v p fits = meets_iff plan mark h_c p i (λ x e. (_, judged_atom plan h_c v x (atom_fits_lem v i x (subst (λ q. view_fits v i q ≡ true) e fits))))
 
     -- Marks that pass 10 and 9 are the truth, with a witness in order.
-    pub passed_right : (v : ℕ) (p : View) (w : ℕ) → view_fits v i p ≡ true → closing_outcome plan mark p i ≡ Clear → equation_outcome plan mark p i ≡ Clear
+    pub passed_right : (v : ℕ) (p : View) (w : ℕ) → view_fits v i p ≡ true → closing_outcome plan mark p i ≡ unrefused → equation_outcome plan mark p i ≡ unrefused
         → T (witness_in_order (start_rows plan) (cycle_rows plan) mark p i w) → Right i (formula_from p f)
     passed_right v p w fits closes met ok = (meets_right p w (is_due v p fits) ok).0 ((passes_iff v p fits).0 (closes, met))
 
     pub part_accepted : (v : ℕ) (p : View) (w : ℕ) → view_fits v i p ≡ true
-        → (part_outcome plan mark p i w ≡ Clear) ↔ (Right i (formula_from p f) × T (witness_in_order (start_rows plan) (cycle_rows plan) mark p i w))
+        → (part_outcome plan mark p i w ≡ unrefused) ↔ (Right i (formula_from p f) × T (witness_in_order (start_rows plan) (cycle_rows plan) mark p i w))
     unfolding part_outcome witness_outcome
     part_accepted v p w fits =
         Iff.trans (or_else_clear (closing_outcome plan mark p i) (equation_outcome plan mark p i or_else witness_outcome plan mark p i w))
@@ -152,7 +152,7 @@ module _ (plan : List ℕ) (mark : ℕ → ℕ → Bool) (f : ℕ → Formula) w
           λ h. let met = whole.1 ((right h.1).1 h.0) in (met.0, (met.1, h.1)),
         ))
       where
-        whole : ((closing_outcome plan mark p i ≡ Clear) × (equation_outcome plan mark p i ≡ Clear)) ↔ Meets plan mark p i
+        whole : ((closing_outcome plan mark p i ≡ unrefused) × (equation_outcome plan mark p i ≡ unrefused)) ↔ Meets plan mark p i
         whole = passes_iff v p fits
 
         right : T (witness_in_order (start_rows plan) (cycle_rows plan) mark p i w) → Meets plan mark p i ↔ Right i (formula_from p f)

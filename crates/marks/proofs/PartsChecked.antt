@@ -13,8 +13,7 @@ use Rattle.cltlb.specs.declared.View.TheVariants as view
 use Rattle.cltlb.proofs.Fits.{atom_fits_lem, operator_fits}
 use Rattle.refusal.specs.Lowest.{lowest_from}
 use Rattle.refusal.specs.First.{unless, refused_at}
-use Rattle.refusal.specs.declared.Outcome.{Outcome}
-use Rattle.refusal.specs.declared.Outcome.TheVariants.{Clear}
+use Rattle.refusal.specs.Outcome.{Outcome, unrefused}
 use Rattle.refusal.specs.declared.Refusal.TheVariants.{Closing, Witness}
 use Rattle.refusal.proofs.Lowest.{not_so, from_none}
 use Rattle.refusal.proofs.First.{refused_at_clear}
@@ -73,11 +72,11 @@ module _ (plan : List ℕ) (h_c : 1 ≤ cycle_rows plan) (mark : ℕ → ℕ →
     each : (row : ℕ) → row < start_rows plan + cycle_rows plan → verdict_agrees (verdict_of plan x row) (mark i row) ≡ true
     each = all_each (λ row. verdict_agrees (verdict_of plan x row) (mark i row)) (start_rows plan + cycle_rows plan) all
 
-    agree_equation : equation_outcome plan mark (view.Atom x) i ≡ Clear
+    agree_equation : equation_outcome plan mark (view.Atom x) i ≡ unrefused
     unfolding expected rows
     agree_equation = (equation_clear plan mark (view.Atom x) i).1 (λ row h. told row h (each row h))
 
-    agree_closing : closing_outcome plan mark (view.Atom x) i ≡ Clear
+    agree_closing : closing_outcome plan mark (view.Atom x) i ≡ unrefused
     unfolding closing_outcome steady_outcome
     agree_closing =
         (refused_at_clear (Closing i) (lowest_from (λ row. is_changes (verdict_of plan x row)) (start_rows plan) (cycle_rows plan))).1
@@ -88,7 +87,7 @@ module _ (plan : List ℕ) (h_c : 1 ≤ cycle_rows plan) (mark : ℕ → ℕ →
 
 module _ (plan : List ℕ) (mark : ℕ → ℕ → Bool) (i : ℕ) (o : Operator) where
   met_equation : all_below (meets_on (start_rows plan) (cycle_rows plan) mark o i) (start_rows plan + cycle_rows plan) ≡ true
-      → equation_outcome plan mark (view.Operator o) i ≡ Clear
+      → equation_outcome plan mark (view.Operator o) i ≡ unrefused
   unfolding expected rows
   met_equation all = (equation_clear plan mark (view.Operator o) i).1 (met_each (start_rows plan) (cycle_rows plan) mark i o all)
 
@@ -131,10 +130,10 @@ module _ (plan table : List ℕ) {z : Sizes} (fit : Fitting plan z) (i : ℕ) wh
           d : r ≡ all_below (λ row. verdict_agrees (verdict_of plan x row) (marked (all_rows z) table i row)) (all_rows z)
           d = c ∙ ap (λ (k : Comparison). all_below (λ row. verdict_agrees (judge_row plan k row) (marked (all_rows z) table i row)) (all_rows z)) g
 
-          own : (closing_outcome plan (marked (all_rows z) table) (view.Atom x) i ≡ Clear) × (equation_outcome plan (marked (all_rows z) table) (view.Atom x) i ≡ Clear)
+          own : (closing_outcome plan (marked (all_rows z) table) (view.Atom x) i ≡ unrefused) × (equation_outcome plan (marked (all_rows z) table) (view.Atom x) i ≡ unrefused)
           own =
               at_sizes fit (λ p c. r ≡ all_below (λ row. verdict_agrees (verdict_of plan x row) (marked (p + c) table i row)) (p + c)
-              → (closing_outcome plan (marked (p + c) table) (view.Atom x) i ≡ Clear) × (equation_outcome plan (marked (p + c) table) (view.Atom x) i ≡ Clear))
+              → (closing_outcome plan (marked (p + c) table) (view.Atom x) i ≡ unrefused) × (equation_outcome plan (marked (p + c) table) (view.Atom x) i ≡ unrefused))
               (λ d. (
                 agree_closing plan (own_cycle fit) (marked (start_rows plan + cycle_rows plan) table) z.channels i x (atom_there n h) (sym d ∙ t),
                 agree_equation plan (own_cycle fit) (marked (start_rows plan + cycle_rows plan) table) z.channels i x (atom_there n h) (sym d ∙ t),
@@ -159,10 +158,10 @@ module _ (plan table : List ℕ) {z : Sizes} (fit : Fitting plan z) (i : ℕ) wh
           ∙ sym (ap (λ (q : View). closing_outcome plan (marked (all_rows z) table) q i) e)
 
       operator_met : all_below (meets_on z.start z.cycle (marked (all_rows z) table) o i) (all_rows z) ≡ true
-          → equation_outcome plan (marked (all_rows z) table) p i ≡ Clear
+          → equation_outcome plan (marked (all_rows z) table) p i ≡ unrefused
       operator_met all =
-          subst (λ (q : View). equation_outcome plan (marked (all_rows z) table) q i ≡ Clear) (sym e)
-          (at_sizes fit (λ p c. all_below (meets_on p c (marked (p + c) table) o i) (p + c) ≡ true → equation_outcome plan (marked (p + c) table) (view.Operator o) i ≡ Clear)
+          subst (λ (q : View). equation_outcome plan (marked (all_rows z) table) q i ≡ unrefused) (sym e)
+          (at_sizes fit (λ p c. all_below (meets_on p c (marked (p + c) table) o i) (p + c) ≡ true → equation_outcome plan (marked (p + c) table) (view.Operator o) i ≡ unrefused)
           (met_equation plan (marked (start_rows plan + cycle_rows plan) table) i o) all)
 
       pub operator_clear : {r : Bool} → r ≡ clear_of z.start z.cycle (marked (all_rows z) table) o i → r ≡ true → PartClear plan table z p i

@@ -1,10 +1,10 @@
 -- Refusals 10, 9 and 11 of a table say of the published truth what marks/specs/RefusalMeaning states. Assumes nothing.
+use Rattle.std.specs.Prelude.{Ok, Err}
 use mathlib.Core.Path.{◌≡◌, refl, sym, ap, ◌∙◌, subst}
 use mathlib.Core.Bool.{Bool, true}
 use mathlib.Core.List.{List}
 use mathlib.Core.Logic.{◌↔◌, ⊎_elim}
 use Prim.Native.Nat.{ℕ, ◌≤◌, ◌<◌}
-use native.Mathlib.Omega.{arith}
 use lib.Dec.{T}
 use Rattle.cltlb.specs.Parts.{formula_of}
 use Rattle.cltlb.specs.Fits.{view_fits}
@@ -15,8 +15,7 @@ use Rattle.cltlb.proofs.Depth.{formula_made}
 use Rattle.refusal.specs.First.{◌or_else◌, unless}
 use Rattle.refusal.specs.declared.Refusal.{Refusal}
 use Rattle.refusal.specs.declared.Refusal.TheVariants.{RuleSizes, Kind, Operand, PlanSizes, Channels, StartDrift, MarkSizes, MarkByte, Equation, Closing, Witness, Absent, BufferLength, NoTable, NoLayout, Unwatchable, Unfitting}
-use Rattle.refusal.specs.declared.Outcome.{Outcome}
-use Rattle.refusal.specs.declared.Outcome.TheVariants.{Clear, Refused}
+use Rattle.refusal.specs.Outcome.{Outcome, unrefused}
 use Rattle.refusal.proofs.First.{unless_refused_lem, unless_clear_t, or_else_refused, clear_refused}
 use Rattle.plan.specs.Layout.{start_rows, cycle_rows, rows}
 use Rattle.plan.specs.Positions.{after}
@@ -65,7 +64,7 @@ module _ (plan : List ℕ) (h_c : 1 ≤ cycle_rows plan) (parts : ℕ → View) 
       };
     }
 
-    broken : (r : Refusal) → equation_outcome plan mark (parts i) i ≡ Refused r
+    broken : (r : Refusal) → equation_outcome plan mark (parts i) i ≡ Err r
         → (row : ℕ) × (Equation i row ≡ r) × (row < rows plan) × (¬ Ahead plan mark (formula_of parts) (parts i) → ¬ MarkTrue parts plan i mark row)
         × (¬ (MarkTrue parts plan i mark row × MarkTrue parts plan i mark (after (start_rows plan) (cycle_rows plan) row)))
         × (¬ Ahead plan mark (formula_of parts) (parts i) → (q : ℕ) → q < row → MarkTrue parts plan i mark q)
@@ -74,13 +73,13 @@ module _ (plan : List ℕ) (h_c : 1 ≤ cycle_rows plan) (parts : ℕ → View) 
         rw (formula_made parts v n fits i l)
         (equation_broken plan mark (formula_of parts) h_c i (λ a q. (lower a q).0) v (parts i) (fits i l) r e)
 
-    opened : (r : Refusal) → closing_outcome plan mark (parts i) i ≡ Refused r → Open plan (Truth parts plan i) (parts i) i r
+    opened : (r : Refusal) → closing_outcome plan mark (parts i) i ≡ Err r → Open plan (Truth parts plan i) (parts i) i r
     unfolding Truth DiffersOn SameOn
     opened r e =
         rw (formula_made parts v n fits i l)
         (closing_open plan mark (formula_of parts) h_c i (λ a q. (lower a q).0) v (parts i) (fits i l) r e)
 
-    closed : closing_outcome plan mark (parts i) i ≡ Clear → PartSettled parts plan i
+    closed : closing_outcome plan mark (parts i) i ≡ unrefused → PartSettled parts plan i
     unfolding Truth
     closed e =
         (settled_repeats parts plan h_c i).1
@@ -88,39 +87,39 @@ module _ (plan : List ℕ) (h_c : 1 ≤ cycle_rows plan) (parts : ℕ → View) 
         (closing_repeats plan mark (formula_of parts) h_c i (λ a q. (lower a q).0) v (parts i) (fits i l) e))
 
     -- CLOSING IS BEING SETTLED: a part closes exactly where it has, on each cycle row, the same published truth on all passes.
-    pub closing_settled : (closing_outcome plan mark (parts i) i ≡ Clear) ↔ PartSettled parts plan i
+    pub closing_settled : (closing_outcome plan mark (parts i) i ≡ unrefused) ↔ PartSettled parts plan i
     unfolding PartSettled
     closing_settled = (closed, λ s. go s (closing_outcome plan mark (parts i) i) refl)
       where
-        go : PartSettled parts plan i → (o : Outcome) → closing_outcome plan mark (parts i) i ≡ o → o ≡ Clear
-        go s Clear e = refl
-        go s (Refused r) e = let d = opened r e in absurd (same_differs plan (Truth parts plan i) d.0 (s d.0 d.2 d.3) d.4)
+        go : PartSettled parts plan i → (o : Outcome) → closing_outcome plan mark (parts i) i ≡ o → o ≡ unrefused
+        go s (Ok _) e = refl
+        go s (Err r) e = let d = opened r e in absurd (same_differs plan (Truth parts plan i) d.0 (s d.0 d.2 d.3) d.4)
 
     -- 9 names part i and a row, and says that its marks are not all true,
-    pub equation_says : (r : Refusal) → equation_outcome plan mark (parts i) i ≡ Refused r → (row : ℕ) × (Equation i row ≡ r) × (¬ PartMarksTrue parts plan i mark)
+    pub equation_says : (r : Refusal) → equation_outcome plan mark (parts i) i ≡ Err r → (row : ℕ) × (Equation i row ≡ r) × (¬ PartMarksTrue parts plan i mark)
     unfolding PartMarksTrue
     equation_says r e =
         let s = broken r e in
         (s.0, s.1, λ all. s.4 (all s.0 s.2, all (after (start_rows plan) (cycle_rows plan) s.0) (after_is_row plan h_c s.0 s.2)))
 
     -- and of a part that does not close, which is none of U and R, that the one on that row is false;
-    pub broken_open : (r q : Refusal) → equation_outcome plan mark (parts i) i ≡ Refused r → closing_outcome plan mark (parts i) i ≡ Refused q
+    pub broken_open : (r q : Refusal) → equation_outcome plan mark (parts i) i ≡ Err r → closing_outcome plan mark (parts i) i ≡ Err q
         → (row : ℕ) × (Equation i row ≡ r) × (row < rows plan) × (¬ MarkTrue parts plan i mark row)
     unfolding closing_outcome closes closes_by unless
     broken_open r q d e =
         let s = broken r d in
-        let ahead_closes : (p : View) → parts i ≡ p → closing_outcome plan mark p i ≡ Clear → ⊥ =
+        let ahead_closes : (p : View) → parts i ≡ p → closing_outcome plan mark p i ≡ unrefused → ⊥ =
         λ p f c. clear_refused (sym e ∙ ap (λ (p : View). closing_outcome plan mark p i) f ∙ c) in
         (s.0, s.1, s.2, s.3 (⊎_elim (λ u. ahead_closes _ u.2 refl) (λ u. ahead_closes _ u.2 refl)))
 
     -- where it says nothing of such a part, all of them are true.
-    pub open_marks : equation_outcome plan mark (parts i) i ≡ Clear → (r : Refusal) → closing_outcome plan mark (parts i) i ≡ Refused r → PartMarksTrue parts plan i mark
+    pub open_marks : equation_outcome plan mark (parts i) i ≡ unrefused → (r : Refusal) → closing_outcome plan mark (parts i) i ≡ Err r → PartMarksTrue parts plan i mark
     unfolding PartMarksTrue MarkTrue Truth
     open_marks met r e =
         rw (formula_made parts v n fits i l)
         (met_open plan mark (formula_of parts) h_c i (λ a q. (lower a q).0) v (parts i) (fits i l) met r e)
 
-    equation_means : closing_outcome plan mark (parts i) i ≡ Clear → (r : Refusal) → equation_outcome plan mark (parts i) i ≡ Refused r → Means plan parts n mark witness r
+    equation_means : closing_outcome plan mark (parts i) i ≡ unrefused → (r : Refusal) → equation_outcome plan mark (parts i) i ≡ Err r → Means plan parts n mark witness r
     unfolding Means
     equation_means closes r e =
         let s = broken r e in
@@ -138,26 +137,26 @@ module _ (plan : List ℕ) (h_c : 1 ≤ cycle_rows plan) (parts : ℕ → View) 
         neither no_until no_release = ⊎_elim (λ u. no_until u.0 u.1 u.2) (λ u. no_release u.0 u.1 u.2)
 
     -- 10 names part i and a row, of which it says what the definition states
-    pub closing_says : (r : Refusal) → closing_outcome plan mark (parts i) i ≡ Refused r
+    pub closing_says : (r : Refusal) → closing_outcome plan mark (parts i) i ≡ Err r
         → (row : ℕ) × (Closing i row ≡ r) × ClosingMeans parts n plan mark witness i row
     closing_says r e =
         let s = opened r e in
         (s.0, s.1, record { fault = first_fault; in_cycle = (s.2, s.3); differs = s.4; lowest = s.5; at_start = s.6 })
 
-    closing_means : (r : Refusal) → closing_outcome plan mark (parts i) i ≡ Refused r → Means plan parts n mark witness r
+    closing_means : (r : Refusal) → closing_outcome plan mark (parts i) i ≡ Err r → Means plan parts n mark witness r
     unfolding Means
     closing_means r e = let s = closing_says r e in subst (Means plan parts n mark witness) s.1 s.2
 
     -- Of a part that passes 10 and 9 some number is in order as its witness exactly where its marks are true.
-    served : closing_outcome plan mark (parts i) i ≡ Clear → equation_outcome plan mark (parts i) i ≡ Clear
+    served : closing_outcome plan mark (parts i) i ≡ unrefused → equation_outcome plan mark (parts i) i ≡ unrefused
         → ((w : ℕ) × T (witness_in_order (start_rows plan) (cycle_rows plan) mark (parts i) i w)) ↔ PartMarksTrue parts plan i mark
     served closes met = (
       λ s. true_marks plan h_c parts n mark i (passed_true plan h_c parts v n fits mark i l (λ a q. (lower a q).0) closes met s.0 s.1),
       λ all. true_served plan h_c parts v n fits mark i l (λ a q. (lower a q).0) (settled_true plan h_c parts n mark i (closed closes) all),
     )
 
-    witness_means : closing_outcome plan mark (parts i) i ≡ Clear → equation_outcome plan mark (parts i) i ≡ Clear
-        → (r : Refusal) → witness_outcome plan mark (parts i) i (witness i) ≡ Refused r → Means plan parts n mark witness r
+    witness_means : closing_outcome plan mark (parts i) i ≡ unrefused → equation_outcome plan mark (parts i) i ≡ unrefused
+        → (r : Refusal) → witness_outcome plan mark (parts i) i (witness i) ≡ Err r → Means plan parts n mark witness r
     unfolding Means witness_outcome PartWitnessed
     witness_means closes met r e =
         let test = witness_in_order (start_rows plan) (cycle_rows plan) mark (parts i) i (witness i) in
@@ -169,7 +168,7 @@ module _ (plan : List ℕ) (h_c : 1 ≤ cycle_rows plan) (parts : ℕ → View) 
           serves = served closes met;
         })
 
-    pub part_means : (r : Refusal) → part_outcome plan mark (parts i) i (witness i) ≡ Refused r → Means plan parts n mark witness r
+    pub part_means : (r : Refusal) → part_outcome plan mark (parts i) i (witness i) ≡ Err r → Means plan parts n mark witness r
     unfolding part_outcome
     part_means r e =
         ⊎_elim (closing_means r)

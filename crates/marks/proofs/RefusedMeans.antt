@@ -1,4 +1,5 @@
 -- A table that is refused, by what its first part at fault says (RefusalMeans). Assumes nothing.
+use Rattle.std.specs.Prelude.{Err}
 use mathlib.Core.Path.{◌≡◌}
 use mathlib.Core.Bool.{Bool, true}
 use mathlib.Core.List.{List}
@@ -8,7 +9,6 @@ use Rattle.cltlb.specs.Fits.{view_fits}
 use Rattle.cltlb.specs.declared.View.{View}
 use Rattle.refusal.specs.First.{in_turn}
 use Rattle.refusal.specs.declared.Refusal.{Refusal}
-use Rattle.refusal.specs.declared.Outcome.TheVariants.{Refused}
 use Rattle.refusal.proofs.First.{in_turn_refused}
 use Rattle.plan.specs.Layout.{cycle_rows}
 use Rattle.marks.specs.Parts.{part_outcome}
@@ -18,7 +18,7 @@ use Rattle.marks.proofs.RefusalMeans.{Means, part_means}
 module _ (plan : List ℕ) (h_c : 1 ≤ cycle_rows plan) (parts : ℕ → View) (v n : ℕ)
     (fits : (i : ℕ) → i < n → view_fits v i (parts i) ≡ true) (mark : ℕ → ℕ → Bool) (witness : ℕ → ℕ) where
   -- A table that is refused: the first part at fault says so, and every lower one is right.
-  pub refused_means : (r : Refusal) → in_turn (λ i. part_outcome plan mark (parts i) i (witness i)) n ≡ Refused r → Means plan parts n mark witness r
+  pub refused_means : (r : Refusal) → in_turn (λ i. part_outcome plan mark (parts i) i (witness i)) n ≡ Err r → Means plan parts n mark witness r
   refused_means r e =
       let p = in_turn_refused (λ i. part_outcome plan mark (parts i) i (witness i)) n r e in
       let l = p.1 in

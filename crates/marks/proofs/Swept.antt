@@ -21,8 +21,8 @@ use Rattle.marks.specs.declared.operators.Beside.{Beside}
 use Rattle.marks.specs.declared.operators.Beside.TheVariants.{After, Before}
 use Rattle.marks.specs.Equations.{beside_of, watched, mark_two, step_on, mark_beside, operator_mark}
 use Rattle.marks.specs.Parts.{closes_by, closes}
-use Rattle.marks.specs.inner.Tables.{meets_on, clear_of, ahead_of, behind_of, copy_test, step_test, MarkTable}
-use Rattle.table.specs.inner.Tables.{all_below, copy_of, copies_of, step_of, steps_of, mark_in, most_bytes, MarkBytes}
+use Rattle.marks.specs.inner.Tables.{meets_on, clear_of, ahead_of, behind_of, copy_test, step_test}
+use Rattle.table.specs.inner.Tables.{all_below, copy_of, copies_of, step_of, steps_of, mark_in, most_bytes, Sized, MarkBytes}
 use Rattle.table.proofs.Places.{part_cells, area}
 use Rattle.table.proofs.Flips.{dual_step}
 use Rattle.table.proofs.ByteTests.{some_bytes}
@@ -263,23 +263,23 @@ module _ (P : ℕ) {C : ℕ} (h_c : 1 ≤ C) {table : List ℕ} {m : ℕ} (marks
   pub on_last : MarkBytes table (m + (P + C - 1)) 1
   on_last = some_bytes marks (P + C - 1) 1 (omega arith) refl
 
-module _ {table : List ℕ} {n : ℕ} {z : Sizes} (fit : MarkTable table n z) where
+module _ {table : List ℕ} {n : ℕ} (z : Sizes) (sized : Sized table n (all_rows z)) (a_cycle : 1 ≤ z.cycle) (marks : MarkBytes table 4 (n * all_rows z)) where
   -- The marks of a part are marks.
   own_marks : (part : ℕ) → part < n → {place : ℕ} → place ≡ 4 + (part * all_rows z + 0) → MarkBytes table place (all_rows z)
-  own_marks part l e = some_bytes fit.marks (part * all_rows z) (all_rows z) (part_cells n (all_rows z) part l) (omega arith)
+  own_marks part l e = some_bytes marks (part * all_rows z) (all_rows z) (part_cells n (all_rows z) part l) (omega arith)
 
   small : length table ≤ most_bytes
   small =
-      let whole = fit.sized.whole in
-      let few = fit.sized.few_parts in
-      let most = area n (all_rows z) few fit.sized.few_rows in
+      let whole = sized.whole in
+      let few = sized.few_parts in
+      let most = area n (all_rows z) few sized.few_rows in
       omega arith
 
   -- What the sweeps ask for, of an operator over one part and over two.
   module _ (i a : ℕ) (li : i < n) (la : a < n) {m s : ℕ} (d : m ≡ 4 + (i * all_rows z + 0)) (e : s ≡ 4 + (a * all_rows z + 0)) where
     pub one_there : (1 ≤ z.cycle) × MarkBytes table m (all_rows z) × MarkBytes table s (all_rows z) × (length table ≤ most_bytes)
-    one_there = (fit.a_cycle, own_marks i li d, own_marks a la e, small)
+    one_there = (a_cycle, own_marks i li d, own_marks a la e, small)
 
     pub two_there : (b : ℕ) → b < n → {x : ℕ} → x ≡ 4 + (b * all_rows z + 0)
         → (1 ≤ z.cycle) × MarkBytes table m (all_rows z) × MarkBytes table s (all_rows z) × MarkBytes table x (all_rows z) × (length table ≤ most_bytes)
-    two_there b lb f = (fit.a_cycle, own_marks i li d, own_marks a la e, own_marks b lb f, small)
+    two_there b lb f = (a_cycle, own_marks i li d, own_marks a la e, own_marks b lb f, small)

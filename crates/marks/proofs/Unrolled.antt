@@ -1,5 +1,6 @@
 -- A part meets its equation on all rows and closes exactly where it meets it at every position of the endless run.
 -- Assumes nothing.
+use Rattle.refusal.specs.Outcome.{unrefused}
 use mathlib.Core.Path.{◌≡◌, refl, sym, ap, ap₂, ◌∙◌, subst, subst₂, subst⁻¹}
 use mathlib.Core.Bool.{Bool}
 use mathlib.Core.List.{List}
@@ -13,7 +14,6 @@ use Rattle.cltlb.specs.declared.Operator.{Operator}
 use Rattle.cltlb.specs.declared.Operator.TheVariants.{One, Two}
 use Rattle.cltlb.specs.declared.View.{View}
 use Rattle.cltlb.specs.declared.View.TheVariants as view
-use Rattle.refusal.specs.declared.Outcome.TheVariants.{Clear}
 use Rattle.refusal.specs.declared.Refusal.TheVariants.{Equation, Closing}
 use Rattle.refusal.proofs.First.{unless_clear_t, at_lowest_clear}
 use Rattle.plan.specs.Layout.{start_rows, cycle_rows, rows}
@@ -99,7 +99,7 @@ module _ (plan : List ℕ) (mark : ℕ → ℕ → Bool) where
   abbrev pub OnRows : View → ℕ → Type 0
   OnRows p i = (row : ℕ) → row < rows plan → mark i row ≡ expected_on p i row
 
-  pub equation_clear : (p : View) (i : ℕ) → (equation_outcome plan mark p i ≡ Clear) ↔ OnRows p i
+  pub equation_clear : (p : View) (i : ℕ) → (equation_outcome plan mark p i ≡ unrefused) ↔ OnRows p i
   unfolding equation_outcome breaks
   equation_clear p i =
       Iff.trans (at_lowest_clear (breaks plan mark p i) (rows plan) (Equation i))
@@ -128,7 +128,7 @@ module _ (plan : List ℕ) (mark : ℕ → ℕ → Bool) where
             (closes_by_marks (start_rows plan) (cycle_rows plan) mark o i h_c (met_truth (start_rows plan) (cycle_rows plan) mark o i met) first e)
             (beq_t (mark i (start_rows plan)) (step_on mark o (start_rows plan) (mark (watched o i) (last_row plan))))
 
-    operator_meets : (o : Operator) (i : ℕ) → ((closing_outcome plan mark (view.Operator o) i ≡ Clear) × OnRows (view.Operator o) i) ↔ Meets (view.Operator o) i
+    operator_meets : (o : Operator) (i : ℕ) → ((closing_outcome plan mark (view.Operator o) i ≡ unrefused) × OnRows (view.Operator o) i) ↔ Meets (view.Operator o) i
     unfolding closing_outcome expected operator_mark due rows
     operator_meets o i =
         Iff.trans (
@@ -137,11 +137,11 @@ module _ (plan : List ℕ) (mark : ℕ → ℕ → Bool) where
         ) (Iff.trans (unrolled plan h_c (mark i) (mark (watched o i)) (step_on mark o) (beside_of o))
         (watched_as mark o i (λ m. (t : ℕ) → mark_at plan mark i t ≡ step_on mark o (row_at plan t) (beside_at (beside_of o) (λ s. m (row_at plan s)) t))))
       where
-        closing : (closing_outcome plan mark (view.Operator o) i ≡ Clear) ↔ T (closes (start_rows plan) (cycle_rows plan) mark o)
+        closing : (closing_outcome plan mark (view.Operator o) i ≡ unrefused) ↔ T (closes (start_rows plan) (cycle_rows plan) mark o)
         closing = unless_clear_t (closes (start_rows plan) (cycle_rows plan) mark o) (Closing i (start_rows plan))
 
     atom_meets : (x : Atom) (i : ℕ) (F : ℕ → Type 0) → Judged plan x F
-        → ((closing_outcome plan mark (view.Atom x) i ≡ Clear) × OnRows (view.Atom x) i) ↔ Meets (view.Atom x) i
+        → ((closing_outcome plan mark (view.Atom x) i ≡ unrefused) × OnRows (view.Atom x) i) ↔ Meets (view.Atom x) i
     unfolding closing_outcome expected due
     atom_meets x i F judged =
         let steady = steady_iff plan h_c x i F judged in (
@@ -155,9 +155,9 @@ module _ (plan : List ℕ) (mark : ℕ → ℕ → Bool) where
     -- A part passes refusals 10 and 9 exactly where it meets its equation at every position; of an atom, where its verdicts are
     -- right.
     pub meets_iff : (p : View) (i : ℕ) → ((x : Atom) → p ≡ view.Atom x → (F : ℕ → Type 0) × Judged plan x F)
-        → ((closing_outcome plan mark p i ≡ Clear) × (equation_outcome plan mark p i ≡ Clear)) ↔ Meets p i
+        → ((closing_outcome plan mark p i ≡ unrefused) × (equation_outcome plan mark p i ≡ unrefused)) ↔ Meets p i
     meets_iff p i judged = Iff.trans (Iff.and Iff.rfl (equation_clear p i)) (by_view p judged)
       where
-        by_view : (p : View) → ((x : Atom) → p ≡ view.Atom x → (F : ℕ → Type 0) × Judged plan x F) → ((closing_outcome plan mark p i ≡ Clear) × OnRows p i) ↔ Meets p i
+        by_view : (p : View) → ((x : Atom) → p ≡ view.Atom x → (F : ℕ → Type 0) × Judged plan x F) → ((closing_outcome plan mark p i ≡ unrefused) × OnRows p i) ↔ Meets p i
         by_view (view.Atom x) judged = atom_meets x i (judged x refl).0 (judged x refl).1
         by_view (view.Operator o) judged = operator_meets o i

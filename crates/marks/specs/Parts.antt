@@ -2,7 +2,7 @@
 -- eventualities). Assumes nothing.
 use Rattle.std.specs.Prelude.{ℕ, zero, suc, ◌+◌, List, Bool, true, cond, not, ◌&&◌, leb, ltb, eqb}
 use Rattle.std.specs.Bool.{beq}
-use Rattle.refusal.specs.declared.Outcome.{Outcome}
+use Rattle.refusal.specs.Outcome.{Outcome}
 use Rattle.refusal.specs.declared.Refusal.TheVariants.{Equation, Closing, Witness}
 use Rattle.refusal.specs.Lowest.{lowest_from}
 use Rattle.refusal.specs.First.{◌or_else◌, unless, refused_at, at_lowest}

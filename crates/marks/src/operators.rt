@@ -13,12 +13,12 @@ pub enum Beside {
     Before(bool),
 }
 
+// Apart from `beside_two`, as the definitions are: each is over the operators of one enum.
 fn beside_one(operator: Unary) -> Beside
     ensures { result ≡ beside_one operator }
 {
     match operator {
-        Unary::Not => Beside::After,
-        Unary::Next => Beside::After,
+        Unary::Not | Unary::Next => Beside::After,
         Unary::Yesterday => Beside::Before(false),
         Unary::WeakYesterday => Beside::Before(true),
     }
@@ -28,10 +28,7 @@ fn beside_two(operator: Binary) -> Beside
     ensures { result ≡ beside_two operator }
 {
     match operator {
-        Binary::And => Beside::After,
-        Binary::Or => Beside::After,
-        Binary::Until => Beside::After,
-        Binary::Release => Beside::After,
+        Binary::And | Binary::Or | Binary::Until | Binary::Release => Beside::After,
         Binary::Since => Beside::Before(false),
         Binary::Trigger => Beside::Before(true),
     }
@@ -62,9 +59,7 @@ pub fn mark_one(operator: Unary, a: bool, beside: bool) -> bool
 {
     match operator {
         Unary::Not => !a,
-        Unary::Next => beside,
-        Unary::Yesterday => beside,
-        Unary::WeakYesterday => beside,
+        Unary::Next | Unary::Yesterday | Unary::WeakYesterday => beside,
     }
 }
 
@@ -75,9 +70,7 @@ pub fn mark_two(operator: Binary, a: bool, b: bool, beside: bool) -> bool
     match operator {
         Binary::And => a & b,
         Binary::Or => a | b,
-        Binary::Until => b | (a & beside),
-        Binary::Release => b & (a | beside),
-        Binary::Since => b | (a & beside),
-        Binary::Trigger => b & (a | beside),
+        Binary::Until | Binary::Since => b | (a & beside),
+        Binary::Release | Binary::Trigger => b & (a | beside),
     }
 }

@@ -1,14 +1,15 @@
-// The equations of operators on all rows of a table of `n` parts, many rows at once. The operator is opened once; below that
+// The equations of operators on all rows, many rows at once. The operator is opened once; below that
 // only numbers are handed on beside the plan's sizes: `m`, `a` and `b`, the places of the marks on row 0 of the part and of the
 // parts that it names. Marks on other rows lie as many places on.
-ghost use Rattle.std.specs.Prelude.{◌≡◌, true, false, ◌+◌, ◌≤◌, ◌<◌, length};
+ghost use Rattle.std.specs.Prelude.{◌≡◌, true, false, ◌+◌, ◌*◌, ◌≤◌, ◌<◌, length};
 ghost use Rattle.cltlb.specs.Fits.{names_lower};
 ghost use Rattle.cltlb.specs.declared.Operator.TheVariants.{One, Two};
 ghost use Rattle.plan.specs.inner.Sizes.{all_rows};
 ghost use Rattle.table.specs.Layout.{marked};
-ghost use Rattle.marks.specs.inner.Tables.{copy_test, step_test, ahead_of, behind_of, clear_of, MarkTable};
+ghost use Rattle.marks.specs.inner.Tables.{copy_test, step_test, ahead_of, behind_of, clear_of};
 ghost use Rattle.table.specs.inner.Tables.{copy_of, mark_in, most_bytes, MarkBytes};
 
+use crate::Table;
 use cltlb::{Binary, Operator, Unary};
 use plan::sizes::Sizes;
 use table::bytes::place;
@@ -59,56 +60,52 @@ fn steps_behind(table: &[u8], sizes: Sizes, m: usize, a: usize, b: usize, opposi
 }
 
 // Part `i`, which is an operator over part `a`, meets its equation on every row and closes.
-fn one_clear(table: &[u8], n: usize, sizes: Sizes, operator: Unary, i: usize, a: usize) -> bool
-    requires { (MarkTable table.now n sizes) × (i < n) × (a < n) }
-    ensures { result ≡ clear_of sizes.start sizes.cycle (marked (all_rows sizes) table.now) (One operator a) i }
+fn one_clear(table: &Table, operator: Unary, i: usize, a: usize) -> bool
+    requires { (MarkBytes table.now.bytes.now 4 (table.now.parts * all_rows table.now.sizes)) × (i < table.now.parts) × (a < table.now.parts) }
+    ensures { result ≡ clear_of table.now.sizes.start table.now.sizes.cycle (marked (all_rows table.now.sizes) table.now.bytes.now) (One operator a) i }
 {
+    let bytes = table.bytes;
+    let sizes = table.sizes;
     let w = sizes.start + sizes.cycle;
     let own = place(w, i, 0);
     let other = place(w, a, 0);
     match operator {
-        Unary::Not => opposites(table, own, other, w),
-        Unary::Next => copies_ahead(table, sizes, own, other),
-        Unary::Yesterday => copies_behind(table, sizes, own, other, false),
-        Unary::WeakYesterday => copies_behind(table, sizes, own, other, true),
+        Unary::Not => opposites(bytes, own, other, w),
+        Unary::Next => copies_ahead(bytes, sizes, own, other),
+        Unary::Yesterday => copies_behind(bytes, sizes, own, other, false),
+        Unary::WeakYesterday => copies_behind(bytes, sizes, own, other, true),
     }
 }
 
 // Part `i`, which is an operator over parts `a` and `b`, meets its equation on every row and closes. Where it looks at no row
 // beside, `a` takes the place of the mark there.
-fn two_clear(
-    table: &[u8],
-    n: usize,
-    sizes: Sizes,
-    operator: Binary,
-    i: usize,
-    a: usize,
-    b: usize,
-) -> bool
-    requires { (MarkTable table.now n sizes) × (i < n) × (a < n) × (b < n) }
-    ensures { result ≡ clear_of sizes.start sizes.cycle (marked (all_rows sizes) table.now) (Two operator a b) i }
+fn two_clear(table: &Table, operator: Binary, i: usize, a: usize, b: usize) -> bool
+    requires { (MarkBytes table.now.bytes.now 4 (table.now.parts * all_rows table.now.sizes)) × (i < table.now.parts) × (a < table.now.parts) × (b < table.now.parts) }
+    ensures { result ≡ clear_of table.now.sizes.start table.now.sizes.cycle (marked (all_rows table.now.sizes) table.now.bytes.now) (Two operator a b) i }
 {
+    let bytes = table.bytes;
+    let sizes = table.sizes;
     let w = sizes.start + sizes.cycle;
     let own = place(w, i, 0);
     let left = place(w, a, 0);
     let right = place(w, b, 0);
     match operator {
-        Binary::And => steps(table, own, left, right, left, w, true),
-        Binary::Or => steps(table, own, left, right, left, w, false),
-        Binary::Until => steps_ahead(table, sizes, own, left, right, false),
-        Binary::Release => steps_ahead(table, sizes, own, left, right, true),
-        Binary::Since => steps_behind(table, sizes, own, left, right, false),
-        Binary::Trigger => steps_behind(table, sizes, own, left, right, true),
+        Binary::And => steps(bytes, own, left, right, left, w, true),
+        Binary::Or => steps(bytes, own, left, right, left, w, false),
+        Binary::Until => steps_ahead(bytes, sizes, own, left, right, false),
+        Binary::Release => steps_ahead(bytes, sizes, own, left, right, true),
+        Binary::Since => steps_behind(bytes, sizes, own, left, right, false),
+        Binary::Trigger => steps_behind(bytes, sizes, own, left, right, true),
     }
 }
 
 // Part `i`, which is an operator, meets its equation on every row and closes.
-pub fn operator_clear(table: &[u8], n: usize, sizes: Sizes, i: usize, operator: Operator) -> bool
-    requires { (MarkTable table.now n sizes) × (i < n) × (names_lower n operator ≡ true) }
-    ensures { result ≡ clear_of sizes.start sizes.cycle (marked (all_rows sizes) table.now) operator i }
+pub fn operator_clear(table: &Table, i: usize, operator: Operator) -> bool
+    requires { (MarkBytes table.now.bytes.now 4 (table.now.parts * all_rows table.now.sizes)) × (i < table.now.parts) × (names_lower table.now.parts operator ≡ true) }
+    ensures { result ≡ clear_of table.now.sizes.start table.now.sizes.cycle (marked (all_rows table.now.sizes) table.now.bytes.now) operator i }
 {
     match operator {
-        Operator::One(sort, a) => one_clear(table, n, sizes, sort, i, a),
-        Operator::Two(sort, a, b) => two_clear(table, n, sizes, sort, i, a, b),
+        Operator::One(sort, a) => one_clear(table, sort, i, a),
+        Operator::Two(sort, a, b) => two_clear(table, sort, i, a, b),
     }
 }

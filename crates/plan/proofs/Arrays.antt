@@ -4,7 +4,7 @@ use native.Mathlib.Nat.{mul-le-mul, mul-le-mul_right}
 use native.Mathlib.Omega.{arith}
 use mathlib.Core.Path.{◌≡◌, refl, sym, ap, ◌∙◌}
 use mathlib.Core.List.{List}
-use lib.ListN.{length, take, drop, length-take, length-drop}
+use lib.ListN.{take, drop}
 use lib.IntN.{ℤ, pos, sub_ℕ, ◌+ℤ◌, ◌*ℤ◌}
 use Rattle.cltlb.specs.Run.{before_run, under}
 use Rattle.plan.specs.Layout.{rows, stored_rows, head_length, array_length, top_of, readings, drifts, cell, entry, stored_reading, stored_drift, reading_of, drift_of}
@@ -37,22 +37,15 @@ module _ {plan : List ℕ} {z : Sizes} (fits : Fitting plan z) where
   unfolding drifts stored_rows rows
   drifts_part b e f g = let k : e - b ≡ long = omega arith in rw (k, f, fits.v_is, fits.p_is, fits.c_is, fits.l_is) refl
 
-  module _ (k channel : ℕ) where
-    -- the entry of a stored row and a channel lies in a part as long as an array
-    pub in_part : (a e i : ℕ) → i ≡ cell z.channels k channel → e ≡ a + long → e ≤ length plan → k < all_stored z → channel < z.channels
-        → 4 * i + 4 ≤ length (take (e - a) (drop a plan))
-    in_part a e i f g l h there = simp (length-take, length-drop) (omega (arith, cell_lt z.channels (all_stored z) k channel h there))
+  -- what is read of a row that is stored and a channel
+  module _ (k channel : ℕ) {i : ℕ} (hi : i ≡ cell z.channels k channel) {d : List ℕ} (hd : d ≡ drifts plan) where
+    pub drift_read : {x : ℤ} → x ≡ entry d i → x ≡ stored_drift plan k channel
+    unfolding stored_drift
+    drift_read h = rw (fits.v_is, ← hi, ← hd) h
 
-    -- what is read there, in the part from b to e, and with it in the part from a to b
-    module _ (b e i : ℕ) (hb : b ≡ head_length z.channels + long) (he : e ≡ b + long) (hi : i ≡ cell z.channels k channel) where
-      pub drift_read : {x : ℤ} → x ≡ entry (take (e - b) (drop b plan)) i → x ≡ stored_drift plan k channel
-      unfolding stored_drift
-      drift_read h = rw (fits.v_is, ← hi, ← drifts_part b e hb he) h
-
-      pub value_read : (a pass : ℕ) → a ≡ head_length z.channels → {x : ℤ}
-          → x ≡ entry (take (b - a) (drop a plan)) i +ℤ pos pass *ℤ entry (take (e - b) (drop b plan)) i → x ≡ stored_reading plan k channel +ℤ pos pass *ℤ stored_drift plan k channel
-      unfolding stored_reading stored_drift
-      value_read a pass f h = rw (fits.v_is, ← hi, ← drifts_part b e hb he, ← readings_part a b f hb) h
+    pub value_read : (pass : ℕ) {r : List ℕ} → r ≡ readings plan → {x : ℤ} → x ≡ entry r i +ℤ pos pass *ℤ entry d i → x ≡ stored_reading plan k channel +ℤ pos pass *ℤ stored_drift plan k channel
+    unfolding stored_reading stored_drift
+    value_read pass hr h = rw (fits.v_is, ← hi, ← hd, ← hr) h
 
   -- a row is stored behind the lead-in
   module _ (row channel : ℕ) where

@@ -1,7 +1,7 @@
 -- Rows that have a drift other than 0, looked for channel by channel, and rows that have none, found at once. Assumes nothing.
 use Prim.Native.Nat.{ℕ, ◌+◌, ◌*◌, ◌-◌, ◌≤◌, ◌<◌}
 use native.Mathlib.Nat.{mul-le-mul_right}
-use native.Mathlib.Decide.{dec_lt}
+use native.Mathlib.Decide.{dec_lt, ℕ_discrete}
 use native.Mathlib.Numerals.{add-one}
 use native.Mathlib.Omega.{arith}
 use mathlib.Core.Path.{◌≡◌, refl, sym, ap, ◌∙◌}
@@ -9,17 +9,17 @@ use mathlib.Core.Bool.{Bool, true, false, ◌&&◌, ◌||◌, not, false≢true}
 use mathlib.Core.List.{List}
 use mathlib.Core.Logic.{by_cases}
 use lib.Dec.{eqb}
-use lib.ListN.{length, take, drop, length-take, length-drop}
+use lib.ListN.{length}
 use lib.IntN.{ℤ, pos, negsuc}
 use borrow.Author.Tests.{eq-eqb, ne_eqb, eqb-true, not-false}
 use Rattle.fields.specs.LittleEndian.{number_at}
 use Rattle.fields.specs.TwosComplement.{signed_of, signed_at}
 use Rattle.fields.proofs.Differences.{sub_pos, sub_neg}
 use Rattle.fields.proofs.Patterns.{signed_low}
-use Rattle.plan.specs.Layout.{channels, head_length, array_length, cell, entry, any_below, stored_drift}
+use Rattle.plan.specs.Layout.{channels, array_length, cell, drifts, entry, any_below, stored_drift}
 use Rattle.plan.specs.inner.Sizes.{all_stored, most_array, Fitting}
 use Rattle.plan.specs.inner.Drifts.{non_zero, all_zero, StoredStill, Still}
-use Rattle.plan.proofs.Arrays.{array_le, drifts_part}
+use Rattle.plan.proofs.Arrays.{array_le}
 use Rattle.plan.proofs.Fits.{few_stored}
 use Rattle.plan.specs.declared.sizes.Sizes.{Sizes}
 use Rattle.fields.specs.inner.Biased.{bias, unbiased}
@@ -38,24 +38,10 @@ other_field n e h =
     (λ l. ap is_zero (sym e ∙ sub_neg n bias l))
     (λ l. ap is_zero (sym e ∙ sub_pos n bias (omega arith)) ∙ ne_eqb (n - bias) 0 (λ g. h (omega arith)))
 
-module _ (plan : List ℕ) (k channel : ℕ) {n : ℕ} (e : unbiased n ≡ stored_drift plan k channel) where
-  pub no_drift : n ≡ bias → drifts_at plan k channel ≡ false
-  unfolding drifts_at
-  no_drift h = ap not (zero_field n e h)
-
-  pub a_drift : (n ≡ bias → ⊥) → drifts_at plan k channel ≡ true
-  unfolding drifts_at
-  a_drift h = ap not (other_field n e h)
-
--- What is found of a stored row.
-module _ {plan : List ℕ} {z : Sizes} (fits : Fitting plan z) (k : ℕ) where
-  pub row_drifts : (channel : ℕ) → channel < z.channels → drifts_at plan k channel ≡ true → drifting plan k ≡ true
-  unfolding drifting
-  row_drifts channel h e = rw fits.v_is (one_here (drifts_at plan k) channel z.channels h e)
-
-  pub row_still : (n : ℕ) → n ≡ z.channels → any_below (drifts_at plan k) n ≡ false → drifting plan k ≡ false
-  unfolding drifting
-  row_still n h e = rw (fits.v_is, ← h) e
+-- Whether the field of a drift is another than that of 0.
+pub drift_seen : (plan : List ℕ) (k channel n : ℕ) → unbiased n ≡ stored_drift plan k channel → not (eqb n bias) ≡ drifts_at plan k channel
+unfolding drifts_at
+drift_seen plan k channel n e = by_cases (ℕ_discrete n bias) (λ h. ap not (eq-eqb n bias h ∙ sym (zero_field n e h))) (λ h. ap not (ne_eqb n bias h ∙ sym (other_field n e h)))
 
 -- A row none of whose channels drifts.
 pub row_quiet : (plan : List ℕ) (k : ℕ) → ((channel : ℕ) → channel < channels plan → stored_drift plan k channel ≡ pos 0) → drifting plan k ≡ false
@@ -89,9 +75,6 @@ module _ (array : List ℕ) (from : ℕ) where
   unfolding all_zero any_below non_zero
   zero_next k n e g = rw (add-one, ← g) (ap (λ b. b && eqb n 0) e ∙ sweeps_on (any_below (non_zero array from) k) (eqb n 0))
 
-  pub zero_end : (k n : ℕ) {all : Bool} → k ≤ n → n ≤ k → all ≡ all_zero array from k → all ≡ all_zero array from n
-  zero_end k n h l e = e ∙ ap (all_zero array from) (omega arith)
-
   zero_each : (n : ℕ) → all_zero array from n ≡ true → (j : ℕ) → j < n → number_at 4 array (4 * (from + j)) ≡ 0
   unfolding all_zero non_zero
   zero_each n e j l = go (eqb (number_at 4 array (4 * (from + j))) 0) refl
@@ -111,27 +94,22 @@ module _ {plan : List ℕ} {z : Sizes} (fits : Fitting plan z) where
         let most = array_le z.channels to fits.few_channels (omega (arith, few_stored fits)) in
         omega (arith, together, most)
 
-    pub numbers_there : (b e : ℕ) → b ≡ head_length z.channels + array_length z.channels (all_stored z) → e ≡ b + array_length z.channels (all_stored z)
-        → (4 * (from * z.channels + (to - from) * z.channels) ≤ length (take (e - b) (drop b plan))) × (length (take (e - b) (drop b plan)) ≤ most_array)
+    pub numbers_there : (d : List ℕ) → length d ≡ array_length z.channels (all_stored z) → (4 * (from * z.channels + (to - from) * z.channels) ≤ length d) × (length d ≤ most_array)
     unfolding array_length
-    numbers_there b e hb he =
-        let whole = fits.whole in
-        let most = array_le z.channels (all_stored z) fits.few_channels (few_stored fits) in
-        simp (length-take, length-drop) (omega (arith, together, mul-le-mul_right z.channels l, most))
+    numbers_there d e = let most = array_le z.channels (all_stored z) fits.few_channels (few_stored fits) in omega (arith, together, mul-le-mul_right z.channels l, most)
 
   -- and where they are 0, no channel drifts there.
-  pub still_rows : (b e from to : ℕ) → b ≡ head_length z.channels + array_length z.channels (all_stored z) → e ≡ b + array_length z.channels (all_stored z)
-      → all_zero (take (e - b) (drop b plan)) (from * z.channels) ((to - from) * z.channels) ≡ true → StoredStill plan from to
+  pub still_rows : {d : List ℕ} → d ≡ drifts plan → (from to : ℕ) → all_zero d (from * z.channels) ((to - from) * z.channels) ≡ true → StoredStill plan from to
   unfolding StoredStill stored_drift entry signed_at cell
-  still_rows b e from to hb he all row channel low high l =
+  still_rows {d} same from to all row channel low high l =
       let there : channel < z.channels = rw (← fits.v_is) l in
       let near : row - from + 1 ≤ to - from = omega arith in
       let inside : (row - from) * z.channels + channel < (to - from) * z.channels = omega (arith, mul-le-mul_right z.channels near) in
       let back : from + (row - from) ≡ row = omega arith in
       let place : from * z.channels + ((row - from) * z.channels + channel) ≡ row * z.channels + channel =
       omega (arith, ap (λ (r : ℕ). r * z.channels) back) in
-      rw (fits.v_is, ← place, ← drifts_part fits b e hb he)
-      (ap (signed_of 4) (zero_each (take (e - b) (drop b plan)) (from * z.channels) ((to - from) * z.channels) all ((row - from) * z.channels + channel) inside) ∙ zero_signed)
+      rw (fits.v_is, ← place, ← same)
+      (ap (signed_of 4) (zero_each d (from * z.channels) ((to - from) * z.channels) all ((row - from) * z.channels + channel) inside) ∙ zero_signed)
     where
       zero_signed : signed_of 4 0 ≡ pos 0
       zero_signed = sym (signed_low 4 0 (omega arith))

@@ -1,19 +1,20 @@
 -- Plans whose sizes fit. Assumes nothing.
+use Rattle.std.specs.Prelude.{Some, None}
 use Prim.Native.Nat.{ℕ, ◌+◌, ◌*◌, ◌≤◌, ◌<◌}
 use native.Mathlib.Omega.{arith}
-use mathlib.Core.Path.{◌≡◌, refl, sym, ap}
+use mathlib.Core.Path.{◌≡◌, refl, sym, ap, ◌∙◌}
 use mathlib.Core.Bool.{Bool, true, false, cond, not, ◌&&◌, and-false}
 use mathlib.Core.List.{List}
 use lib.ListN.{length}
 use lib.Signed.{non_neg}
 use lib.Dec.{leb, eqb}
 use borrow.Author.Tests.{le-leb, lt-leb, eq-eqb, ne_eqb, leb-true, eqb-true, not-true, not-false}
+use Rattle.fields.specs.LittleEndian.{number_at}
 use Rattle.plan.specs.Layout.{channels, start_rows, cycle_rows, lead_rows, rows, stored_rows, sizes_length, head_length, array_length, tops, top_of, entry, any_below, negative_top, tops_fit, sizes_fit}
 use Rattle.plan.specs.Positions.{row_of, pass_of}
 use Rattle.plan.specs.inner.Lifted.{passes}
-use Rattle.plan.specs.inner.Sizes.{sizes_in, sizes_read, all_rows, all_stored, most_stored, farthest, Fitting}
+use Rattle.plan.specs.inner.Sizes.{sizes_in, in_range, sizes_read, all_rows, all_stored, most_stored, farthest, Fitting}
 use Rattle.plan.specs.declared.sizes.Sizes.{Sizes}
-use Rattle.plan.specs.declared.sizes.SizesRead.TheVariants.{Counts, Wrong}
 use Rattle.plan.proofs.Rows.{row_lt, pass_lt}
 use Rattle.plan.proofs.Searches.{none_below, none_each}
 
@@ -108,60 +109,61 @@ pub reached : {plan : List ℕ} {z : Sizes} → Fitting plan z → (t : ℕ) →
     → (row_of z.start z.cycle t < all_rows z) × (pass_of z.start z.cycle t < passes)
 reached {plan} {z} f t h = (row_lt z.start z.cycle f.a_cycle t, pass_lt z.start z.cycle f.a_cycle t passes (omega arith) h)
 
--- What is read of a plan whose sizes fit, and of another.
-pub counts : {plan : List ℕ} {z : Sizes} → Fitting plan z → Counts z ≡ sizes_read plan
-unfolding sizes_read
-counts f = simp (fits_true f, sizes_are f)
-
-pub counted : (plan : List ℕ) {z : Sizes} → sizes_read plan ≡ Counts z → Fitting plan z
+-- A plan of which sizes are read, and another.
+pub counted : (plan : List ℕ) {z : Sizes} → sizes_read plan ≡ Some z → Fitting plan z
 unfolding sizes_read
 counted plan {z} e = go (sizes_fit plan) refl e
   where
-    go : (b : Bool) → sizes_fit plan ≡ b → cond b (Counts (sizes_in plan)) Wrong ≡ Counts z → Fitting plan z
+    go : (b : Bool) → sizes_fit plan ≡ b → cond b (Some (sizes_in plan)) None ≡ Some z → Fitting plan z
     go true h k = let same : sizes_in plan ≡ z = cc in rw same at (fitting plan h)
     go false h k = let z : ◌≡◌ {A = ℕ} 0 1 = cc in absurd (omega arith)
 
-pub unfit : (plan : List ℕ) → sizes_read plan ≡ Wrong → sizes_fit plan ≡ false
+pub unfit : (plan : List ℕ) → sizes_read plan ≡ None → sizes_fit plan ≡ false
 unfolding sizes_read
 unfit plan e = go (sizes_fit plan) refl e
   where
-    go : (b : Bool) → sizes_fit plan ≡ b → cond b (Counts (sizes_in plan)) Wrong ≡ Wrong → sizes_fit plan ≡ false
+    go : (b : Bool) → sizes_fit plan ≡ b → cond b (Some (sizes_in plan)) None ≡ None → sizes_fit plan ≡ false
     go true h k = let z : ◌≡◌ {A = ℕ} 0 1 = cc in absurd (omega arith)
     go false h k = h
 
--- Each way in which sizes do not fit.
+-- Sizes that were read, where they fit and each way in which they do not.
 module _ (plan : List ℕ) where
-  pub too_short : length plan < sizes_length → Wrong ≡ sizes_read plan
+  pub too_short : length plan < sizes_length → None ≡ sizes_read plan
   unfolding sizes_read sizes_fit
   too_short h = simp (lt-leb _ _ h)
 
-  module _ {v : ℕ} (e : v ≡ channels plan) where
-    pub no_channel : v < 1 → Wrong ≡ sizes_read plan
-    unfolding sizes_read sizes_fit
-    no_channel h = simp (← e, lt-leb _ _ h, and-false)
+  pub reads : {v p c l : ℕ} → v ≡ number_at 2 plan 0 → p ≡ number_at 2 plan 2 → c ≡ number_at 2 plan 4 → l ≡ number_at 2 plan 6 → record { channels = v; start = p; cycle = c; lead = l } ≡ sizes_in plan
+  unfolding channels start_rows cycle_rows lead_rows
+  reads e f g h = λ i. record { channels = e i; start = f i; cycle = g i; lead = h i }
 
-    pub many_channels : 8 < v → Wrong ≡ sizes_read plan
-    unfolding sizes_read sizes_fit
-    many_channels h = simp (← e, lt-leb _ _ h, and-false)
+  module _ {z : Sizes} (e : z ≡ sizes_in plan) where
+    fit_is : sizes_fit plan ≡ (leb sizes_length (length plan) && (in_range z && (eqb (length plan) (head_length z.channels + 2 * array_length z.channels (all_stored z)) && tops_fit (tops plan) z.channels)))
+    unfolding sizes_fit stored_rows rows
+    fit_is =
+        let v = channels plan in
+        let long = eqb (length plan) (head_length v + 2 * array_length v (lead_rows plan + (start_rows plan + cycle_rows plan))) in
+        rw e (ap (λ (b : Bool). leb sizes_length (length plan) && b) (sym (later (leb 1 v && leb v 8) (leb 1 (cycle_rows plan)) (leb (rows plan) 256) (leb (lead_rows plan) 4) (long && tops_fit (tops plan) v))))
+      where
+        later : (a b c d f : Bool) → ((a && (b && (c && d))) && f) ≡ (a && (b && (c && (d && f))))
+        later false b c d f = refl
+        later true false c d f = refl
+        later true true false d f = refl
+        later true true true d f = refl
 
-  module _ {c : ℕ} (e : c ≡ cycle_rows plan) where
-    pub no_cycle : c < 1 → Wrong ≡ sizes_read plan
-    unfolding sizes_read sizes_fit
-    no_cycle h = simp (← e, lt-leb _ _ h, and-false)
+    pub out_of_range : in_range z ≡ false → None ≡ sizes_read plan
+    unfolding sizes_read
+    out_of_range h = simp (fit_is, h, and-false)
 
-    module _ {p : ℕ} (f : p ≡ start_rows plan) where
-      pub many_rows : 256 < p + c → Wrong ≡ sizes_read plan
-      unfolding sizes_read sizes_fit rows
-      many_rows h = simp (← e, ← f, lt-leb _ _ h, and-false)
+    pub other_length : (length plan ≡ head_length z.channels + 2 * array_length z.channels (all_stored z) → ⊥) → None ≡ sizes_read plan
+    unfolding sizes_read
+    other_length h = simp (fit_is, ne_eqb _ _ h, and-false)
 
-      pub other_length : {v l : ℕ} → v ≡ channels plan → l ≡ lead_rows plan → (length plan ≡ head_length v + 2 * array_length v (l + (p + c)) → ⊥) → Wrong ≡ sizes_read plan
-      unfolding sizes_read sizes_fit stored_rows rows
-      other_length g k h = simp (← e, ← f, ← g, ← k, ne_eqb _ _ h, and-false)
+    pub a_negative_top : tops_fit (tops plan) z.channels ≡ false → None ≡ sizes_read plan
+    unfolding sizes_read
+    a_negative_top h = simp (fit_is, h, and-false)
 
-  pub long_lead : {l : ℕ} → l ≡ lead_rows plan → 4 < l → Wrong ≡ sizes_read plan
-  unfolding sizes_read sizes_fit
-  long_lead e h = simp (← e, lt-leb _ _ h, and-false)
-
-  pub negative_top_lem : tops_fit (tops plan) (channels plan) ≡ false → Wrong ≡ sizes_read plan
-  unfolding sizes_read sizes_fit
-  negative_top_lem e = simp (e, and-false)
+    pub all_fits : in_range z ≡ true → length plan ≡ head_length z.channels + 2 * array_length z.channels (all_stored z) → tops_fit (tops plan) z.channels ≡ true → Some z ≡ sizes_read plan
+    unfolding sizes_read
+    all_fits h whole f = let long : sizes_length ≤ length plan = omega (arith, whole) in
+        let t : sizes_fit plan ≡ true = fit_is ∙ simp (h, le-leb _ _ long, eq-eqb _ _ whole, f) in
+        ap Some e ∙ ap (λ b. cond b (Some (sizes_in plan)) None) (sym t)

@@ -2,46 +2,33 @@
 use Prim.Native.Nat.{ℕ, ◌+◌, ◌*◌, ◌-◌, ◌≤◌, ◌<◌}
 use native.Mathlib.Decide.{dec_lt}
 use native.Mathlib.Omega.{arith}
-use mathlib.Core.Path.{◌≡◌, refl, sym, ap, ap₂, ◌∙◌}
+use mathlib.Core.Path.{◌≡◌, refl, sym, ap, ◌∙◌}
 use mathlib.Core.Bool.{Bool, true, false, cond, not, ◌&&◌, false≢true}
 use mathlib.Core.List.{List}
 use mathlib.Core.Logic.{by_cases}
 use lib.IntN.{ℤ, pos}
 use lib.ListN.{take, drop}
 use lib.Signed.{non_neg}
-use borrow.Author.Tests.{le-leb, lt-leb, ne_eqb, not-true, not-false}
+use lib.Dec.{leb}
+use borrow.Author.Tests.{le-leb, lt-leb, ne_eqb}
 use Rattle.cltlb.specs.Run.{Seen, number, pinned, is_top, is_pinned, under}
 use Rattle.cltlb.proofs.Pinned.{no_top_pins_nothing}
 use Rattle.fields.specs.inner.Biased.{bias, unbiased}
 use Rattle.fields.proofs.Differences.{sub_pos, sub_neg}
-use Rattle.plan.specs.Layout.{channels, sizes_length, head_length, entry, tops, top_of, any_below, negative_top, tops_fit}
-use Rattle.plan.proofs.Searches.{one_here}
+use Rattle.plan.specs.Layout.{channels, sizes_length, head_length, entry, tops, top_of, negative_top, tops_fit}
 use Rattle.plan.specs.inner.Lifted.{value_bias, lowered}
-use Rattle.plan.specs.inner.Sizes.{sizes_read, Fitting}
-use Rattle.plan.specs.declared.sizes.SizesRead.TheVariants.{Wrong}
-use Rattle.plan.proofs.Fits.{top_natural, none_negative, negative_top_lem}
+use Rattle.plan.specs.inner.Sizes.{sizes_in, Fitting}
 use Rattle.plan.specs.declared.sizes.Sizes.{Sizes}
 
 -- ---- tops as they are read
 
-module _ (array : List ℕ) (channel : ℕ) {n : ℕ} (e : unbiased n ≡ entry array channel) where
-  pub below_zero : n < bias → negative_top array channel ≡ true
+module _ (array : List ℕ) (channel n : ℕ) (e : unbiased n ≡ entry array channel) where
+  pub top_seen : leb bias n ≡ not (negative_top array channel)
   unfolding negative_top
-  below_zero h = ap (λ (z : ℤ). not (non_neg z)) (sym e ∙ sub_neg n bias h)
-
-  pub not_below_zero : bias ≤ n → negative_top array channel ≡ false
-  unfolding negative_top
-  not_below_zero h = ap (λ (z : ℤ). not (non_neg z)) (sym e ∙ sub_pos n bias h)
-
--- A search through v tops, going up.
-module _ (array : List ℕ) (v : ℕ) where
-  pub one_negative : (channel : ℕ) → channel < v → negative_top array channel ≡ true → false ≡ tops_fit array v
-  unfolding tops_fit
-  one_negative channel h e = ap not (sym (one_here (negative_top array) channel v h e))
-
-  pub no_one_negative : (n : ℕ) → n ≡ v → any_below (negative_top array) n ≡ false → true ≡ tops_fit array v
-  unfolding tops_fit
-  no_one_negative n h e = ap not (sym e) ∙ ap (λ (m : ℕ). not (any_below (negative_top array) m)) h
+  top_seen =
+      by_cases (dec_lt n bias)
+      (λ h. lt-leb bias n h ∙ ap (λ (z : ℤ). not (not (non_neg z))) (sym (sub_neg n bias h) ∙ e))
+      (λ h. le-leb bias n (omega arith) ∙ ap (λ (z : ℤ). not (not (non_neg z))) (sym (sub_pos n bias (omega arith)) ∙ e))
 
 -- The tops are the part that is handed on.
 module _ (plan : List ℕ) {v : ℕ} (v_is : v ≡ channels plan) (a b : ℕ) (f : a ≡ sizes_length) (g : b ≡ head_length v) where
@@ -49,23 +36,16 @@ module _ (plan : List ℕ) {v : ℕ} (v_is : v ≡ channels plan) (a b : ℕ) (f
   unfolding tops
   tops_part = let k : b - a ≡ 4 * v = omega arith in rw (k, f, v_is) refl
 
-  -- what is found of them
-  module _ {r : Bool} (e : r ≡ tops_fit (take (b - a) (drop a plan)) v) where
-    found : r ≡ tops_fit (tops plan) (channels plan)
-    found = e ∙ ap₂ tops_fit tops_part v_is
-
-    pub found_negative : not r ≡ true → Wrong ≡ sizes_read plan
-    found_negative h = negative_top_lem plan (sym found ∙ not-true r h)
-
-    pub found_none : not r ≡ false → (channel : ℕ) → channel < v → non_neg (top_of plan channel) ≡ true
-    found_none h channel l = top_natural plan channel (none_negative (tops plan) (channels plan) (sym found ∙ not-false r h) channel (rw (← v_is) l))
+-- What is found of that part, with the sizes that were read.
+pub tops_handed : (plan : List ℕ) {z : Sizes} → z ≡ sizes_in plan → {a b : ℕ} → a ≡ sizes_length → b ≡ head_length z.channels → {r : Bool} → r ≡ tops_fit (take (b - a) (drop a plan)) z.channels → r ≡ tops_fit (tops plan) z.channels
+tops_handed plan {z} e {a} {b} f g h = rw (← tops_part plan (ap (λ (y : Sizes). y.channels) e) a b f g) h
 
 module _ {plan : List ℕ} {z : Sizes} (fits : Fitting plan z) where
   -- what is read of a top is not below 0
-  module _ (a b channel n : ℕ) (f : a ≡ sizes_length) (g : b ≡ head_length z.channels) (h : channel < z.channels) (e : unbiased n ≡ entry (take (b - a) (drop a plan)) channel) where
+  module _ (channel n : ℕ) (h : channel < z.channels) {t : List ℕ} (same : t ≡ tops plan) (e : unbiased n ≡ entry t channel) where
     top_is : unbiased n ≡ top_of plan channel
     unfolding top_of
-    top_is = rw (← tops_part plan (sym fits.v_is) a b f g) e
+    top_is = rw (← same) e
 
     pub top_lifted : bias ≤ n
     top_lifted =

@@ -1,6 +1,6 @@
 -- The refusals of a plan, 4 to 6, in the order of checking. Assumes nothing.
 use Rattle.std.specs.Prelude.{ℕ, ◌+◌, ◌-◌, List, Bool, false, not, eqb, ℤ, pos, negsuc}
-use Rattle.refusal.specs.declared.Outcome.{Outcome}
+use Rattle.refusal.specs.Outcome.{Outcome}
 use Rattle.refusal.specs.declared.Refusal.{Refusal}
 use Rattle.refusal.specs.declared.Refusal.TheVariants.{PlanSizes, Channels, StartDrift}
 use Rattle.refusal.specs.First.{◌or_else◌, unless, at_lowest}

@@ -18,13 +18,11 @@ pub fn landing_of(sizes: Sizes, row: usize, code: usize) -> Landing
     ensures { (result.row ≡ landing_row sizes.start sizes.cycle row code) × (result.off ≡ landing_off sizes.start sizes.cycle row code) }
 {
     let at = row + code;
-    if sizes.start + 4 <= at {
-        if at < sizes.start + sizes.cycle + 4 {
-            return Landing {
-                row: at - 4,
-                off: 4,
-            };
-        }
+    if sizes.start + 4 <= at && at < sizes.start + sizes.cycle + 4 {
+        return Landing {
+            row: at - 4,
+            off: 4,
+        };
     }
     let behind = at + 4 * sizes.cycle - (sizes.start + 4);
     Landing {

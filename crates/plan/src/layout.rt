@@ -1,23 +1,19 @@
 // Where the plan's parts lie in its bytes.
 ghost use Rattle.std.specs.Prelude.{◌≡◌, ◌+◌, ◌*◌, ◌≤◌, ◌<◌};
-ghost use Rattle.plan.specs.Layout.{sizes_length, head_length, array_length, cell};
+ghost use Rattle.plan.specs.Layout.{head_length, array_length, cell};
 ghost use Rattle.plan.specs.inner.Sizes.{all_stored, most_stored, most_array};
 
 use crate::sizes::Sizes;
 
 // The bytes of the sizes; the tops begin after them.
-pub fn sizes_length() -> usize
-    ensures { result ≡ sizes_length }
-{
-    8
-}
+pub const SIZES_LENGTH: usize = 8;
 
 // The bytes of the sizes and of a top for each channel; the readings begin after them.
 pub fn head_length(sizes: Sizes) -> usize
     requires { sizes.channels ≤ 8 }
     ensures { result ≡ head_length sizes.channels }
 {
-    sizes_length() + 4 * sizes.channels
+    SIZES_LENGTH + 4 * sizes.channels
 }
 
 // The bytes of one array: of the lead-in rows, then of the start rows and the cycle rows.

@@ -3,15 +3,15 @@
 ghost use Rattle.std.specs.Prelude.{◌≡◌, ◌+◌, ◌*◌, ◌≤◌, ◌<◌, length, pos, ◌+ℤ◌, ◌*ℤ◌};
 ghost use Rattle.std.proofs.Math.IntN.{sub_ℕ};
 ghost use Rattle.fields.specs.inner.Biased.{patterns, unbiased};
-ghost use Rattle.plan.specs.Layout.{entry, stored_reading, stored_drift, drift_of};
-ghost use Rattle.plan.specs.inner.Sizes.{all_rows, all_stored, farthest, Fitting};
+ghost use Rattle.plan.specs.Layout.{array_length, readings, drifts, entry, stored_reading, stored_drift, drift_of};
+ghost use Rattle.plan.specs.inner.Sizes.{all_rows, all_stored, farthest};
 ghost use Rattle.plan.specs.Run.{reading_on, run_of};
 ghost use Rattle.plan.specs.inner.Lifted.{passes, lowered, value_end, seen_of, Small};
 
-use crate::layout::{array_length, cell_of, drifts_start, head_length};
+use crate::Plan;
+use crate::layout::{cell_of, drifts_start, head_length};
 use crate::positions::{pass_of, row_of};
-use crate::sizes::Sizes;
-use crate::tops::{seen_under, top_of};
+use crate::tops::seen_under;
 use fields::{BIAS, biased, u32_at};
 
 // The last pass that the lookups reach.
@@ -45,60 +45,76 @@ fn number_on(readings: &[u8], drifts: &[u8], index: usize, pass: usize) -> u64
     entry_at(readings, index) + k * entry_at(drifts, index) + (LAST_PASS - k) * BIAS
 }
 
-// The value of a channel on a pass, on the k-th row that is stored.
-pub fn stored_number(plan: &[u8], sizes: Sizes, channel: usize, k: usize, pass: usize) -> u64
-    requires { (Fitting plan.now sizes) × (channel < sizes.channels) × (k < all_stored sizes) × (pass < passes) }
-    ensures { (lowered result ≡ stored_reading plan.now k channel +ℤ pos pass *ℤ stored_drift plan.now k channel) × (result < value_end) }
-{
-    let a = head_length(sizes);
-    let b = drifts_start(sizes);
-    let e = b + array_length(sizes);
-    number_on(&plan[a..b], &plan[b..e], cell_of(sizes, k, channel), pass)
-}
-
-// The value of a channel on a row and a pass.
-pub fn number_at(plan: &[u8], sizes: Sizes, channel: usize, row: usize, pass: usize) -> u64
-    requires { (Fitting plan.now sizes) × (channel < sizes.channels) × (row < all_rows sizes) × (pass < passes) }
-    ensures { (lowered result ≡ reading_on plan.now channel row pass) × (result < value_end) }
-{
-    stored_number(plan, sizes, channel, sizes.lead + row, pass)
-}
-
-// The drift of a channel on the k-th row that is stored.
-pub fn stored_drift(plan: &[u8], sizes: Sizes, channel: usize, k: usize) -> u64
-    requires { (Fitting plan.now sizes) × (channel < sizes.channels) × (k < all_stored sizes) }
-    ensures { (unbiased result ≡ stored_drift plan.now k channel) × (result < patterns) }
-{
-    let b = drifts_start(sizes);
-    let e = b + array_length(sizes);
-    entry_at(&plan[b..e], cell_of(sizes, k, channel))
-}
-
-// The drift of a channel on a row.
-pub fn drift_at(plan: &[u8], sizes: Sizes, channel: usize, row: usize) -> u64
-    requires { (Fitting plan.now sizes) × (channel < sizes.channels) × (row < all_rows sizes) }
-    ensures { (unbiased result ≡ drift_of plan.now row channel) × (result < patterns) }
-{
-    stored_drift(plan, sizes, channel, sizes.lead + row)
-}
-
-// What is seen of a channel at the position `ahead` - 4: a term at position t whose shift has the code k, which is the shift
-// + 4, is seen at t + k. In the lead-in, whose first row lies farthest back, and on pass 0 it is what is stored there, under the top.
-pub fn seen_at(plan: &[u8], sizes: Sizes, channel: usize, ahead: usize) -> Seen
-    requires { (Fitting plan.now sizes) × (channel < sizes.channels) × (ahead ≤ farthest sizes) }
-    ensures { (seen_of result ≡ run_of plan.now channel (sub_ℕ ahead 4)) × Small result }
-{
-    let at = sizes.lead + ahead;
-    if at < 4 {
-        return Seen::BeforeRun;
+impl<'a> Plan<'a> {
+    // The two arrays.
+    pub fn readings(&self) -> &[u8]
+        ensures { (result.now ≡ readings self.now.bytes.now) × (length result.now ≡ array_length self.now.sizes.channels (all_stored self.now.sizes)) }
+    {
+        &self.bytes[head_length(self.sizes)..drifts_start(self.sizes)]
     }
-    let top = top_of(plan, sizes, channel);
-    if ahead < sizes.start + sizes.cycle + 4 {
-        return seen_under(top, stored_number(plan, sizes, channel, at - 4, 0));
+
+    pub fn drifts(&self) -> &[u8]
+        ensures { (result.now ≡ drifts self.now.bytes.now) × (length result.now ≡ array_length self.now.sizes.channels (all_stored self.now.sizes)) }
+    {
+        &self.bytes[drifts_start(self.sizes)..]
     }
-    let t = ahead - 4;
-    seen_under(
-        top,
-        number_at(plan, sizes, channel, row_of(sizes, t), pass_of(sizes, t)),
-    )
+
+    // The value of a channel on a pass, on the k-th row that is stored.
+    pub fn stored_number(&self, channel: usize, k: usize, pass: usize) -> u64
+        requires { (channel < self.now.sizes.channels) × (k < all_stored self.now.sizes) × (pass < passes) }
+        ensures { (lowered result ≡ stored_reading self.now.bytes.now k channel +ℤ pos pass *ℤ stored_drift self.now.bytes.now k channel) × (result < value_end) }
+    {
+        number_on(
+            self.readings(),
+            self.drifts(),
+            cell_of(self.sizes, k, channel),
+            pass,
+        )
+    }
+
+    // The value of a channel on a row and a pass.
+    pub fn number_at(&self, channel: usize, row: usize, pass: usize) -> u64
+        requires { (channel < self.now.sizes.channels) × (row < all_rows self.now.sizes) × (pass < passes) }
+        ensures { (lowered result ≡ reading_on self.now.bytes.now channel row pass) × (result < value_end) }
+    {
+        self.stored_number(channel, self.sizes.lead + row, pass)
+    }
+
+    // The drift of a channel on the k-th row that is stored.
+    pub fn stored_drift(&self, channel: usize, k: usize) -> u64
+        requires { (channel < self.now.sizes.channels) × (k < all_stored self.now.sizes) }
+        ensures { (unbiased result ≡ stored_drift self.now.bytes.now k channel) × (result < patterns) }
+    {
+        entry_at(self.drifts(), cell_of(self.sizes, k, channel))
+    }
+
+    // The drift of a channel on a row.
+    pub fn drift_at(&self, channel: usize, row: usize) -> u64
+        requires { (channel < self.now.sizes.channels) × (row < all_rows self.now.sizes) }
+        ensures { (unbiased result ≡ drift_of self.now.bytes.now row channel) × (result < patterns) }
+    {
+        self.stored_drift(channel, self.sizes.lead + row)
+    }
+
+    // What is seen of a channel at the position `ahead` - 4: a term at position t whose shift has the code k, which is the shift
+    // + 4, is seen at t + k. In the lead-in, whose first row lies farthest back, and on pass 0 it is what is stored there, under the top.
+    pub fn seen_at(&self, channel: usize, ahead: usize) -> Seen
+        requires { (channel < self.now.sizes.channels) × (ahead ≤ farthest self.now.sizes) }
+        ensures { (seen_of result ≡ run_of self.now.bytes.now channel (sub_ℕ ahead 4)) × Small result }
+    {
+        let sizes = self.sizes;
+        let at = sizes.lead + ahead;
+        if at < 4 {
+            return Seen::BeforeRun;
+        }
+        let top = self.top_of(channel);
+        if ahead < sizes.start + sizes.cycle + 4 {
+            return seen_under(top, self.stored_number(channel, at - 4, 0));
+        }
+        let t = ahead - 4;
+        seen_under(
+            top,
+            self.number_at(channel, row_of(sizes, t), pass_of(sizes, t)),
+        )
+    }
 }

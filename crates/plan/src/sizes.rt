@@ -1,8 +1,8 @@
 // The plan's sizes, read and held to their ranges and to the length, and its tops, none of which is negative.
-ghost use Rattle.std.specs.Prelude.{◌≡◌};
-ghost use Rattle.plan.specs.inner.Sizes.{sizes_read};
+ghost use Rattle.std.specs.Prelude.{◌≡◌, ◌<◌};
+ghost use Rattle.plan.specs.inner.Sizes.{in_range, sizes_read};
 
-use crate::layout::{array_length, head_length, sizes_length};
+use crate::layout::{SIZES_LENGTH, array_length, head_length};
 use crate::tops::tops_fit;
 use fields::u16_at;
 
@@ -15,50 +15,38 @@ pub struct Sizes {
     pub lead: usize,
 }
 
-// The sizes of a plan, or that they do not fit their ranges or the length, or a top is negative.
-#[derive(Clone, Copy)]
-pub enum SizesRead {
-    Counts(Sizes),
-    Wrong,
+// V is 1 to 8, C at least 1, W at most 256 and L at most 4.
+fn in_range(sizes: Sizes) -> bool
+    requires { (sizes.start < 65536) × (sizes.cycle < 65536) }
+    ensures { result ≡ in_range sizes }
+{
+    (1..=8).contains(&sizes.channels)
+        && 1 <= sizes.cycle
+        && sizes.start + sizes.cycle <= 256
+        && sizes.lead <= 4
 }
 
-pub fn read_sizes(plan: &[u8]) -> SizesRead
+// The sizes of a plan, where they fit their ranges and the length and no top is negative.
+pub fn read_sizes(plan: &[u8]) -> Option<Sizes>
     ensures { result ≡ sizes_read plan.now }
 {
-    if plan.len() < sizes_length() {
-        return SizesRead::Wrong;
-    }
-    let v = u16_at(plan, 0);
-    let p = u16_at(plan, 2);
-    let c = u16_at(plan, 4);
-    let l = u16_at(plan, 6);
-    if v < 1 {
-        return SizesRead::Wrong;
-    }
-    if 8 < v {
-        return SizesRead::Wrong;
-    }
-    if c < 1 {
-        return SizesRead::Wrong;
-    }
-    if 256 < p + c {
-        return SizesRead::Wrong;
-    }
-    if 4 < l {
-        return SizesRead::Wrong;
+    if plan.len() < SIZES_LENGTH {
+        return None;
     }
     let sizes = Sizes {
-        channels: v,
-        start: p,
-        cycle: c,
-        lead: l,
+        channels: u16_at(plan, 0),
+        start: u16_at(plan, 2),
+        cycle: u16_at(plan, 4),
+        lead: u16_at(plan, 6),
     };
+    if !in_range(sizes) {
+        return None;
+    }
     let head = head_length(sizes);
-    if plan.len() != head + 2 * array_length(sizes) {
-        return SizesRead::Wrong;
+    if plan.len() != head + 2 * array_length(sizes)
+        || !tops_fit(&plan[SIZES_LENGTH..head], sizes.channels)
+    {
+        return None;
     }
-    if !tops_fit(&plan[sizes_length()..head], v) {
-        return SizesRead::Wrong;
-    }
-    SizesRead::Counts(sizes)
+    Some(sizes)
 }

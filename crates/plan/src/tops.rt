@@ -2,13 +2,12 @@
 ghost use Rattle.std.specs.Prelude.{◌≡◌, ◌*◌, ◌≤◌, ◌<◌, length, pos};
 ghost use Rattle.cltlb.specs.Run.{under};
 ghost use Rattle.fields.specs.inner.Biased.{bias};
-ghost use Rattle.plan.specs.Layout.{tops_fit, top_of};
-ghost use Rattle.plan.specs.inner.Sizes.{Fitting};
+ghost use Rattle.plan.specs.Layout.{tops, tops_fit, top_of};
 ghost use Rattle.plan.specs.inner.Lifted.{value_end, lowered, seen_of, Small};
 
-use crate::layout::{head_length, sizes_length};
+use crate::Plan;
+use crate::layout::{SIZES_LENGTH, head_length};
 use crate::lookup::{Seen, ZERO, entry_at};
-use crate::sizes::Sizes;
 use fields::BIAS;
 
 // No one of the first `v` tops is negative.
@@ -16,24 +15,23 @@ pub fn tops_fit(tops: &[u8], v: usize) -> bool
     requires { 4 * v ≤ length tops.now }
     ensures { result ≡ tops_fit tops.now v }
 {
-    let mut channel = 0;
-    while channel < v {
-        if entry_at(tops, channel) < BIAS {
-            return false;
-        }
-        channel += 1;
-    }
-    true
+    (0..v).all(|channel| BIAS <= entry_at(tops, channel))
 }
 
-// The top of a channel; 0 is no top.
-pub fn top_of(plan: &[u8], sizes: Sizes, channel: usize) -> u64
-    requires { (Fitting plan.now sizes) × (channel < sizes.channels) }
-    ensures { (pos result ≡ top_of plan.now channel) × (result < bias) }
-{
-    let a = sizes_length();
-    let b = head_length(sizes);
-    entry_at(&plan[a..b], channel) - BIAS
+impl<'a> Plan<'a> {
+    fn tops(&self) -> &[u8]
+        ensures { (result.now ≡ tops self.now.bytes.now) × (length result.now ≡ 4 * self.now.sizes.channels) }
+    {
+        &self.bytes[SIZES_LENGTH..head_length(self.sizes)]
+    }
+
+    // The top of a channel; 0 is no top.
+    pub fn top_of(&self, channel: usize) -> u64
+        requires { channel < self.now.sizes.channels }
+        ensures { (pos result ≡ top_of self.now.bytes.now channel) × (result < bias) }
+    {
+        entry_at(self.tops(), channel) - BIAS
+    }
 }
 
 // What is seen of a value under a top.

@@ -1,5 +1,6 @@
 -- Outcomes whose refusals all meet a condition, such as their numbers and that two bytes hold the part and the row that they
 -- name. Assumes nothing.
+use Rattle.std.specs.Prelude.{Ok, Err}
 use Prim.Native.Nat.{ℕ, zero, suc, ◌+◌, ◌≤◌, ◌<◌}
 use native.Mathlib.Omega.{arith}
 use mathlib.Core.Path.{◌≡◌, refl, subst}
@@ -10,8 +11,7 @@ use Rattle.refusal.specs.Report.{report_of}
 use Rattle.refusal.specs.Lowest.{lowest, lowest_from}
 use Rattle.refusal.specs.First.{◌or_else◌, unless, refused_at, at_lowest, in_turn_from, in_turn}
 use Rattle.refusal.specs.declared.Refusal.{Refusal}
-use Rattle.refusal.specs.declared.Outcome.{Outcome}
-use Rattle.refusal.specs.declared.Outcome.TheVariants.{Clear, Refused}
+use Rattle.refusal.specs.Outcome.{Outcome, unrefused}
 use Rattle.refusal.proofs.Lowest.{from_some}
 use Rattle.refusal.proofs.First.{or_else_refused}
 
@@ -26,23 +26,23 @@ Within lo hi r = (lo ≤ (report_of r).number) × ((report_of r).number ≤ hi) 
 module _ (P : Refusal → Type 0) where
   -- an outcome whose refusal, if it has one, meets the condition
   unfoldable pub RefusesOnly : Outcome → Type 0
-  RefusesOnly Clear = Unit {0}
-  RefusesOnly (Refused r) = P r
+  RefusesOnly (Ok _) = Unit {0}
+  RefusesOnly (Err r) = P r
 
-  pub refused_only : (o : Outcome) → RefusesOnly o → (r : Refusal) → o ≡ Refused r → P r
+  pub refused_only : (o : Outcome) → RefusesOnly o → (r : Refusal) → o ≡ Err r → P r
   unfolding RefusesOnly
   refused_only o h r e = subst RefusesOnly e h
 
-  pub only_by : (o : Outcome) → ((r : Refusal) → o ≡ Refused r → P r) → RefusesOnly o
+  pub only_by : (o : Outcome) → ((r : Refusal) → o ≡ Err r → P r) → RefusesOnly o
   unfolding RefusesOnly
-  only_by Clear h = tt
-  only_by (Refused r) h = h r refl
+  only_by (Ok _) h = tt
+  only_by (Err r) h = h r refl
 
   -- the second test counts only where the first refuses nothing
-  pub or_else_only : (x y : Outcome) → RefusesOnly x → (x ≡ Clear → RefusesOnly y) → RefusesOnly (x or_else y)
+  pub or_else_only : (x y : Outcome) → RefusesOnly x → (x ≡ unrefused → RefusesOnly y) → RefusesOnly (x or_else y)
   unfolding RefusesOnly ◌or_else◌
-  or_else_only Clear y h k = k refl
-  or_else_only (Refused r) y h k = h
+  or_else_only (Ok _) y h k = k refl
+  or_else_only (Err r) y h k = h
 
   pub unless_only : (b : Bool) (r : Refusal) → P r → RefusesOnly (unless b r)
   unfolding RefusesOnly unless
@@ -72,7 +72,7 @@ module _ (P : Refusal → Type 0) where
   in_turn_only f n h = turns_only f 0 n (λ i low high. h i (omega arith))
 
   -- Of two tests, a refusal that the first one cannot have is the second one's.
-  pub or_else_second : (x y : Outcome) (r : Refusal) → RefusesOnly x → ¬ P r → x or_else y ≡ Refused r → (x ≡ Clear) × (y ≡ Refused r)
+  pub or_else_second : (x y : Outcome) (r : Refusal) → RefusesOnly x → ¬ P r → x or_else y ≡ Err r → (x ≡ unrefused) × (y ≡ Err r)
   or_else_second x y r h n e = ⊎_elim (λ d. absurd (n (refused_only x h r d))) (λ p. p) (or_else_refused x y r e)
 
 -- A condition that follows from another one.

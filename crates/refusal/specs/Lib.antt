@@ -1,3 +1,4 @@
 pub mod Report
 pub mod Lowest
 pub mod First
+pub mod Outcome

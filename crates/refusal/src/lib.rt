@@ -2,7 +2,7 @@
 #![tactic(auto)]
 
 ghost use Rattle.std.specs.Prelude.{◌≡◌};
-ghost use Rattle.refusal.specs.Report.{report_of};
+ghost use Rattle.refusal.specs.Report.{report, report_of};
 
 // Why a rule sheet, a plan, a mark table, a lent buffer or a call on a live state is turned away, in the order of their numbers. A case
 // carries the part and the row that the document names for it, and no other.
@@ -27,13 +27,6 @@ pub enum Refusal {
     Unfitting,
 }
 
-// What comes of a run of tests: none of them refuses, or the first one that does.
-#[derive(Clone, Copy)]
-pub enum Outcome {
-    Clear,
-    Refused(Refusal),
-}
-
 // The three numbers that an answer gives of a refusal.
 #[derive(Clone, Copy)]
 pub struct Report {
@@ -42,94 +35,32 @@ pub struct Report {
     pub row: usize,
 }
 
+fn numbered(number: usize, part: usize, row: usize) -> Report
+    ensures { result ≡ report number part row }
+{
+    Report { number, part, row }
+}
+
 pub fn report_of(refusal: Refusal) -> Report
     ensures { result ≡ report_of refusal }
 {
     match refusal {
-        Refusal::RuleSizes => Report {
-            number: 1,
-            part: 0,
-            row: 0,
-        },
-        Refusal::Kind { part } => Report {
-            number: 2,
-            part: part,
-            row: 0,
-        },
-        Refusal::Operand { part } => Report {
-            number: 3,
-            part: part,
-            row: 0,
-        },
-        Refusal::PlanSizes => Report {
-            number: 4,
-            part: 0,
-            row: 0,
-        },
-        Refusal::Channels => Report {
-            number: 5,
-            part: 0,
-            row: 0,
-        },
-        Refusal::StartDrift { row } => Report {
-            number: 6,
-            part: 0,
-            row: row,
-        },
-        Refusal::MarkSizes => Report {
-            number: 7,
-            part: 0,
-            row: 0,
-        },
-        Refusal::MarkByte { part, row } => Report {
-            number: 8,
-            part: part,
-            row: row,
-        },
-        Refusal::Equation { part, row } => Report {
-            number: 9,
-            part: part,
-            row: row,
-        },
-        Refusal::Closing { part, row } => Report {
-            number: 10,
-            part: part,
-            row: row,
-        },
-        Refusal::Witness { part } => Report {
-            number: 11,
-            part: part,
-            row: 0,
-        },
-        Refusal::Absent => Report {
-            number: 12,
-            part: 0,
-            row: 0,
-        },
-        Refusal::BufferLength => Report {
-            number: 13,
-            part: 0,
-            row: 0,
-        },
-        Refusal::NoTable { part, row } => Report {
-            number: 14,
-            part: part,
-            row: row,
-        },
-        Refusal::NoLayout => Report {
-            number: 15,
-            part: 0,
-            row: 0,
-        },
-        Refusal::Unwatchable => Report {
-            number: 16,
-            part: 0,
-            row: 0,
-        },
-        Refusal::Unfitting => Report {
-            number: 17,
-            part: 0,
-            row: 0,
-        },
+        Refusal::RuleSizes => numbered(1, 0, 0),
+        Refusal::Kind { part } => numbered(2, part, 0),
+        Refusal::Operand { part } => numbered(3, part, 0),
+        Refusal::PlanSizes => numbered(4, 0, 0),
+        Refusal::Channels => numbered(5, 0, 0),
+        Refusal::StartDrift { row } => numbered(6, 0, row),
+        Refusal::MarkSizes => numbered(7, 0, 0),
+        Refusal::MarkByte { part, row } => numbered(8, part, row),
+        Refusal::Equation { part, row } => numbered(9, part, row),
+        Refusal::Closing { part, row } => numbered(10, part, row),
+        Refusal::Witness { part } => numbered(11, part, 0),
+        Refusal::Absent => numbered(12, 0, 0),
+        Refusal::BufferLength => numbered(13, 0, 0),
+        Refusal::NoTable { part, row } => numbered(14, part, row),
+        Refusal::NoLayout => numbered(15, 0, 0),
+        Refusal::Unwatchable => numbered(16, 0, 0),
+        Refusal::Unfitting => numbered(17, 0, 0),
     }
 }

@@ -1,5 +1,6 @@
 -- An operand's twelve bytes: read back they are the operand, and an operand that was read has the bytes that it was read
 -- from. Assumes nothing.
+use Rattle.std.specs.Prelude.{Option, Some, None}
 use Prim.Native.Nat.{ℕ, zero, suc, ◌+◌, ◌≤◌, ◌<◌}
 use native.Mathlib.Omega.{arith}
 use mathlib.Core.Path.{◌≡◌, refl, sym, ap, ap₂, ◌∙◌, subst, subst⁻¹}
@@ -14,12 +15,8 @@ use Rattle.fields.specs.inner.Ranges.{Bytes}
 use Rattle.fields.proofs.Widths.{length_bytes, read_written, written_read}
 use Rattle.cltlb.specs.declared.Term.{Term}
 use Rattle.cltlb.specs.declared.Term.TheVariants.{Constant, Reading}
-use Rattle.rule.specs.declared.terms.TermRead.{TermRead}
-use Rattle.rule.specs.declared.terms.TermRead.TheVariants as R
 use Rattle.rule.specs.declared.operands.Operand.{Operand}
 use Rattle.rule.specs.declared.operands.Operand.TheVariants.{Terms, One, Two, Window, Pinned}
-use Rattle.rule.specs.declared.operands.OperandRead.{OperandRead}
-use Rattle.rule.specs.declared.operands.OperandRead.TheVariants as O
 use Rattle.rule.specs.declared.operands.Shape.{Shape}
 use Rattle.rule.specs.declared.operands.Shape.TheVariants as S
 use Rattle.cltlb.specs.declared.Atom.TheVariants as atom
@@ -70,14 +67,14 @@ pub record Pair (s : List ℕ) (at a b k : ℕ) : Type 0 where
 
 module _ (l r : List ℕ) (at : ℕ) (e : length l ≡ at) where
   terms_read : (v : ℕ) (x y : Term) → v ≤ 8 → term_fits v x ≡ true → term_fits v y ≡ true → WordTerm x → WordTerm y
-      → operand_at S.Comparison (l ++ ((term_bytes x ++ term_bytes y) ++ r)) at ≡ O.Operand (Terms x y)
+      → operand_at S.Comparison (l ++ ((term_bytes x ++ term_bytes y) ++ r)) at ≡ Some (Terms x y)
   terms_read v x y h f g a b =
       sym (both_read (l ++ ((term_bytes x ++ term_bytes y) ++ r)) at
       (ap (λ (s : List ℕ). term_at s at) (first l (term_bytes x) (term_bytes y) r) ∙ term_read v x l (term_bytes y ++ r) at e h f a)
       (ap (λ (s : List ℕ). term_at s (at + 6)) (second l (term_bytes x) (term_bytes y) r)
       ∙ term_read v y (l ++ term_bytes x) r (at + 6) (behind l (term_bytes x) at 6 e (term_length x)) h g b))
 
-  one_back : (a : ℕ) → a < 65536 → operand_at S.NamesOne (l ++ ((bytes_of 2 a ++ replicate 10 0) ++ r)) at ≡ O.Operand (One a)
+  one_back : (a : ℕ) → a < 65536 → operand_at S.NamesOne (l ++ ((bytes_of 2 a ++ replicate 10 0) ++ r)) at ≡ Some (One a)
   one_back a h =
       sym (one_read (l ++ ((bytes_of 2 a ++ replicate 10 0) ++ r)) at
       (ap (λ (s : List ℕ). all_zero (take 10 (drop (at + 2) s))) (second l (bytes_of 2 a) (replicate 10 0) r)
@@ -108,14 +105,14 @@ module _ (l r : List ℕ) (at : ℕ) (e : length l ≡ at) where
 
 module _ (l r : List ℕ) (at : ℕ) (e : length l ≡ at) where
   two_back : (a b : ℕ) → a < 65536 → b < 65536
-      → operand_at S.NamesTwo (l ++ ((bytes_of 2 a ++ (bytes_of 2 b ++ replicate 8 0)) ++ r)) at ≡ O.Operand (Two a b)
+      → operand_at S.NamesTwo (l ++ ((bytes_of 2 a ++ (bytes_of 2 b ++ replicate 8 0)) ++ r)) at ≡ Some (Two a b)
   two_back a b h k =
       let p = pair_read l r at e a b 8 h k in
       sym (two_read (l ++ ((bytes_of 2 a ++ (bytes_of 2 b ++ replicate 8 0)) ++ r)) at p.zeros (sym p.first_number) (sym p.second_number))
 
   -- the ends of a window are such a pair behind its reading
   window_back : (v c : ℕ) (d : ℤ) (from to : ℕ) → v ≤ 8 → term_fits v (Reading c d) ≡ true → from < 65536 → to < 65536
-      → operand_at S.Window (l ++ ((term_bytes (Reading c d) ++ end_bytes from to) ++ r)) at ≡ O.Operand (Window c d from to)
+      → operand_at S.Window (l ++ ((term_bytes (Reading c d) ++ end_bytes from to) ++ r)) at ≡ Some (Window c d from to)
   unfolding WordTerm
   window_back v c d from to h f i j =
       let ends : List ℕ = end_bytes from to in
@@ -134,7 +131,7 @@ module _ (l r : List ℕ) (at : ℕ) (e : length l ≡ at) where
 
   -- six zeros behind a reading alone
   pinned_back : (v c : ℕ) (d : ℤ) → v ≤ 8 → term_fits v (Reading c d) ≡ true
-      → operand_at S.Pinned (l ++ ((term_bytes (Reading c d) ++ replicate 6 0) ++ r)) at ≡ O.Operand (Pinned c d)
+      → operand_at S.Pinned (l ++ ((term_bytes (Reading c d) ++ replicate 6 0) ++ r)) at ≡ Some (Pinned c d)
   unfolding WordTerm
   pinned_back v c d h f =
       let six : length (l ++ term_bytes (Reading c d)) ≡ at + 6 = behind l (term_bytes (Reading c d)) at 6 e (term_length (Reading c d)) in
@@ -148,7 +145,7 @@ module _ (l r : List ℕ) (at : ℕ) (e : length l ≡ at) where
   -- The operand of a part that fits is read back off its bytes.
   module _ (v n : ℕ) (h : v ≤ 8) (k : n ≤ 64) where
     pub operand_read : (x : View) → view_fits v n x ≡ true → WordOperand (operand_in x)
-        → operand_at (shape_in (operand_in x)) (l ++ (operand_bytes (operand_in x) ++ r)) at ≡ O.Operand (operand_in x)
+        → operand_at (shape_in (operand_in x)) (l ++ (operand_bytes (operand_in x) ++ r)) at ≡ Some (operand_in x)
     unfolding operand_bytes WordOperand
     operand_read (view.Atom (atom.Less x y)) f w =
         let p = less_fits v x y (atom_fits_lem v n (atom.Less x y) f) in terms_read l r at e v x y h p.0 p.1 w.0 w.1
@@ -174,8 +171,8 @@ module _ (s : List ℕ) (at : ℕ) (bytes : Bytes s) (long : at + 12 ≤ length 
   abbrev Lies : Shape → Operand → Type 0
   Lies k o = (shape_in o ≡ k) × (take 12 (drop at s) ≡ operand_bytes o) × WordOperand o
 
-  abbrev Says : Shape → OperandRead → Type 0
-  Says k t = (o : Operand) → t ≡ O.Operand o → Lies k o
+  abbrev Says : Shape → Option Operand → Type 0
+  Says k t = (o : Operand) → t ≡ Some o → Lies k o
 
   name : (a : ℕ) → a + 2 ≤ length s → take 2 (drop a s) ≡ bytes_of 2 (number_at 2 s a)
   name a h = sym (written_read 2 s a bytes h)
@@ -185,10 +182,10 @@ module _ (s : List ℕ) (at : ℕ) (bytes : Bytes s) (long : at + 12 ≤ length 
       let size : length (take n (drop a s)) ≡ n = simp (length-take, length-drop) (omega arith) in
       zeros_laid (take n (drop a s)) z ∙ ap (λ (i : ℕ). replicate i 0) size
 
-  of_broken : (k : Shape) → Says k O.Broken
+  of_broken : (k : Shape) → Says k None
   of_broken k o e = absurd (let z : ◌≡◌ {A = ℕ} 0 1 = cc in omega arith)
 
-  of_operand : (k : Shape) (x : Operand) → Lies k x → Says k (O.Operand x)
+  of_operand : (k : Shape) (x : Operand) → Lies k x → Says k (Some x)
   of_operand k x p o e = let same : x ≡ o = cc in subst (Lies k) same p
 
   -- two numbers of two bytes, and zeros behind them
@@ -202,12 +199,12 @@ module _ (s : List ℕ) (at : ℕ) (bytes : Bytes s) (long : at + 12 ≤ length 
       parted s a 2 (2 + k) ∙ ap₂ (λ (x y : List ℕ). x ++ y) (name a (omega arith)) rest
 
   of_terms : (x y : Term) → (take 6 (drop at s) ≡ term_bytes x) × WordTerm x → (take 6 (drop (at + 6) s) ≡ term_bytes y) × WordTerm y
-      → Says S.Comparison (O.Operand (Terms x y))
+      → Says S.Comparison (Some (Terms x y))
   unfolding operand_bytes WordOperand
   of_terms x y p q =
       of_operand S.Comparison (Terms x y) (refl, parted s at 6 6 ∙ ap₂ (λ (a b : List ℕ). a ++ b) p.0 q.0, (p.1, q.1))
 
-  of_one : (b : Bool) → all_zero (take 10 (drop (at + 2) s)) ≡ b → Says S.NamesOne (cond b (O.Operand (One (number_at 2 s at))) O.Broken)
+  of_one : (b : Bool) → all_zero (take 10 (drop (at + 2) s)) ≡ b → Says S.NamesOne (cond b (Some (One (number_at 2 s at))) None)
   unfolding operand_bytes WordOperand
   of_one true z =
       of_operand S.NamesOne (One (number_at 2 s at))
@@ -215,14 +212,14 @@ module _ (s : List ℕ) (at : ℕ) (bytes : Bytes s) (long : at + 12 ≤ length 
   of_one false z = of_broken S.NamesOne
 
   of_two : (b : Bool) → all_zero (take 8 (drop (at + 4) s)) ≡ b
-      → Says S.NamesTwo (cond b (O.Operand (Two (number_at 2 s at) (number_at 2 s (at + 2)))) O.Broken)
+      → Says S.NamesTwo (cond b (Some (Two (number_at 2 s at) (number_at 2 s (at + 2)))) None)
   unfolding operand_bytes WordOperand
   of_two true z = of_operand S.NamesTwo (Two (number_at 2 s at) (number_at 2 s (at + 2))) (refl, pair_laid at 8 (omega arith) z, tt)
   of_two false z = of_broken S.NamesTwo
 
   -- the ends of a window are such a pair behind its reading
   of_window : (c : ℕ) (d : ℤ) → take 6 (drop at s) ≡ term_bytes (Reading c d) → all_zero (take 2 (drop (at + 10) s)) ≡ true
-      → Says S.Window (O.Operand (Window c d (number_at 2 s (at + 6)) (number_at 2 s (at + 8))))
+      → Says S.Window (Some (Window c d (number_at 2 s (at + 6)) (number_at 2 s (at + 8))))
   unfolding operand_bytes WordOperand
   of_window c d p z =
       let eight : at + 6 + 2 ≡ at + 8 = omega arith in
@@ -234,35 +231,35 @@ module _ (s : List ℕ) (at : ℕ) (bytes : Bytes s) (long : at + 12 ≤ length 
       (refl, parted s at 6 6 ∙ ap₂ (λ (a b : List ℕ). a ++ b) p ends, tt)
 
   of_pinned : (c : ℕ) (d : ℤ) → take 6 (drop at s) ≡ term_bytes (Reading c d) → all_zero (take 6 (drop (at + 6) s)) ≡ true
-      → Says S.Pinned (O.Operand (Pinned c d))
+      → Says S.Pinned (Some (Pinned c d))
   unfolding operand_bytes WordOperand
   of_pinned c d p z =
       of_operand S.Pinned (Pinned c d) (refl, parted s at 6 6 ∙ ap₂ (λ (a b : List ℕ). a ++ b) p (padding (at + 6) 6 (omega arith) z), tt)
 
-  by_terms : (t u : TermRead) → term_at s at ≡ t → term_at s (at + 6) ≡ u → Says S.Comparison (both_terms t u)
+  by_terms : (t u : Option Term) → term_at s at ≡ t → term_at s (at + 6) ≡ u → Says S.Comparison (both_terms t u)
   unfolding both_terms
-  by_terms R.Broken u p q = of_broken S.Comparison
-  by_terms (R.Term x) R.Broken p q = of_broken S.Comparison
-  by_terms (R.Term x) (R.Term y) p q =
+  by_terms None u p q = of_broken S.Comparison
+  by_terms (Some x) None p q = of_broken S.Comparison
+  by_terms (Some x) (Some y) p q =
       of_terms x y (term_laid s at bytes (omega arith) x p) (term_laid s (at + 6) bytes (omega arith) y q)
 
-  by_window : (b : Bool) (t : TermRead) → all_zero (take 2 (drop (at + 10) s)) ≡ b → term_at s at ≡ t
-      → Says S.Window (cond b (window_over t (number_at 2 s (at + 6)) (number_at 2 s (at + 8))) O.Broken)
+  by_window : (b : Bool) (t : Option Term) → all_zero (take 2 (drop (at + 10) s)) ≡ b → term_at s at ≡ t
+      → Says S.Window (cond b (window_over t (number_at 2 s (at + 6)) (number_at 2 s (at + 8))) None)
   unfolding window_over
   by_window false t z p = of_broken S.Window
-  by_window true R.Broken z p = of_broken S.Window
-  by_window true (R.Term (Constant x)) z p = of_broken S.Window
-  by_window true (R.Term (Reading c d)) z p = of_window c d (term_laid s at bytes (omega arith) (Reading c d) p).0 z
+  by_window true None z p = of_broken S.Window
+  by_window true (Some (Constant x)) z p = of_broken S.Window
+  by_window true (Some (Reading c d)) z p = of_window c d (term_laid s at bytes (omega arith) (Reading c d) p).0 z
 
-  by_pinned : (b : Bool) (t : TermRead) → all_zero (take 6 (drop (at + 6) s)) ≡ b → term_at s at ≡ t → Says S.Pinned (cond b (pinned_over t) O.Broken)
+  by_pinned : (b : Bool) (t : Option Term) → all_zero (take 6 (drop (at + 6) s)) ≡ b → term_at s at ≡ t → Says S.Pinned (cond b (pinned_over t) None)
   unfolding pinned_over
   by_pinned false t z p = of_broken S.Pinned
-  by_pinned true R.Broken z p = of_broken S.Pinned
-  by_pinned true (R.Term (Constant x)) z p = of_broken S.Pinned
-  by_pinned true (R.Term (Reading c d)) z p = of_pinned c d (term_laid s at bytes (omega arith) (Reading c d) p).0 z
+  by_pinned true None z p = of_broken S.Pinned
+  by_pinned true (Some (Constant x)) z p = of_broken S.Pinned
+  by_pinned true (Some (Reading c d)) z p = of_pinned c d (term_laid s at bytes (omega arith) (Reading c d) p).0 z
 
   -- An operand that was read lies in the bytes.
-  pub operand_laid : (k : Shape) (o : Operand) → operand_at k s at ≡ O.Operand o
+  pub operand_laid : (k : Shape) (o : Operand) → operand_at k s at ≡ Some o
       → (shape_in o ≡ k) × (take 12 (drop at s) ≡ operand_bytes o) × WordOperand o
   unfolding operand_at
   operand_laid S.Comparison = by_terms (term_at s at) (term_at s (at + 6)) refl refl

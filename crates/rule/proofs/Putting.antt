@@ -1,4 +1,6 @@
 -- Put by the tests that it makes, one law for each way out. Assumes nothing.
+use Rattle.std.specs.Prelude.{Some, None, Err}
+use Rattle.refusal.specs.Outcome.{unrefused}
 use Prim.Native.Nat.{ℕ, ◌+◌, ◌-◌, ◌*◌, ◌≤◌, ◌<◌}
 use mathlib.Core.Path.{◌≡◌, refl, ◌∙◌}
 use mathlib.Core.List.{List, ◌++◌}
@@ -9,16 +11,14 @@ use native.Mathlib.Omega.{arith}
 use mathlib.Core.Logic.{◌↔◌}
 use lib.Dec.{ltb}
 use borrow.Author.Tests.{le-ltb, lt-ltb, ltb-true}
-use Rattle.refusal.specs.declared.Outcome.TheVariants.{Clear, Refused}
 use Rattle.refusal.specs.declared.Refusal.{Refusal}
 use Rattle.refusal.specs.declared.Refusal.TheVariants.{RuleSizes, Absent}
 use Rattle.refusal.specs.declared.Refusal.TheVariants as N
 use Rattle.refusal.specs.First.{◌or_else◌, unless}
 use Rattle.refusal.proofs.First.{or_else_clear, unless_clear}
 use Rattle.cltlb.specs.declared.Part.{Part}
-use Rattle.rule.specs.declared.sizes.Sizes.TheVariants.{Counts, Wrong}
 use Rattle.rule.specs.Layout.{part_count, channel_count, kind_place, operand_place, sizes_fit}
-use Rattle.rule.specs.inner.Sizes.{sizes_of}
+use Rattle.rule.specs.inner.Sizes.{sizes, sizes_of}
 use Rattle.cltlb.specs.declared.View.{View}
 use Rattle.cltlb.specs.Views.{view_of}
 use Rattle.cltlb.specs.Fits.{view_fits}
@@ -33,7 +33,7 @@ use Rattle.rule.proofs.OperandsWritten.{operand_length}
 
 module _ (s : List ℕ) (n : ℕ) (x : Part) where
   -- A put is unrefused where the sizes fit, the part is there and the operand fits.
-  pub put_clear : (put_outcome s n x ≡ Clear) ↔ ((sizes_fit s ≡ true) × (n < part_count s) × (view_fits (channel_count s) n (view_of x) ≡ true))
+  pub put_clear : (put_outcome s n x ≡ unrefused) ↔ ((sizes_fit s ≡ true) × (n < part_count s) × (view_fits (channel_count s) n (view_of x) ≡ true))
   unfolding put_outcome
   put_clear =
       let a = or_else_clear (unless (sizes_fit s) RuleSizes) (unless (ltb n (part_count s)) Absent or_else unless (view_fits (channel_count s) n (view_of x)) (N.Operand n)) in
@@ -46,7 +46,7 @@ module _ (s : List ℕ) (n : ℕ) (x : Part) where
       )
 
   -- what is known then
-  pub writable : (parts : ℕ) → parts ≡ part_count s → put_outcome s n x ≡ Clear
+  pub writable : (parts : ℕ) → parts ≡ part_count s → put_outcome s n x ≡ unrefused
       → (n < parts) × (parts ≤ 64) × (length s ≡ 4 + 13 * parts) × (view_fits 8 64 (view_of x) ≡ true)
   writable parts c e =
       let k = put_clear.0 e in
@@ -55,39 +55,39 @@ module _ (s : List ℕ) (n : ℕ) (x : Part) where
       (rw c k.1, rw c z.1, rw c z.4, view_more (channel_count s) 8 z.3 n 64 most (view_of x) k.2)
 
   -- a refusal leaves every byte
-  refused : {r : Refusal} → Refused r ≡ put_outcome s n x → (Refused r ≡ put_outcome s n x) × (s ≡ put_bytes s n x)
+  refused : {r : Refusal} → Err r ≡ put_outcome s n x → (Err r ≡ put_outcome s n x) × (s ≡ put_bytes s n x)
   unfolding put_bytes after_put
   refused e = (e, rw (← e) refl)
 
-  sizes_refused : sizes_of s ≡ Wrong → Refused RuleSizes ≡ put_outcome s n x
+  sizes_refused : sizes_of s ≡ None → Err RuleSizes ≡ put_outcome s n x
   unfolding put_outcome unless ◌or_else◌
   sizes_refused e = simp (wrong_sizes s e)
 
-  pub put_sizes : sizes_of s ≡ Wrong → (Refused RuleSizes ≡ put_outcome s n x) × (s ≡ put_bytes s n x)
+  pub put_sizes : sizes_of s ≡ None → (Err RuleSizes ≡ put_outcome s n x) × (s ≡ put_bytes s n x)
   put_sizes e = refused (sizes_refused e)
 
-  module _ {p v : ℕ} (e : sizes_of s ≡ Counts p v) where
-    absent_refused : p ≤ n → Refused Absent ≡ put_outcome s n x
+  module _ {p v : ℕ} (e : sizes_of s ≡ Some (sizes p v)) where
+    absent_refused : p ≤ n → Err Absent ≡ put_outcome s n x
     unfolding put_outcome unless ◌or_else◌
     absent_refused h = let f = right_sizes s e in simp (f.0, ← f.1, le-ltb _ _ h)
 
-    pub put_absent : p ≤ n → (Refused Absent ≡ put_outcome s n x) × (s ≡ put_bytes s n x)
+    pub put_absent : p ≤ n → (Err Absent ≡ put_outcome s n x) × (s ≡ put_bytes s n x)
     put_absent h = refused (absent_refused h)
 
-    misfit_refused : n < p → view_fits v n (view_of x) ≡ false → Refused (N.Operand n) ≡ put_outcome s n x
+    misfit_refused : n < p → view_fits v n (view_of x) ≡ false → Err (N.Operand n) ≡ put_outcome s n x
     unfolding put_outcome unless ◌or_else◌
     misfit_refused h q = let f = right_sizes s e in simp (f.0, ← f.1, ← f.2, lt-ltb _ _ h, q)
 
-    pub put_misfit : n < p → view_fits v n (view_of x) ≡ false → (Refused (N.Operand n) ≡ put_outcome s n x) × (s ≡ put_bytes s n x)
+    pub put_misfit : n < p → view_fits v n (view_of x) ≡ false → (Err (N.Operand n) ≡ put_outcome s n x) × (s ≡ put_bytes s n x)
     put_misfit h q = refused (misfit_refused h q)
 
-    pub fit_clear : n < p → view_fits v n (view_of x) ≡ true → Clear ≡ put_outcome s n x
+    pub fit_clear : n < p → view_fits v n (view_of x) ≡ true → unrefused ≡ put_outcome s n x
     unfolding put_outcome unless ◌or_else◌
     fit_clear h q = let f = right_sizes s e in simp (f.0, ← f.1, ← f.2, lt-ltb _ _ h, q)
 
-    pub put_done_lem : n < p → view_fits v n (view_of x) ≡ true → {t : List ℕ} → t ≡ written s n x → (Clear ≡ put_outcome s n x) × (t ≡ put_bytes s n x)
+    pub put_done_lem : n < p → view_fits v n (view_of x) ≡ true → {t : List ℕ} → t ≡ written s n x → (unrefused ≡ put_outcome s n x) × (t ≡ put_bytes s n x)
     unfolding put_bytes after_put
-    put_done_lem h q d = let c : Clear ≡ put_outcome s n x = fit_clear h q in (c, d ∙ rw (← c) refl)
+    put_done_lem h q d = let c : unrefused ≡ put_outcome s n x = fit_clear h q in (c, d ∙ rw (← c) refl)
 
   -- the part's kind byte stored, and its operand written over the front of the part lent from there on
   pub part_written : (parts : ℕ) → parts ≡ part_count s → n < parts → length s ≡ 4 + 13 * parts → {k : ℕ} {o : View} → k ≡ kind_of x → o ≡ view_of x → (ys : List ℕ)

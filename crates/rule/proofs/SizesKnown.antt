@@ -1,4 +1,5 @@
 -- What is known of a sheet whose sizes fit. Assumes nothing.
+use Rattle.std.specs.Prelude.{Some}
 use Prim.Native.Nat.{ℕ, ◌+◌, ◌*◌, ◌≤◌, ◌<◌}
 use native.Mathlib.Omega.{arith}
 use mathlib.Core.Path.{◌≡◌}
@@ -8,8 +9,7 @@ use lib.Dec.{leb, eqb}
 use lib.ListN.{length}
 use borrow.Author.Tests.{leb-true, eqb-true}
 use Rattle.rule.specs.Layout.{part_count, channel_count, operand_place, sizes_fit}
-use Rattle.rule.specs.declared.sizes.Sizes.TheVariants.{Counts}
-use Rattle.rule.specs.inner.Sizes.{sizes_of}
+use Rattle.rule.specs.inner.Sizes.{sizes, sizes_of}
 use Rattle.rule.proofs.SizesRead.{right_sizes}
 
 module _ (s : List ℕ) (fit : sizes_fit s ≡ true) where
@@ -34,5 +34,5 @@ module _ (s : List ℕ) (fit : sizes_fit s ≡ true) where
   operand_inside n h = omega (arith, sizes_known)
 
 -- what is known of the sizes that were read
-pub counts_known : (s : List ℕ) {n v : ℕ} → sizes_of s ≡ Counts n v → (1 ≤ n) × (n ≤ 64) × (1 ≤ v) × (v ≤ 8) × (length s ≡ 4 + 13 * n)
+pub counts_known : (s : List ℕ) {n v : ℕ} → sizes_of s ≡ Some (sizes n v) → (1 ≤ n) × (n ≤ 64) × (1 ≤ v) × (v ≤ 8) × (length s ≡ 4 + 13 * n)
 counts_known s e = let f = right_sizes s e in rw (f.1, f.2) (sizes_known s f.0)

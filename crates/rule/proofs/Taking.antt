@@ -1,4 +1,5 @@
 -- Take by the tests that it makes, one law for each way out. Assumes nothing.
+use Rattle.std.specs.Prelude.{Ok, Err, Option, Some, None}
 use Prim.Native.Nat.{ℕ, ◌+◌, ◌*◌, ◌≤◌, ◌<◌}
 use native.Mathlib.Omega.{arith}
 use native.Mathlib.Decide.{dec_lt}
@@ -15,15 +16,11 @@ use Rattle.cltlb.specs.declared.Atom.TheVariants as atom
 use Rattle.cltlb.specs.declared.Operator.TheVariants as operator
 use Rattle.cltlb.specs.declared.View.{View}
 use Rattle.cltlb.specs.declared.View.TheVariants as view
-use Rattle.rule.specs.declared.Taken.TheVariants as K
-use Rattle.rule.specs.declared.sizes.Sizes.TheVariants.{Counts, Wrong}
 use Rattle.rule.specs.declared.operands.Operand.{Operand}
-use Rattle.rule.specs.declared.operands.OperandRead.{OperandRead}
-use Rattle.rule.specs.declared.operands.OperandRead.TheVariants as O
 use Rattle.rule.specs.declared.operands.Shape.{Shape}
 use Rattle.rule.specs.Layout.{kind_byte, kind_place, operand_place}
 use Rattle.rule.specs.inner.Known.{AllKnown}
-use Rattle.rule.specs.inner.Sizes.{sizes_of}
+use Rattle.rule.specs.inner.Sizes.{sizes, sizes_of}
 use Rattle.cltlb.specs.Views.{view_of}
 use Rattle.cltlb.specs.Fits.{atom_fits, names_lower, view_fits}
 use Rattle.rule.specs.Operands.{operand_at}
@@ -46,16 +43,16 @@ known_next s n {all} {b} known e h i l =
     by_cases (dec_lt i n) (known p.0 i) (λ m. subst (λ (k : ℕ). kind_unknown s k ≡ false) (omega arith) (e ∙ not-true b p.1))
 
 module _ (s : List ℕ) (n : ℕ) where
-  pub take_sizes : sizes_of s ≡ Wrong → K.Refused RuleSizes ≡ take_of s n
+  pub take_sizes : sizes_of s ≡ None → Err RuleSizes ≡ take_of s n
   unfolding take_of
   take_sizes e = simp (wrong_sizes s e)
 
-  module _ {p v : ℕ} (e : sizes_of s ≡ Counts p v) where
-    pub take_absent : p ≤ n → K.Refused Absent ≡ take_of s n
+  module _ {p v : ℕ} (e : sizes_of s ≡ Some (sizes p v)) where
+    pub take_absent : p ≤ n → Err Absent ≡ take_of s n
     unfolding take_of
     take_absent h = let f = right_sizes s e in simp (f.0, ← f.1, le-leb _ _ h)
 
-    pub take_unknown : n < p → kind_unknown s n ≡ true → K.Refused (Kind n) ≡ take_of s n
+    pub take_unknown : n < p → kind_unknown s n ≡ true → Err (Kind n) ≡ take_of s n
     unfolding take_of
     take_unknown h u = let f = right_sizes s e in simp (f.0, ← f.1, lt-leb _ _ h, u)
 
@@ -80,22 +77,22 @@ module _ (v n k : ℕ) where
   part_fits x = view_operand v n (view_of (part_of k x)) ∙ ap (operand_fits v n) (operand_back k x)
 
   -- by the test whether the bytes are sound: the part of the operand is taken,
-  pub sound_operand : (x : OperandRead) {p : Part} {r : Bool} → r ≡ operand_sound v n x → r ≡ true → IsPart k x p → K.Part p ≡ taken_operand v n k x
+  pub sound_operand : (x : Option Operand) {p : Part} {r : Bool} → r ≡ operand_sound v n x → r ≡ true → IsPart k x p → Ok p ≡ taken_operand v n k x
   unfolding taken_operand operand_sound IsPart
-  sound_operand (O.Operand x) d e f = simp (part_fits x, ← d, e, f)
-  sound_operand O.Broken d e f = absurd (let z : ◌≡◌ {A = ℕ} 0 1 = cc in omega arith)
+  sound_operand (Some x) d e f = simp (part_fits x, ← d, e, f)
+  sound_operand None d e f = absurd (let z : ◌≡◌ {A = ℕ} 0 1 = cc in omega arith)
 
   -- or it is refused by 3.
-  pub unsound_operand : (x : OperandRead) {r : Bool} → r ≡ operand_sound v n x → r ≡ false → K.Refused (N.Operand n) ≡ taken_operand v n k x
+  pub unsound_operand : (x : Option Operand) {r : Bool} → r ≡ operand_sound v n x → r ≡ false → Err (N.Operand n) ≡ taken_operand v n k x
   unfolding taken_operand operand_sound
-  unsound_operand (O.Operand x) d e = simp (part_fits x, ← d, e)
-  unsound_operand O.Broken d e = refl
+  unsound_operand (Some x) d e = simp (part_fits x, ← d, e)
+  unsound_operand None d e = refl
 
-  pub refused_operand : (x : OperandRead) → is_refused (taken_operand v n k x) ≡ not (operand_sound v n x)
+  pub refused_operand : (x : Option Operand) → is_refused (taken_operand v n k x) ≡ not (operand_sound v n x)
   unfolding taken_operand operand_sound is_refused
-  refused_operand (O.Operand x) = rw (part_fits x) (go (operand_fits v n x))
+  refused_operand (Some x) = rw (part_fits x) (go (operand_fits v n x))
     where
-      go : (b : Bool) → is_refused (cond b (K.Part (part_of k x)) (K.Refused (N.Operand n))) ≡ not b
+      go : (b : Bool) → is_refused (cond b (Ok (part_of k x)) (Err (N.Operand n))) ≡ not b
       go true = refl
       go false = refl
-  refused_operand O.Broken = refl
+  refused_operand None = refl

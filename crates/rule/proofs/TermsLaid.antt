@@ -1,5 +1,6 @@
 -- A term's six bytes: read back they are the term, and a term that was read has the bytes that it was read from.
 -- Assumes nothing.
+use Rattle.std.specs.Prelude.{Option, Some, None}
 use Prim.Native.Nat.{ℕ, suc, ◌+◌, ◌-◌, ◌^◌, ◌≤◌, ◌<◌}
 use native.Mathlib.Numerals.{add-one}
 use native.Mathlib.Omega.{arith}
@@ -18,8 +19,6 @@ use Rattle.fields.proofs.Widths.{number_lt, read_written, written_read}
 use Rattle.fields.proofs.Patterns.{pattern_signed, signed_pattern, pattern_lt, signed_fits_lem}
 use Rattle.cltlb.specs.declared.Term.{Term}
 use Rattle.cltlb.specs.declared.Term.TheVariants as T
-use Rattle.rule.specs.declared.terms.TermRead.{TermRead}
-use Rattle.rule.specs.declared.terms.TermRead.TheVariants as R
 use Rattle.cltlb.specs.Fits.{term_fits}
 use Rattle.cltlb.proofs.Fits.{reading_fits}
 use Rattle.rule.specs.Terms.{shift_of, code_of, term_bytes, term_at}
@@ -56,7 +55,7 @@ module _ (l r : List ℕ) (form code n at : ℕ) (e : length l ≡ at) where
 
 -- A term that fits is read back off its bytes.
 pub term_read : (v : ℕ) (x : Term) (l r : List ℕ) (at : ℕ) → length l ≡ at → v ≤ 8 → term_fits v x ≡ true → WordTerm x
-    → term_at (l ++ (term_bytes x ++ r)) at ≡ R.Term x
+    → term_at (l ++ (term_bytes x ++ r)) at ≡ Some x
 unfolding term_bytes WordTerm signed_at
 term_read v (T.Constant z) l r at e h f w =
     sym (constant (six l r 0 4 (pattern_of 4 z) at e) at (form_read l r 0 4 (pattern_of 4 z) at e) (code_read l r 0 4 (pattern_of 4 z) at e)
@@ -77,10 +76,10 @@ module _ (s : List ℕ) (at : ℕ) (bytes : Bytes s) (long : at + 6 ≤ length s
       ap (take 6) (drop-cons s at 0 (omega arith) ∙ ap (λ (t : List ℕ). get_or s at 0 ∷ t) (drop-cons s (suc at) 0 (omega arith)))
       ∙ ap₂ (λ (i j : ℕ). get_or s at 0 ∷ get_or s i 0 ∷ take 4 (drop j s)) (sym (add-one at)) two
 
-  abbrev Says : TermRead → Type 0
-  Says t = (x : Term) → t ≡ R.Term x → (take 6 (drop at s) ≡ term_bytes x) × WordTerm x
+  abbrev Says : Option Term → Type 0
+  Says t = (x : Term) → t ≡ Some x → (take 6 (drop at s) ≡ term_bytes x) × WordTerm x
 
-  of_constant : get_or s at 0 ≡ 0 → get_or s (at + 1) 0 ≡ 4 → Says (R.Term (T.Constant (signed_at 4 s (at + 2))))
+  of_constant : get_or s at 0 ≡ 0 → get_or s (at + 1) 0 ≡ 4 → Says (Some (T.Constant (signed_at 4 s (at + 2))))
   unfolding term_bytes WordTerm signed_at
   of_constant f c (T.Constant z) e =
       let same : z ≡ signed_of 4 (number_at 4 s (at + 2)) = cc in
@@ -90,7 +89,7 @@ module _ (s : List ℕ) (at : ℕ) (bytes : Bytes s) (long : at + 6 ≤ length s
       (split ∙ rw (f, c, kept) refl, subst (SignedFits 4) (sym same) (signed_fits_lem 4 (number_at 4 s (at + 2)) below))
   of_constant f c (T.Reading k d) e = absurd (let z : ◌≡◌ {A = ℕ} 0 1 = cc in omega arith)
 
-  of_reading : get_or s at 0 ≡ 1 → Says (R.Term (T.Reading (number_at 4 s (at + 2)) (shift_of (get_or s (at + 1) 0))))
+  of_reading : get_or s at 0 ≡ 1 → Says (Some (T.Reading (number_at 4 s (at + 2)) (shift_of (get_or s (at + 1) 0))))
   unfolding term_bytes WordTerm
   of_reading f (T.Constant z) e = absurd (let z : ◌≡◌ {A = ℕ} 0 1 = cc in omega arith)
   of_reading f (T.Reading k d) e =
@@ -100,9 +99,9 @@ module _ (s : List ℕ) (at : ℕ) (bytes : Bytes s) (long : at + 6 ≤ length s
       let kept : take 4 (drop (at + 2) s) ≡ bytes_of 4 k = sym (written_read 4 s (at + 2) bytes (omega arith)) ∙ ap (bytes_of 4) (sym channel) in
       (split ∙ rw (f, code, kept) refl, tt)
 
-  of_broken : Says R.Broken
+  of_broken : Says None
   of_broken x e = absurd (let z : ◌≡◌ {A = ℕ} 0 1 = cc in omega arith)
 
   -- A term that was read lies in the bytes.
-  pub term_laid : (x : Term) → term_at s at ≡ R.Term x → (take 6 (drop at s) ≡ term_bytes x) × WordTerm x
+  pub term_laid : (x : Term) → term_at s at ≡ Some x → (take 6 (drop at s) ≡ term_bytes x) × WordTerm x
   term_laid = by_form s at Says of_constant of_reading (λ _. of_broken)

@@ -1,5 +1,6 @@
 -- The whole sheet: refusals 1, 2 and 3 by the tests that the check makes, and what a sheet that clears them is known for.
 -- Assumes nothing.
+use Rattle.std.specs.Prelude.{Ok, Some, None, Err}
 use Prim.Native.Nat.{ℕ, ◌+◌, ◌*◌, ◌≤◌, ◌<◌}
 use native.Mathlib.Omega.{arith}
 use mathlib.Core.Path.{◌≡◌, sym, ap, ap₂, ◌∙◌, subst}
@@ -7,18 +8,15 @@ use mathlib.Core.List.{List}
 use mathlib.Core.Bool.{Bool, false, not}
 use lib.ListN.{length, get_or}
 use borrow.Author.Tests.{lt-leb}
-use Rattle.refusal.specs.declared.Outcome.{Outcome}
-use Rattle.refusal.specs.declared.Outcome.TheVariants.{Clear, Refused}
+use Rattle.refusal.specs.Outcome.{Outcome, unrefused}
 use Rattle.refusal.specs.declared.Refusal.{Refusal}
 use Rattle.refusal.specs.declared.Refusal.TheVariants.{RuleSizes, Kind}
 use Rattle.refusal.specs.declared.Refusal.TheVariants as N
 use Rattle.refusal.specs.First.{◌or_else◌, unless, at_lowest}
 use Rattle.refusal.proofs.First.{at_lowest_clear}
-use Rattle.rule.specs.declared.sizes.Sizes.TheVariants.{Counts, Wrong}
 use Rattle.rule.specs.declared.operands.Shape.{Shape}
 use Rattle.rule.specs.Layout.{part_count, channel_count, kind_place, kind_byte, operand_place}
-use Rattle.rule.specs.inner.Sizes.{sizes_of}
-use Rattle.rule.specs.declared.SheetRead.TheVariants as R
+use Rattle.rule.specs.inner.Sizes.{sizes, sizes_of}
 use Rattle.rule.specs.inner.Read.{counts_unless, sheet_read}
 use Rattle.rule.specs.Operands.{operand_at}
 use Rattle.rule.specs.Kinds.{shape_of, is_unknown, kind_unknown}
@@ -55,33 +53,33 @@ module _ (s : List ℕ) (parts : ℕ) (known : KindsKnown s parts) where
       ∙ rw (← known.1, ← c, ← e) (ap not (sym f) ∙ g))
 
 module _ (s : List ℕ) where
-  pub sheet_sizes : sizes_of s ≡ Wrong → Refused RuleSizes ≡ sheet_outcome s
+  pub sheet_sizes : sizes_of s ≡ None → Err RuleSizes ≡ sheet_outcome s
   unfolding sheet_outcome unless ◌or_else◌
   sheet_sizes e = simp (wrong_sizes s e)
 
-  module _ {p v : ℕ} (e : sizes_of s ≡ Counts p v) {x : Outcome} (f : x ≡ at_lowest (kind_unknown s) p Kind) where
-    pub sheet_kinds : {r : Refusal} → x ≡ Refused r → x ≡ sheet_outcome s
+  module _ {p v : ℕ} (e : sizes_of s ≡ Some (sizes p v)) {x : Outcome} (f : x ≡ at_lowest (kind_unknown s) p Kind) where
+    pub sheet_kinds : {r : Refusal} → x ≡ Err r → x ≡ sheet_outcome s
     unfolding sheet_outcome unless ◌or_else◌
-    sheet_kinds {r} g = let z = right_sizes s e in let w : at_lowest (kind_unknown s) (part_count s) Kind ≡ Refused r = subst (λ (m : ℕ). at_lowest (kind_unknown s) m Kind ≡ Refused r) z.1 (sym f ∙ g) in g ∙ simp (z.0, w)
+    sheet_kinds {r} g = let z = right_sizes s e in let w : at_lowest (kind_unknown s) (part_count s) Kind ≡ Err r = subst (λ (m : ℕ). at_lowest (kind_unknown s) m Kind ≡ Err r) z.1 (sym f ∙ g) in g ∙ simp (z.0, w)
 
-    pub sheet_operands : x ≡ Clear → {y : Outcome} → y ≡ at_lowest (untakeable s) p N.Operand → y ≡ sheet_outcome s
+    pub sheet_operands : x ≡ unrefused → {y : Outcome} → y ≡ at_lowest (untakeable s) p N.Operand → y ≡ sheet_outcome s
     unfolding sheet_outcome unless ◌or_else◌
     sheet_operands g {y} d =
         let z = right_sizes s e in
-        let w : at_lowest (kind_unknown s) (part_count s) Kind ≡ Clear = subst (λ (m : ℕ). at_lowest (kind_unknown s) m Kind ≡ Clear) z.1 (sym f ∙ g) in
+        let w : at_lowest (kind_unknown s) (part_count s) Kind ≡ unrefused = subst (λ (m : ℕ). at_lowest (kind_unknown s) m Kind ≡ unrefused) z.1 (sym f ∙ g) in
         let u : y ≡ at_lowest (untakeable s) (part_count s) N.Operand = subst (λ (m : ℕ). y ≡ at_lowest (untakeable s) m N.Operand) z.1 d in
         u ∙ simp (z.0, w)
 
-    pub kinds_known : x ≡ Clear → KindsKnown s p
+    pub kinds_known : x ≡ unrefused → KindsKnown s p
     unfolding KindsKnown
     kinds_known g = let z = right_sizes s e in (z.0, z.1, (at_lowest_clear (kind_unknown s) p Kind).0 (sym f ∙ g))
 
 -- what the check answers, by the first outcome that refuses, or where none does
 module _ (s : List ℕ) {x : Outcome} (e : x ≡ sheet_outcome s) where
-  pub read_refused : {r : Refusal} → x ≡ Refused r → R.Refused r ≡ sheet_read s
+  pub read_refused : {r : Refusal} → x ≡ Err r → Err r ≡ sheet_read s
   unfolding sheet_read counts_unless
   read_refused g = ap (λ (y : Outcome). counts_unless y s) (sym g ∙ e)
 
-  pub read_counts : {p v : ℕ} → sizes_of s ≡ Counts p v → x ≡ Clear → R.Counts p v ≡ sheet_read s
+  pub read_counts : {p v : ℕ} → sizes_of s ≡ Some (sizes p v) → x ≡ unrefused → Ok (sizes p v) ≡ sheet_read s
   unfolding sheet_read counts_unless
-  read_counts f g = let z = right_sizes s f in ap₂ R.Counts z.1 z.2 ∙ ap (λ (y : Outcome). counts_unless y s) (sym g ∙ e)
+  read_counts f g = let z = right_sizes s f in ap₂ (λ n v. Ok (sizes n v)) z.1 z.2 ∙ ap (λ (y : Outcome). counts_unless y s) (sym g ∙ e)

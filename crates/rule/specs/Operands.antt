@@ -1,14 +1,11 @@
 -- An operand in twelve bytes: two terms, one named part or two, a window, or a reading alone. Assumes nothing.
-use Rattle.std.specs.Prelude.{ℕ, ◌+◌, List, [], ◌∷◌, ◌++◌, Bool, true, ◌&&◌, cond, eqb, take, drop, replicate}
+use Rattle.std.specs.Prelude.{Option, Some, None, ℕ, ◌+◌, List, [], ◌∷◌, ◌++◌, Bool, true, ◌&&◌, cond, eqb, take, drop, replicate}
+use Rattle.cltlb.specs.declared.Term.{Term}
 use Rattle.fields.specs.LittleEndian.{number_at, bytes_of}
 use Rattle.cltlb.specs.declared.Term.TheVariants.{Constant, Reading}
 use Rattle.rule.specs.Terms.{term_bytes, term_at}
-use Rattle.rule.specs.declared.terms.TermRead.{TermRead}
-use Rattle.rule.specs.declared.terms.TermRead.TheVariants as R
 use Rattle.rule.specs.declared.operands.Operand.{Operand}
 use Rattle.rule.specs.declared.operands.Operand.TheVariants.{Terms, One, Two, Window, Pinned}
-use Rattle.rule.specs.declared.operands.OperandRead.{OperandRead}
-use Rattle.rule.specs.declared.operands.OperandRead.TheVariants as O
 use Rattle.rule.specs.declared.operands.Shape.{Shape}
 use Rattle.rule.specs.declared.operands.Shape.TheVariants as S
 
@@ -30,30 +27,30 @@ unfoldable pub all_zero : List ℕ → Bool
 all_zero [] = true
 all_zero (b ∷ bs) = eqb b 0 && all_zero bs
 
-unfoldable pub both_terms : TermRead → TermRead → OperandRead
-both_terms R.Broken y = O.Broken
-both_terms (R.Term a) R.Broken = O.Broken
-both_terms (R.Term a) (R.Term b) = O.Operand (Terms a b)
+unfoldable pub both_terms : Option Term → Option Term → Option Operand
+both_terms None y = None
+both_terms (Some a) None = None
+both_terms (Some a) (Some b) = Some (Terms a b)
 
 -- a window over a term, which is a reading
-unfoldable pub window_over : TermRead → ℕ → ℕ → OperandRead
-window_over R.Broken from to = O.Broken
-window_over (R.Term (Constant z)) from to = O.Broken
-window_over (R.Term (Reading channel shift)) from to = O.Operand (Window channel shift from to)
+unfoldable pub window_over : Option Term → ℕ → ℕ → Option Operand
+window_over None from to = None
+window_over (Some (Constant z)) from to = None
+window_over (Some (Reading channel shift)) from to = Some (Window channel shift from to)
 
 -- that a term, which is a reading, is pinned
-unfoldable pub pinned_over : TermRead → OperandRead
-pinned_over R.Broken = O.Broken
-pinned_over (R.Term (Constant z)) = O.Broken
-pinned_over (R.Term (Reading channel shift)) = O.Operand (Pinned channel shift)
+unfoldable pub pinned_over : Option Term → Option Operand
+pinned_over None = None
+pinned_over (Some (Constant z)) = None
+pinned_over (Some (Reading channel shift)) = Some (Pinned channel shift)
 
 -- the operand that the twelve bytes from `at` on stand for, by what its kind asks for
-unfoldable pub operand_at : Shape → List ℕ → ℕ → OperandRead
+unfoldable pub operand_at : Shape → List ℕ → ℕ → Option Operand
 operand_at S.Comparison s at = both_terms (term_at s at) (term_at s (at + 6))
-operand_at S.NamesOne s at = cond (all_zero (take 10 (drop (at + 2) s))) (O.Operand (One (number_at 2 s at))) O.Broken
+operand_at S.NamesOne s at = cond (all_zero (take 10 (drop (at + 2) s))) (Some (One (number_at 2 s at))) None
 operand_at S.NamesTwo s at =
-    cond (all_zero (take 8 (drop (at + 4) s))) (O.Operand (Two (number_at 2 s at) (number_at 2 s (at + 2)))) O.Broken
+    cond (all_zero (take 8 (drop (at + 4) s))) (Some (Two (number_at 2 s at) (number_at 2 s (at + 2)))) None
 operand_at S.Window s at =
-    cond (all_zero (take 2 (drop (at + 10) s))) (window_over (term_at s at) (number_at 2 s (at + 6)) (number_at 2 s (at + 8))) O.Broken
-operand_at S.Pinned s at = cond (all_zero (take 6 (drop (at + 6) s))) (pinned_over (term_at s at)) O.Broken
-operand_at S.Unknown s at = O.Broken
+    cond (all_zero (take 2 (drop (at + 10) s))) (window_over (term_at s at) (number_at 2 s (at + 6)) (number_at 2 s (at + 8))) None
+operand_at S.Pinned s at = cond (all_zero (take 6 (drop (at + 6) s))) (pinned_over (term_at s at)) None
+operand_at S.Unknown s at = None

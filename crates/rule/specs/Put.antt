@@ -1,7 +1,6 @@
 -- "Put" writes one part at a stated number into a lent sheet. Assumes nothing.
-use Rattle.std.specs.Prelude.{ℕ, ◌+◌, List, ◌++◌, ltb, length, take, drop, set}
-use Rattle.refusal.specs.declared.Outcome.{Outcome}
-use Rattle.refusal.specs.declared.Outcome.TheVariants.{Clear, Refused}
+use Rattle.std.specs.Prelude.{Ok, Err, ℕ, ◌+◌, List, ◌++◌, ltb, length, take, drop, set}
+use Rattle.refusal.specs.Outcome.{Outcome}
 use Rattle.refusal.specs.declared.Refusal.TheVariants.{RuleSizes, Operand, Absent}
 use Rattle.refusal.specs.First.{◌or_else◌, unless}
 use Rattle.cltlb.specs.declared.Part.{Part}
@@ -29,8 +28,8 @@ written sheet n part =
 
 -- the bytes after a put: written, or where it was refused, as they were
 unfoldable pub after_put : Outcome → List ℕ → List ℕ → List ℕ
-after_put Clear new old = new
-after_put (Refused r) new old = old
+after_put (Ok _) new old = new
+after_put (Err r) new old = old
 
 unfoldable pub put_bytes : List ℕ → ℕ → Part → List ℕ
 put_bytes sheet n part = after_put (put_outcome sheet n part) (written sheet n part) sheet

@@ -1,18 +1,18 @@
 -- The refusals of a rule sheet, 1 to 3, in the order of checking. Assumes nothing.
-use Rattle.std.specs.Prelude.{ℕ, List, Bool, true, false}
-use Rattle.refusal.specs.declared.Outcome.{Outcome}
+use Rattle.std.specs.Prelude.{Result, Ok, Err, ℕ, List, Bool, true, false}
+use Rattle.cltlb.specs.declared.Part.{Part}
+use Rattle.refusal.specs.declared.Refusal.{Refusal}
+use Rattle.refusal.specs.Outcome.{Outcome}
 use Rattle.refusal.specs.declared.Refusal.TheVariants.{RuleSizes, Kind, Operand}
 use Rattle.refusal.specs.First.{◌or_else◌, unless, at_lowest}
-use Rattle.rule.specs.declared.Taken.{Taken}
-use Rattle.rule.specs.declared.Taken.TheVariants as K
 use Rattle.rule.specs.Layout.{part_count, sizes_fit}
 use Rattle.rule.specs.Kinds.{kind_unknown}
 use Rattle.rule.specs.Take.{take_of}
 
 -- a part that cannot be taken off the sheet
-unfoldable pub is_refused : Taken → Bool
-is_refused (K.Part p) = false
-is_refused (K.Refused r) = true
+unfoldable pub is_refused : Result Part Refusal → Bool
+is_refused (Ok p) = false
+is_refused (Err r) = true
 
 unfoldable pub untakeable : List ℕ → ℕ → Bool
 untakeable sheet n = is_refused (take_of sheet n)

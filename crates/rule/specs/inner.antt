@@ -2,6 +2,5 @@
 pub mod Sizes
 pub mod Words
 pub mod Known
-pub mod Untaken
 pub mod Read
 pub mod Sound

@@ -7,6 +7,7 @@ ghost use Rattle.rule.specs.inner.Sound.{IsPart};
 use crate::operands::{Operand, Shape};
 use cltlb::{Part, Term};
 
+// A kind stays a number: an enum of fourteen kinds beside the fourteen parts would say each of them once more.
 pub fn kind_of(part: Part) -> u8
     ensures { result ≡ kind_of part }
 {
@@ -29,6 +30,7 @@ pub fn kind_of(part: Part) -> u8
 }
 
 // Which operand a kind byte asks for.
+#[tactic(auto, unfolding(crate::specs::Kinds::shape_of))]
 pub fn shape_of(kind: u8) -> Shape
     ensures { result ≡ shape_of kind }
 {
@@ -65,6 +67,7 @@ pub fn is_unknown(shape: Shape) -> bool
 }
 
 // The part of a kind: of those that compare two terms, that name one part, that name two.
+#[tactic(auto, unfolding(crate::specs::Kinds::part_of))]
 fn atom_part(kind: u8, x: Term, y: Term) -> Part
     ensures { result ≡ part_of kind (Operand.Terms x y) }
 {
@@ -75,6 +78,7 @@ fn atom_part(kind: u8, x: Term, y: Term) -> Part
     }
 }
 
+#[tactic(auto, unfolding(crate::specs::Kinds::part_of))]
 pub fn one_part(kind: u8, a: usize) -> Part
     ensures { result ≡ part_of kind (Operand.One a) }
 {
@@ -86,6 +90,7 @@ pub fn one_part(kind: u8, a: usize) -> Part
     }
 }
 
+#[tactic(auto, unfolding(crate::specs::Kinds::part_of))]
 pub fn two_part(kind: u8, a: usize, b: usize) -> Part
     ensures { result ≡ part_of kind (Operand.Two a b) }
 {

@@ -31,14 +31,7 @@ pub enum Operand {
     },
 }
 
-// What twelve bytes stand for. The definitions say it so; code asks the bytes, and makes none of these.
-#[derive(Clone, Copy)]
-pub enum OperandRead {
-    Operand(Operand),
-    Broken,
-}
-
-// Which operand a kind byte asks for.
+// Which operand a kind byte asks for. Not an Option of the rest: a check of 64 comparisons took four times as long with that.
 #[derive(Clone, Copy)]
 pub enum Shape {
     Comparison,
@@ -118,11 +111,7 @@ fn clear(t: &mut [u8])
     requires { 12 ≤ length t.old }
     ensures { t.new ≡ replicate 12 0 ++ drop 12 t.old }
 {
-    let mut i = 0;
-    while i < OPERAND_BYTES {
-        t[i] = 0;
-        i += 1;
-    }
+    t[..OPERAND_BYTES].fill(0);
 }
 
 fn put_terms(t: &mut [u8], left: Term, right: Term)

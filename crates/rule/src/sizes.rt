@@ -12,29 +12,30 @@ pub const KINDS_AT: usize = 4;
 // A part has a kind byte and an operand.
 const PART_BYTES: usize = 13;
 
-// The number of parts and of channels, or that the sizes or the length are wrong.
+// The number of parts, N, and of channels, V.
 #[derive(Clone, Copy)]
-pub enum Sizes {
-    Counts { parts: usize, channels: usize },
-    Wrong,
+pub struct Sizes {
+    pub parts: usize,
+    pub channels: usize,
 }
 
-pub fn read_sizes(sheet: &[u8]) -> Sizes
+// The sizes, where they and the length are right.
+pub fn read_sizes(sheet: &[u8]) -> Option<Sizes>
     ensures { result ≡ sizes_of sheet.now }
 {
     if sheet.len() < KINDS_AT {
-        return Sizes::Wrong;
+        return None;
     }
     let n = fields::u16_at(sheet, 0);
     let v = fields::u16_at(sheet, 2);
     if ((1 <= n) & (n <= MOST_PARTS))
         & (((1 <= v) & (v <= MOST_CHANNELS)) & (sheet.len() == KINDS_AT + PART_BYTES * n))
     {
-        Sizes::Counts {
+        Some(Sizes {
             parts: n,
             channels: v,
-        }
+        })
     } else {
-        Sizes::Wrong
+        None
     }
 }

@@ -8,13 +8,6 @@ ghost use Rattle.cltlb.specs.Fits.{shift_fits, term_fits};
 
 use cltlb::Term;
 
-// What six bytes stand for. The definitions say it so; code asks the bytes, and makes none of these.
-#[derive(Clone, Copy)]
-pub enum TermRead {
-    Term(Term),
-    Broken,
-}
-
 fn shift_of(code: u8) -> i32
     ensures { result ≡ shift_of code }
 {
@@ -62,10 +55,7 @@ pub fn term_sound(s: &[u8], at: usize, v: usize) -> bool
     requires { at + 6 ≤ length s.now }
     ensures { result ≡ term_sound v (term_at s.now at) }
 {
-    if constant_sound(s, at) {
-        return true;
-    }
-    reading_sound(s, at, v)
+    constant_sound(s, at) || reading_sound(s, at, v)
 }
 
 // The term that six bytes from `at` on are, once they are known to be one.

@@ -28,6 +28,7 @@ fn read_full(input: &mut impl Read, buffer: &mut [u8]) -> usize
     ensures front { result ≡ length (take result buffer.new) }
 {
     let mut done = 0;
+    // No `for`: each step is as long as what was read.
     while done < buffer.len() {
         match input.read(&mut buffer[done..]) {
             Ok(0) | Err(_) => break,

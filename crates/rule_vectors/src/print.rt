@@ -1,7 +1,6 @@
 // Printing of what was found, one line a try.
 use cltlb::{Atom, Operator, Part, Term, View};
-use refusal::{Outcome, Refusal};
-use rule::{SheetRead, Taken};
+use refusal::Refusal;
 use std::io;
 
 pub fn say(rt: &impl Print, text: &[u8]) -> io::Result<()> {
@@ -12,13 +11,8 @@ pub fn say_number(rt: &impl Print, n: u64) -> io::Result<()> {
     print!(rt; " {n}")
 }
 
-// A signed number by its pattern of 32 bits.
-fn say_signed(rt: &impl Print, pattern: u32) -> io::Result<()> {
-    if pattern < 2147483648 {
-        say_number(rt, pattern as u64)
-    } else {
-        print!(rt; " -{}", 4294967296 - (pattern as u64))
-    }
+fn say_signed(rt: &impl Print, z: i32) -> io::Result<()> {
+    print!(rt; " {z}")
 }
 
 fn say_refusal(rt: &impl Print, refusal: Refusal) -> io::Result<()> {
@@ -29,10 +23,11 @@ fn say_refusal(rt: &impl Print, refusal: Refusal) -> io::Result<()> {
     say_number(rt, report.row as u64)
 }
 
-pub fn say_outcome(rt: &impl Print, outcome: Outcome) -> io::Result<()> {
+// "clear", or the refusal: of a put, and of the check of a sheet.
+pub fn say_outcome<T: Drop>(rt: &impl Print, outcome: Result<T, Refusal>) -> io::Result<()> {
     match outcome {
-        Outcome::Clear => say(rt, b"clear"),
-        Outcome::Refused(refusal) => say_refusal(rt, refusal),
+        Ok(_) => say(rt, b"clear"),
+        Err(refusal) => say_refusal(rt, refusal),
     }
 }
 
@@ -40,12 +35,12 @@ fn say_term(rt: &impl Print, term: Term) -> io::Result<()> {
     match term {
         Term::Constant(z) => {
             say(rt, b" constant")?;
-            say_signed(rt, fields::pattern(z))
+            say_signed(rt, z)
         }
         Term::Reading { channel, shift } => {
             say(rt, b" reading")?;
             say_number(rt, channel as u64)?;
-            say_signed(rt, fields::pattern(shift))
+            say_signed(rt, shift)
         }
     }
 }
@@ -98,19 +93,9 @@ fn say_part(rt: &impl Print, part: Part) -> io::Result<()> {
     say_view(rt, cltlb::view_of(part))
 }
 
-pub fn say_check(rt: &impl Print, answer: SheetRead) -> io::Result<()> {
-    match answer {
-        SheetRead::Counts {
-            parts: _,
-            channels: _,
-        } => say(rt, b"clear"),
-        SheetRead::Refused(refusal) => say_refusal(rt, refusal),
-    }
-}
-
-pub fn say_taken(rt: &impl Print, taken: Taken) -> io::Result<()> {
+pub fn say_taken(rt: &impl Print, taken: Result<Part, Refusal>) -> io::Result<()> {
     match taken {
-        Taken::Part(part) => say_part(rt, part),
-        Taken::Refused(refusal) => say_refusal(rt, refusal),
+        Ok(part) => say_part(rt, part),
+        Err(refusal) => say_refusal(rt, refusal),
     }
 }

@@ -9,17 +9,13 @@ use std::io;
 
 // How many bytes differ from place `from` to below `to`.
 fn changed(a: &[u8; 56], b: &[u8; 56], from: usize, to: usize) -> u64
-    requires { to ≤ 56 }
+    requires { (from ≤ to) × (to ≤ 56) }
 {
-    let mut count: u64 = 0;
-    let mut i = from;
-    while i < to {
-        if a[i] != b[i] {
-            count = count % 64 + 1;
-        }
-        i += 1;
-    }
-    count
+    a[from..to]
+        .iter()
+        .zip(&b[from..to])
+        .filter(|(x, y)| x != y)
+        .count() as u64
 }
 
 // How many bytes of the four parts were changed, of them the kind byte and the operand of part 2.
@@ -45,10 +41,7 @@ pub fn try_put(rt: &impl Print, name: &[u8], n: usize, part: Part) -> io::Result
 }
 
 fn reading(channel: usize, shift: i32) -> Term {
-    Term::Reading {
-        channel: channel,
-        shift: shift,
-    }
+    Term::Reading { channel, shift }
 }
 
 pub fn put_comparisons(rt: &impl Print) -> io::Result<()> {

@@ -4,6 +4,8 @@
 // 1 PART KIND NAMED 0 and 2 PART KIND NAMED NAMED: an operator over one part or two is put at PART.
 ghost use Rattle.std.specs.Prelude.{◌+◌, ◌≤◌, ◌<◌, length};
 
+use crate::sheets::{four_parts, one_pinned, one_window};
+use crate::takes::try_changed;
 use std::io;
 
 // A digit; a blank counts as 0.
@@ -17,14 +19,13 @@ fn number_at(row: &[u8], at: usize) -> usize
     requires { at + 6 ≤ length row.now }
 {
     let mut n = 0;
-    let mut i = at;
-    while i < at + 6 {
-        n = n % 100000 * 10 + digit(row[i]);
-        i += 1;
+    for &x in &row[at..at + 6] {
+        n = n % 100000 * 10 + digit(x);
     }
     n
 }
 
+// The kind is a number here: a row may name one that is no kind.
 fn try_named(
     rt: &impl Print,
     letter: u8,
@@ -34,10 +35,11 @@ fn try_named(
     a: usize,
     b: usize,
 ) -> io::Result<()> {
-    let mut part = rule::kinds::one_part(kind, a);
-    if letter == b'2' {
-        part = rule::kinds::two_part(kind, a, b);
-    }
+    let part = if letter == b'2' {
+        rule::kinds::two_part(kind, a, b)
+    } else {
+        rule::kinds::one_part(kind, a)
+    };
     crate::puts::try_put(rt, name, n, part)
 }
 
@@ -51,14 +53,11 @@ fn try_row(rt: &impl Print, row: &[u8]) -> io::Result<()> {
     let fourth = number_at(row, 19);
     let name = &row[26..];
     let byte = (third % 256) as u8;
-    if row[0] == b'b' {
-        crate::takes::try_bytes(rt, name, first, second, byte, fourth)
-    } else if row[0] == b'w' {
-        crate::takes::try_window(rt, name, first, second, byte, fourth)
-    } else if row[0] == b'p' {
-        crate::takes::try_pinned(rt, name, first, second, byte, fourth)
-    } else {
-        try_named(rt, row[0], name, first, (second % 256) as u8, third, fourth)
+    match row[0] {
+        b'b' => try_changed(rt, name, &mut four_parts(), first, second, byte, fourth),
+        b'w' => try_changed(rt, name, &mut one_window(), first, second, byte, fourth),
+        b'p' => try_changed(rt, name, &mut one_pinned(), first, second, byte, fourth),
+        letter => try_named(rt, letter, name, first, (second % 256) as u8, third, fourth),
     }
 }
 
@@ -67,19 +66,16 @@ fn line_end(text: &[u8], from: usize) -> usize
     requires { from ≤ length text.now }
     ensures { (from ≤ result) × (result ≤ length text.now) }
 {
-    let mut i = from;
-    while i < text.len() {
-        if text[i] == 10 {
-            return i;
-        }
-        i += 1;
+    match text[from..].iter().position(|&x| x == b'\n') {
+        Some(n) => from + n,
+        None => text.len(),
     }
-    i
 }
 
 // The section of rows that starts at `from`; answers where the next one starts.
 pub fn try_rows(rt: &impl Print, text: &[u8], from: usize) -> io::Result<usize> {
     let mut i = from;
+    // No `for`: each step is as long as a line, and the lines end with an empty one.
     while i < text.len() {
         let end = line_end(text, i);
         if end == i {

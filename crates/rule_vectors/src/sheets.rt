@@ -1,6 +1,4 @@
 // The sheets that are tried.
-ghost use Rattle.std.specs.Prelude.{◌<◌};
-
 // E1's sheet: the rule x < 25.
 pub fn first_example() -> [u8; 17] {
     [1, 0, 1, 0, 1, 1, 4, 0, 0, 0, 0, 0, 4, 25, 0, 0, 0]
@@ -29,19 +27,9 @@ pub fn one_pinned() -> [u8; 17] {
     [1, 0, 2, 0, 14, 1, 4, 1, 0, 0, 0, 0, 0, 0, 0, 0, 0]
 }
 
-pub fn set_byte(sheet: &mut [u8], at: usize, x: u8) {
-    if at < sheet.len() {
-        sheet[at] = x;
-    }
-}
-
 // So many bytes from `at` on set to x, as far as they are there.
-pub fn fill(sheet: &mut [u8], at: usize, count: usize, x: u8)
-    requires { (at < 64) × (count < 64) }
-{
-    let mut i = at;
-    while i < at + count {
-        set_byte(sheet, i, x);
-        i += 1;
+pub fn fill(sheet: &mut [u8], at: usize, count: usize, x: u8) {
+    for byte in sheet.iter_mut().skip(at).take(count) {
+        *byte = x;
     }
 }

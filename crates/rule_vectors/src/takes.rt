@@ -1,8 +1,6 @@
 // Tries of take and of the whole sheet, each edge of the layout with its neighbour on the other side.
-use crate::print::{say, say_check, say_number, say_taken};
-use crate::sheets::{
-    fill, first_example, four_parts, longer_example, one_pinned, one_window, set_byte,
-};
+use crate::print::{say, say_number, say_outcome, say_taken};
+use crate::sheets::{fill, first_example, four_parts, longer_example};
 use cltlb::{Part, Term};
 use std::io;
 
@@ -12,12 +10,12 @@ pub fn try_sheet(rt: &impl Print, name: &[u8], sheet: &[u8], n: usize) -> io::Re
     say(rt, b": take ")?;
     say_taken(rt, rule::take(sheet, n))?;
     say(rt, b", check ")?;
-    say_check(rt, rule::check_sheet(sheet))?;
+    say_outcome(rt, rule::check_sheet(sheet))?;
     say(rt, b"\n")
 }
 
 // A sheet with so many bytes from `at` on changed to x.
-fn try_changed(
+pub fn try_changed(
     rt: &impl Print,
     name: &[u8],
     sheet: &mut [u8],
@@ -26,72 +24,30 @@ fn try_changed(
     x: u8,
     n: usize,
 ) -> io::Result<()> {
-    fill(sheet, at % 64, count % 64, x);
+    fill(sheet, at, count, x);
     try_sheet(rt, name, sheet, n)
-}
-
-// The four parts so changed, the window, and the pinned reading.
-pub fn try_bytes(
-    rt: &impl Print,
-    name: &[u8],
-    at: usize,
-    count: usize,
-    x: u8,
-    n: usize,
-) -> io::Result<()> {
-    let mut sheet = four_parts();
-    try_changed(rt, name, &mut sheet, at, count, x, n)
-}
-
-pub fn try_window(
-    rt: &impl Print,
-    name: &[u8],
-    at: usize,
-    count: usize,
-    x: u8,
-    n: usize,
-) -> io::Result<()> {
-    let mut sheet = one_window();
-    try_changed(rt, name, &mut sheet, at, count, x, n)
-}
-
-pub fn try_pinned(
-    rt: &impl Print,
-    name: &[u8],
-    at: usize,
-    count: usize,
-    x: u8,
-    n: usize,
-) -> io::Result<()> {
-    let mut sheet = one_pinned();
-    try_changed(rt, name, &mut sheet, at, count, x, n)
 }
 
 // Every front part of a sheet, the shortest first, and the sheet.
 fn try_lengths(rt: &impl Print, sheet: &[u8]) -> io::Result<()> {
-    let mut size: usize = 0;
-    while size < sheet.len() {
+    for size in 0..sheet.len() {
         say(rt, b"length")?;
         say_number(rt, size as u64)?;
         try_sheet(rt, b"", &sheet[..size], 0)?;
-        size += 1;
     }
     try_sheet(rt, b"all of it", sheet, 0)
 }
 
 pub fn lengths(rt: &impl Print) -> io::Result<()> {
-    let sheet = longer_example();
-    try_lengths(rt, &sheet)
+    try_lengths(rt, &longer_example())
 }
 
 // A sheet of `count` parts over one channel, each of which is put as 0 < 0.
 fn try_count(rt: &impl Print, name: &[u8], count: u8, sheet: &mut [u8]) -> io::Result<()> {
-    set_byte(sheet, 0, count);
-    set_byte(sheet, 2, 1);
-    let mut n: usize = 0;
-    while n < 65 {
-        rule::put(sheet, n, Part::Less(Term::Constant(0), Term::Constant(0)));
-        n += 1;
+    fill(sheet, 0, 1, count);
+    fill(sheet, 2, 1, 1);
+    for n in 0..65 {
+        let _ = rule::put(sheet, n, Part::Less(Term::Constant(0), Term::Constant(0)));
     }
     try_sheet(rt, name, sheet, 0)
 }
@@ -124,8 +80,7 @@ pub fn counts(rt: &impl Print) -> io::Result<()> {
 
 // Numbers of parts beyond what a row holds, and E1.
 pub fn far_numbers(rt: &impl Print) -> io::Result<()> {
-    try_bytes(rt, b"part 2^63", 0, 0, 0, 9223372036854775808)?;
-    try_bytes(rt, b"part 2^64 - 1", 0, 0, 0, 18446744073709551615)?;
-    let first = first_example();
-    try_sheet(rt, b"E1", &first, 0)
+    try_sheet(rt, b"part 2^63", &four_parts(), 9223372036854775808)?;
+    try_sheet(rt, b"part 2^64 - 1", &four_parts(), 18446744073709551615)?;
+    try_sheet(rt, b"E1", &first_example(), 0)
 }

@@ -5,6 +5,7 @@
 use command::{PLAN_ROOM, RULE_ROOM};
 use std::io;
 
+// The answer is the number that C gets: the programs run what C calls.
 fn print(rt: &impl Print, answer: u64) -> io::Result<()> {
     if answer < 2 {
         println!(rt; "accepted {answer}")

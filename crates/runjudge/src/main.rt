@@ -6,6 +6,7 @@
 use command::{PLAN_ROOM, RULE_ROOM};
 use std::io;
 
+// The answer is the number that C gets: the programs run what C calls.
 fn print(rt: &impl Print, answer: u64) -> io::Result<()> {
     match answer {
         0 => println!(rt; "always false"),

@@ -1,10 +1,11 @@
 -- How long the mark table of a rule and a plan is. Assumes nothing.
+use Rattle.std.specs.Prelude.{Ok, Err}
+use Rattle.refusal.specs.Outcome.{unrefused}
 use Prim.Native.Nat.{ℕ, ◌+◌, ◌*◌, ◌≤◌}
 use native.Mathlib.Omega.{arith}
 use mathlib.Core.Path.{◌≡◌, refl, sym, ◌∙◌}
 use mathlib.Core.List.{List}
 use Rattle.refusal.specs.declared.Refusal.{Refusal}
-use Rattle.refusal.specs.declared.Outcome.TheVariants.{Clear}
 use Rattle.refusal.proofs.First.{clear_refused}
 use Rattle.rule.specs.Layout.{part_count}
 use Rattle.plan.specs.Layout.{rows}
@@ -14,7 +15,6 @@ use Rattle.plan.proofs.Fits.{rows_are}
 use Rattle.table.proofs.Places.{area}
 use Rattle.inputs.specs.Outcome.{inputs_outcome}
 use Rattle.inputs.specs.inner.Read.{inputs_read}
-use Rattle.inputs.specs.declared.InputsRead.TheVariants.{Fit, Refused}
 use Rattle.inputs.proofs.Ways.{ready, refused}
 use Rattle.inputs.proofs.Parts.{few_there}
 
@@ -23,10 +23,10 @@ module _ (rule plan : List ℕ) where
   abbrev pub IsLength : ℕ → Type 0
   IsLength r =
       (r ≤ 16516)
-      × (inputs_outcome rule plan ≡ Clear → r ≡ 4 + part_count rule * rows plan + 2 * part_count rule)
-      × (¬ (inputs_outcome rule plan ≡ Clear) → r ≡ 0)
+      × (inputs_outcome rule plan ≡ unrefused → r ≡ 4 + part_count rule * rows plan + 2 * part_count rule)
+      × (¬ (inputs_outcome rule plan ≡ unrefused) → r ≡ 0)
 
-  module _ {n : ℕ} {z : Sizes} (e : inputs_read rule plan ≡ Fit n z) where
+  module _ {n : ℕ} {z : Sizes} (e : inputs_read rule plan ≡ Ok (n, z)) where
     -- There are few parts, rows and marks,
     pub few_marks : (n ≤ 64) × (all_rows z ≤ 256) × (n * all_rows z ≤ 16384)
     few_marks = let few = few_there rule plan (ready rule plan e).1 in (few.0, few.1, area _ _ few.0 few.1)
@@ -38,5 +38,5 @@ module _ (rule plan : List ℕ) where
         (omega (arith, few_marks.0, few_marks.2), (λ _. rw (rows_are there.fits, ← there.parts) refl), λ not_clear. absurd (not_clear (ready rule plan e).0))
 
   -- Where they do not, none is asked for.
-  pub length_refused : {r : Refusal} → inputs_read rule plan ≡ Refused r → IsLength 0
+  pub length_refused : {r : Refusal} → inputs_read rule plan ≡ Err r → IsLength 0
   length_refused e = (omega arith, (λ clear. absurd (clear_refused (sym (refused rule plan e) ∙ clear))), λ _. refl)

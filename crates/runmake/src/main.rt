@@ -3,23 +3,25 @@
 #![tactic(auto)]
 
 ghost use Rattle.std.specs.Prelude.{◌≡◌, ◌+◌, ◌*◌, ◌≤◌, length};
-ghost use Rattle.refusal.specs.declared.Outcome.TheVariants.{Clear};
+ghost use Rattle.refusal.specs.Outcome.{unrefused};
 ghost use Rattle.rule.specs.Layout.{part_count};
 ghost use Rattle.plan.specs.Layout.{rows};
 ghost use Rattle.inputs.specs.Outcome.{inputs_outcome};
 
 use command::{PLAN_ROOM, RULE_ROOM};
-use inputs::InputsRead;
 use std::rt::Files;
 use std::{fs, io};
 
 // How long the mark table is; 0 where the rule or the plan is refused, when a buffer of any length is refused alike.
 fn table_length(rule: &[u8], plan: &[u8]) -> usize
-    ensures { (result ≤ 16516) × (inputs_outcome rule.now plan.now ≡ Clear → result ≡ 4 + part_count rule.now * rows plan.now + 2 * part_count rule.now) × (¬ (inputs_outcome rule.now plan.now ≡ Clear) → result ≡ 0) }
+    ensures { (result ≤ 16516) × (inputs_outcome rule.now plan.now ≡ unrefused → result ≡ 4 + part_count rule.now * rows plan.now + 2 * part_count rule.now) × (¬ (inputs_outcome rule.now plan.now ≡ unrefused) → result ≡ 0) }
 {
     match inputs::read_inputs(rule, plan) {
-        InputsRead::Fit { parts, sizes } => 4 + parts * (sizes.start + sizes.cycle) + 2 * parts,
-        InputsRead::Refused(_) => 0,
+        Ok(inputs) => {
+            let sizes = inputs.plan.sizes;
+            4 + inputs.parts * (sizes.start + sizes.cycle) + 2 * inputs.parts
+        }
+        Err(_) => 0,
     }
 }
 
@@ -36,6 +38,7 @@ fn report<R: Files + Print + Eprint>(rt: &R, answer: u64, table: &[u8]) -> io::R
     }
 }
 
+// The answer is the number that C gets: the programs run what C calls.
 fn make<R: Files + Print + Eprint>(
     rt: &R,
     rule: &[u8],

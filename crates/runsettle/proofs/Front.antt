@@ -1,5 +1,6 @@
 -- A plan at the front of a buffer: the sizes that are read there are the plan's, and so is the length that follows from them.
 -- Assumes nothing.
+use Rattle.refusal.specs.Outcome.{unrefused}
 use Prim.Native.Nat.{ℕ, ◌+◌, ◌*◌, ◌≤◌, ◌<◌}
 use native.Mathlib.Nat.{mul-le-mul}
 use native.Mathlib.Omega.{arith}
@@ -8,7 +9,6 @@ use mathlib.Core.List.{List, ◌++◌}
 use lib.ListN.{length, length-append, get_or-append}
 use Rattle.fields.specs.LittleEndian.{number_at}
 use Rattle.fields.proofs.Widths.{number2}
-use Rattle.refusal.specs.declared.Outcome.TheVariants.{Clear}
 use Rattle.plan.specs.Layout.{channels, start_rows, cycle_rows, lead_rows, array_length}
 use Rattle.plan.specs.Refusals.{plan_outcome}
 use Rattle.plan.specs.inner.Sizes.{sizes_in, Fitting}
@@ -32,7 +32,7 @@ number_kept front rest at h =
     ∙ ap₂ (λ (x y : ℕ). x + 256 * y) (get_or-append front rest 0 at (omega arith)) (get_or-append front rest 0 (at + 1) (omega arith))
     ∙ sym (number2 front at)
 
-module _ (v : ℕ) (plan rest : List ℕ) (clear : plan_outcome v plan ≡ Clear) where
+module _ (v : ℕ) (plan rest : List ℕ) (clear : plan_outcome v plan ≡ unrefused) where
   fits : Fitting plan (sizes_in plan)
   fits = (cleared v plan clear).0
 

@@ -31,7 +31,7 @@ fn report<R: Files + Print + Eprint>(rt: &R, passes: u64, plan: &[u8]) -> io::Re
     }
 }
 
-// The new plan is at the front of the buffer for the largest one.
+// The new plan is at the front of the buffer for the largest one. The answer is the number that C gets: the programs run what C calls.
 fn settle<R: Files + Print + Eprint>(
     rt: &R,
     rule: &[u8],

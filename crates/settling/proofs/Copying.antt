@@ -14,7 +14,6 @@ use Rattle.cltlb.specs.declared.Operator.{Operator}
 use Rattle.cltlb.specs.declared.Operator.TheVariants.{One, Two}
 use Rattle.plan.specs.Positions.{last, after}
 use Rattle.plan.proofs.Rows.{after_last, after_other}
-use Rattle.table.specs.inner.Tables.{flipped}
 use Rattle.words.specs.inner.Words.{mark_at}
 use Rattle.words.specs.inner.Written.{Marked}
 use Rattle.words.proofs.Marking.{marked_none, marked_same, marked_up, marked_down, down_next}
@@ -29,36 +28,35 @@ use Rattle.settling.proofs.Stepping.{ahead_tried}
 
 -- ---- on the same row
 
-twice : (x : Bool) → (x || x) ≡ x
-twice true = refl
-twice false = refl
+both : (x y : Bool) → (x && y) ≡ not (not y || not x)
+both true true = refl
+both true false = refl
+both false true = refl
+both false false = refl
 
--- b or a, each or its opposite; and of that, it or its opposite
-abbrev pub joined : List ℕ → ℕ → ℕ → Bool → Bool → ℕ → Bool
-joined old a b of opposite row = flipped opposite (flipped of (mark_at old b row) || flipped of (mark_at old a row))
+other_way : (x y : Bool) → (x || y) ≡ (y || x)
+other_way true true = refl
+other_way true false = refl
+other_way false true = refl
+other_way false false = refl
 
-pub joined_on : (old mid : List ℕ) {i : ℕ} (a b row : ℕ) (of opposite : Bool) → a < i → b < i → ((c : ℕ) → c < i → (r : ℕ) → mark_at mid c r ≡ mark_at old c r)
-    → {x y u v r : Bool} → x ≡ mark_at mid b row → u ≡ flipped of x → y ≡ mark_at mid a row → v ≡ flipped of y → r ≡ flipped opposite (u || v) → r ≡ joined old a b of opposite row
-joined_on old mid a b row of opposite h l same d e f g k =
-    k
-    ∙ ap₂ (λ (s t : Bool). flipped opposite (s || t)) (e ∙ ap (flipped of) (d ∙ same b l row)) (g ∙ ap (flipped of) (f ∙ same a h row))
-
-module _ (P C : ℕ) (h_c : 1 ≤ C) (old : List ℕ) {new : List ℕ} {i : ℕ} (a b : ℕ) where
-  pub not_tried : {s : Unary} → s ≡ unary.Not → Marked old new i 0 (P + C) (joined old a a false true) → OperatorTried P C old new i (One s a) true
+module _ (P C : ℕ) (h_c : 1 ≤ C) (old : List ℕ) {new : List ℕ} {i : ℕ} (a : ℕ) where
+  pub not_tried : {s : Unary} → s ≡ unary.Not → Marked old new i 0 (P + C) (λ row. not (mark_at old a row)) → OperatorTried P C old new i (One s a) true
   not_tried e done =
       subst⁻¹ (λ (s : Unary). OperatorTried P C old new i (One s a) true) e
       (ahead_tried P C old i (One unary.Not a) refl
-      (marked_same done (λ row _ l. ap not (twice (mark_at old a row)) ∙ not_label P C h_c (mark_at old) a row l)))
+      (marked_same done (λ row _ l. not_label P C h_c (mark_at old) a row l)))
 
-  pub and_tried : {s : Binary} → s ≡ binary.And → Marked old new i 0 (P + C) (joined old a b true true) → OperatorTried P C old new i (Two s a b) true
-  and_tried e done =
-      subst⁻¹ (λ (s : Binary). OperatorTried P C old new i (Two s a b) true) e
-      (ahead_tried P C old i (Two binary.And a b) refl (marked_same done (λ row _ l. and_label P C h_c (mark_at old) a b row l)))
+  module _ (b : ℕ) where
+    pub and_tried : {s : Binary} → s ≡ binary.And → Marked old new i 0 (P + C) (λ row. mark_at old a row && mark_at old b row) → OperatorTried P C old new i (Two s a b) true
+    and_tried e done =
+        subst⁻¹ (λ (s : Binary). OperatorTried P C old new i (Two s a b) true) e
+        (ahead_tried P C old i (Two binary.And a b) refl (marked_same done (λ row _ l. both (mark_at old a row) (mark_at old b row) ∙ and_label P C h_c (mark_at old) a b row l)))
 
-  pub or_tried : {s : Binary} → s ≡ binary.Or → Marked old new i 0 (P + C) (joined old a b false false) → OperatorTried P C old new i (Two s a b) true
-  or_tried e done =
-      subst⁻¹ (λ (s : Binary). OperatorTried P C old new i (Two s a b) true) e
-      (ahead_tried P C old i (Two binary.Or a b) refl (marked_same done (λ row _ l. or_label P C h_c (mark_at old) a b row l)))
+    pub or_tried : {s : Binary} → s ≡ binary.Or → Marked old new i 0 (P + C) (λ row. mark_at old a row || mark_at old b row) → OperatorTried P C old new i (Two s a b) true
+    or_tried e done =
+        subst⁻¹ (λ (s : Binary). OperatorTried P C old new i (Two s a b) true) e
+        (ahead_tried P C old i (Two binary.Or a b) refl (marked_same done (λ row _ l. other_way (mark_at old a row) (mark_at old b row) ∙ or_label P C h_c (mark_at old) a b row l)))
 
 -- ---- on the row after
 

@@ -1,5 +1,6 @@
 -- Settling's promise, from its definitions: the fewest passes are found where any number works, the plan laid out has the same run and
 -- settles, and where nothing drifts the passes are bounded. Assumes nothing.
+use Rattle.std.specs.Prelude.{Result, Ok, Err}
 use Prim.Native.Nat.{ℕ, ◌+◌, ◌*◌, ◌≤◌, ◌<◌}
 use native.Mathlib.Decide.{dec_lt}
 use native.Mathlib.Omega.{arith}
@@ -14,8 +15,7 @@ use borrow.Author.Tests.{eq-eqb}
 use Rattle.fields.specs.inner.Ranges.{Bytes}
 use Rattle.cltlb.specs.Fits.{view_fits}
 use Rattle.cltlb.specs.Nesting.{deepest}
-use Rattle.refusal.specs.declared.Outcome.{Outcome}
-use Rattle.refusal.specs.declared.Outcome.TheVariants.{Clear, Refused}
+use Rattle.refusal.specs.Outcome.{Outcome, unrefused}
 use Rattle.refusal.specs.declared.Refusal.{Refusal}
 use Rattle.refusal.specs.declared.Refusal.TheVariants.{BufferLength, NoLayout}
 use Rattle.refusal.specs.First.{unless}
@@ -34,11 +34,8 @@ use Rattle.laid_out.specs.LaidOut.{rows_after, laid_out, can_be_laid}
 use Rattle.laid_out.proofs.CanBeLaid.{passes_few, fewer_fit, still_fits}
 use Rattle.laid_out.proofs.LaidRuns.{laid_fitting, laid_lead, laid_top, laid_reading_at, laid_lead_reading, laid_run}
 use Rattle.laid_out.proofs.LaidPlans.{laid_clear, laid_none}
-use Rattle.maker.specs.declared.Made.TheVariants as M
 use Rattle.maker.specs.Make.{closings_outcome, make_of}
 use Rattle.maker.proofs.Promised.{some_cycle, fits}
-use Rattle.settling.specs.declared.Laid.{Laid}
-use Rattle.settling.specs.declared.Laid.TheVariants as L
 use Rattle.settling.specs.Settle.{laid_out_length, scratch_length, settles_after, fewest_passes, laid_by, lent_outcome, answered, settle_of, laid_after, scratch_after}
 use Rattle.settling.specs.Promise.{SettledAfter, FewestSettle, NoDrift, most_passes, Lent, SettlePromise}
 use Rattle.settling.proofs.Bound.{still_settled}
@@ -47,8 +44,8 @@ use Rattle.settling.proofs.Searched.{settles_as}
 
 -- ---- a rule and a plan that clear 1 to 6
 
-module _ (rule plan : List ℕ) (bytes : Bytes plan) (clear : inputs_outcome rule plan ≡ Clear) where
-  plan_clear : plan_outcome (channel_count rule) plan ≡ Clear
+module _ (rule plan : List ℕ) (bytes : Bytes plan) (clear : inputs_outcome rule plan ≡ unrefused) where
+  plan_clear : plan_outcome (channel_count rule) plan ≡ unrefused
   plan_clear = (clear_both rule plan clear).1
 
   sizes_fit_lem : Fitting plan (sizes_in plan)
@@ -62,11 +59,11 @@ module _ (rule plan : List ℕ) (bytes : Bytes plan) (clear : inputs_outcome rul
   -- ---- n passes that can be laid out
 
   module _ (n : ℕ) (can : can_be_laid plan n ≡ true) where
-    laid_inputs : inputs_outcome rule (laid_out plan n) ≡ Clear
+    laid_inputs : inputs_outcome rule (laid_out plan n) ≡ unrefused
     laid_inputs = both_clear rule (laid_out plan n) (clear_both rule plan clear).0 (laid_clear plan bytes (channel_count rule) plan_clear n can)
 
     -- Every part closes exactly where every part is settled.
-    closes_settled : (closings_outcome rule (laid_out plan n) ≡ Clear) ↔ SettledAfter rule plan n
+    closes_settled : (closings_outcome rule (laid_out plan n) ≡ unrefused) ↔ SettledAfter rule plan n
     unfolding SettledAfter
     closes_settled = closings_settled rule (laid_out plan n) laid_inputs
 
@@ -83,7 +80,7 @@ module _ (rule plan : List ℕ) (bytes : Bytes plan) (clear : inputs_outcome rul
     can_be_laid_lem : can_be_laid plan n ≡ true
     can_be_laid_lem = ((settles_as rule plan n).0 lowest_at.1).0
 
-    closes : closings_outcome rule (laid_out plan n) ≡ Clear
+    closes : closings_outcome rule (laid_out plan n) ≡ unrefused
     closes = ((settles_as rule plan n).0 lowest_at.1).1
 
     -- They are the fewest that settle.
@@ -95,7 +92,7 @@ module _ (rule plan : List ℕ) (bytes : Bytes plan) (clear : inputs_outcome rul
 
     -- The maker makes marks.
     found_makes : (table : List ℕ) → length table ≡ 4 + part_count rule * rows (laid_out plan n) + 2 * part_count rule
-        → (v : Bool) × (make_of rule (laid_out plan n) table ≡ M.Table v)
+        → (v : Bool) × (make_of rule (laid_out plan n) table ≡ Ok v)
     found_makes = settled_makes rule (laid_out plan n) (laid_inputs n can_be_laid_lem) closes
 
   -- ---- not found
@@ -137,25 +134,25 @@ module _ (rule plan : List ℕ) (bytes : Bytes plan) (clear : inputs_outcome rul
 
 -- ---- the answers, by their outcomes
 
-pub passes_by : (o : Option ℕ) (n : ℕ) → laid_by o ≡ L.Passes n → o ≡ some n
+pub passes_by : (o : Option ℕ) (n : ℕ) → laid_by o ≡ Ok n → o ≡ some n
 passes_by none n e = absurd (let z : ◌≡◌ {A = ℕ} 0 1 = cc in omega arith)
 passes_by (some m) n e = cc
 
-refused_by : (o : Option ℕ) (r : Refusal) → laid_by o ≡ L.Refused r → (o ≡ none) × (NoLayout ≡ r)
+refused_by : (o : Option ℕ) (r : Refusal) → laid_by o ≡ Err r → (o ≡ none) × (NoLayout ≡ r)
 refused_by none r e = (refl, cc)
 refused_by (some m) r e = absurd (let z : ◌≡◌ {A = ℕ} 0 1 = cc in omega arith)
 
 module _ (rule plan laid scratch : List ℕ) where
-  passes_as : (o : Outcome) (n : ℕ) → answered rule plan laid scratch o ≡ L.Passes n → (o ≡ Clear) × (fewest_passes rule plan ≡ some n)
+  passes_as : (o : Outcome) (n : ℕ) → answered rule plan laid scratch o ≡ Ok n → (o ≡ unrefused) × (fewest_passes rule plan ≡ some n)
   unfolding answered
-  passes_as Clear n e = (refl, passes_by (fewest_passes rule plan) n e)
-  passes_as (Refused q) n e = absurd (let z : ◌≡◌ {A = ℕ} 0 1 = cc in omega arith)
+  passes_as (Ok _) n e = (refl, passes_by (fewest_passes rule plan) n e)
+  passes_as (Err q) n e = absurd (let z : ◌≡◌ {A = ℕ} 0 1 = cc in omega arith)
 
-  refused_as : (o : Outcome) (r : Refusal) → answered rule plan laid scratch o ≡ L.Refused r
-      → (o ≡ Refused r) ⊎ ((o ≡ Clear) × (fewest_passes rule plan ≡ none) × (NoLayout ≡ r))
+  refused_as : (o : Outcome) (r : Refusal) → answered rule plan laid scratch o ≡ Err r
+      → (o ≡ Err r) ⊎ ((o ≡ unrefused) × (fewest_passes rule plan ≡ none) × (NoLayout ≡ r))
   unfolding answered
-  refused_as Clear r e = let p = refused_by (fewest_passes rule plan) r e in inr (refl, p.0, p.1)
-  refused_as (Refused q) r e = inl cc
+  refused_as (Ok _) r e = let p = refused_by (fewest_passes rule plan) r e in inr (refl, p.0, p.1)
+  refused_as (Err q) r e = inl cc
 
   -- ---- the numbers of the refusals, and what two bytes hold
 
@@ -167,19 +164,19 @@ module _ (rule plan laid scratch : List ℕ) where
       (λ _. or_else_only (Within 1 13) (unless (eqb (length laid) laid_out_length) BufferLength) _
       (unless_only (Within 1 13) _ BufferLength (omega arith)) (λ _. unless_only (Within 1 13) _ BufferLength (omega arith)))
 
-  inputs_clear : lent_outcome rule plan laid scratch ≡ Clear → inputs_outcome rule plan ≡ Clear
+  inputs_clear : lent_outcome rule plan laid scratch ≡ unrefused → inputs_outcome rule plan ≡ unrefused
   unfolding lent_outcome
   inputs_clear e = ((or_else_clear (inputs_outcome rule plan) _).0 e).0
 
   -- What an answer says of the search,
-  passes_found : {answer : Laid} → answer ≡ settle_of rule plan laid scratch → (n : ℕ) → answer ≡ L.Passes n
-      → (inputs_outcome rule plan ≡ Clear) × (fewest_passes rule plan ≡ some n)
+  passes_found : {answer : Result ℕ Refusal} → answer ≡ settle_of rule plan laid scratch → (n : ℕ) → answer ≡ Ok n
+      → (inputs_outcome rule plan ≡ unrefused) × (fewest_passes rule plan ≡ some n)
   unfolding settle_of
   passes_found e n q = let p = passes_as (lent_outcome rule plan laid scratch) n (sym e ∙ q) in (inputs_clear p.0, p.1)
 
   -- and 15: the buffers are cleared, and nothing is found.
-  none_answered : {answer : Laid} → answer ≡ settle_of rule plan laid scratch → answer ≡ L.Refused NoLayout
-      → (inputs_outcome rule plan ≡ Clear) × (fewest_passes rule plan ≡ none)
+  none_answered : {answer : Result ℕ Refusal} → answer ≡ settle_of rule plan laid scratch → answer ≡ Err NoLayout
+      → (inputs_outcome rule plan ≡ unrefused) × (fewest_passes rule plan ≡ none)
   unfolding settle_of
   none_answered e q =
       ⊎_elim
@@ -188,7 +185,7 @@ module _ (rule plan laid scratch : List ℕ) where
       (refused_as (lent_outcome rule plan laid scratch) NoLayout (sym e ∙ q))
 
   -- Two bytes hold the part and the row that a refusal names,
-  pub settle_names : {answer : Laid} → answer ≡ settle_of rule plan laid scratch → (r : Refusal) → answer ≡ L.Refused r → Small r
+  pub settle_names : {answer : Result ℕ Refusal} → answer ≡ settle_of rule plan laid scratch → (r : Refusal) → answer ≡ Err r → Small r
   unfolding settle_of
   settle_names e r q =
       ⊎_elim
@@ -197,13 +194,13 @@ module _ (rule plan laid scratch : List ℕ) where
       (refused_as (lent_outcome rule plan laid scratch) r (sym e ∙ q))
 
   -- and one holds the passes.
-  pub settle_few : {answer : Laid} → answer ≡ settle_of rule plan laid scratch → (n : ℕ) → answer ≡ L.Passes n → n < 256
+  pub settle_few : {answer : Result ℕ Refusal} → answer ≡ settle_of rule plan laid scratch → (n : ℕ) → answer ≡ Ok n → n < 256
   unfolding fewest_passes
   settle_few e n q = ((lowest_some (settles_after rule plan) 256 n).0 (passes_found e n q).1).0
 
   -- ---- the whole promise
 
-  lent_clear : Lent rule plan laid scratch → lent_outcome rule plan laid scratch ≡ Clear
+  lent_clear : Lent rule plan laid scratch → lent_outcome rule plan laid scratch ≡ unrefused
   unfolding lent_outcome
   lent_clear h =
       (or_else_clear (inputs_outcome rule plan) _).1 (
@@ -215,12 +212,12 @@ module _ (rule plan laid scratch : List ℕ) where
       )
 
   -- nothing found: 15 is the answer
-  none_answers : lent_outcome rule plan laid scratch ≡ Clear → fewest_passes rule plan ≡ none → settle_of rule plan laid scratch ≡ L.Refused NoLayout
+  none_answers : lent_outcome rule plan laid scratch ≡ unrefused → fewest_passes rule plan ≡ none → settle_of rule plan laid scratch ≡ Err NoLayout
   unfolding settle_of answered
   none_answers d e = simp (d, e)
 
   -- SETTLING KEEPS ITS PROMISE, whatever the bytes.
-  pub settle_promise : Bytes plan → {laid' scratch' : List ℕ} {answer : Laid} → answer ≡ settle_of rule plan laid scratch
+  pub settle_promise : Bytes plan → {laid' scratch' : List ℕ} {answer : Result ℕ Refusal} → answer ≡ settle_of rule plan laid scratch
       → laid' ≡ laid_after rule plan laid scratch → scratch' ≡ scratch_after rule plan laid scratch
       → SettlePromise rule plan laid scratch laid' scratch' answer
   settle_promise bytes {laid'} {scratch'} {answer} e f g = record {

@@ -1,5 +1,6 @@
 -- The search for the fewest passes after which every part closes: what one layout says, by its parts, and how the search ends.
 -- Assumes nothing.
+use Rattle.std.specs.Prelude.{Ok, Err}
 use Prim.Native.Nat.{ℕ, ◌+◌, ◌≤◌, ◌<◌}
 use native.Mathlib.Decide.{dec_lt}
 use native.Mathlib.Omega.{arith}
@@ -10,8 +11,7 @@ use mathlib.Core.Option.{none, some}
 use mathlib.Core.Logic.Iff
 use mathlib.Core.Logic.{◌↔◌, by_cases}
 use Rattle.cltlb.specs.Fits.{view_fits}
-use Rattle.refusal.specs.declared.Outcome.{Outcome}
-use Rattle.refusal.specs.declared.Outcome.TheVariants.{Clear, Refused}
+use Rattle.refusal.specs.Outcome.{Outcome, unrefused}
 use Rattle.refusal.proofs.First.{clear_refused, in_turn_clear}
 use Rattle.refusal.proofs.Lowest.{true_false, not_so, lowest_none, lowest_some}
 use Rattle.rule.specs.Layout.{part_count}
@@ -31,9 +31,9 @@ use Rattle.settling.specs.inner.Scratch.{closes_on}
 -- ---- tests
 
 -- The test whether an outcome refuses nothing.
-pub is_clear_lem : (o : Outcome) → (is_clear o ≡ true) ↔ (o ≡ Clear)
-is_clear_lem Clear = (λ _. refl, λ _. refl)
-is_clear_lem (Refused r) = (λ e. absurd (true_false e refl), λ e. absurd (clear_refused e))
+pub is_clear_lem : (o : Outcome) → (is_clear o ≡ true) ↔ (o ≡ unrefused)
+is_clear_lem (Ok _) = (λ _. refl, λ _. refl)
+is_clear_lem (Err r) = (λ e. absurd (true_false e refl), λ e. absurd (clear_refused e))
 
 -- ---- the parts of one layout
 
@@ -44,18 +44,18 @@ module _ (rule layout : List ℕ) where
   closed_as some_cycle v n fits i = is_clear_lem (closing_outcome layout (made_mark (views_of rule) layout) (views_of rule i) i)
 
   -- 14 refuses nothing exactly where every part closes.
-  pub parts_closed : (closings_outcome rule layout ≡ Clear) ↔ ((i : ℕ) → i < part_count rule → closes_on rule layout i ≡ true)
+  pub parts_closed : (closings_outcome rule layout ≡ unrefused) ↔ ((i : ℕ) → i < part_count rule → closes_on rule layout i ≡ true)
   unfolding closings_outcome open_outcome
   parts_closed = Iff.trans (in_turn_clear (open_outcome rule layout) (part_count rule)) (λ h i l. (one i).0 (h i l), λ h i l. (one i).1 (h i l))
     where
-      one : (i : ℕ) → (open_outcome rule layout i ≡ Clear) ↔ (closes_on rule layout i ≡ true)
+      one : (i : ℕ) → (open_outcome rule layout i ≡ unrefused) ↔ (closes_on rule layout i ≡ true)
       one i =
           Iff.trans (no_table_clear (closing_outcome layout (made_mark (views_of rule) layout) (views_of rule i) i))
           (Iff.symm (is_clear_lem (closing_outcome layout (made_mark (views_of rule) layout) (views_of rule i) i)))
 
 module _ (rule plan : List ℕ) where
   -- k passes settle exactly where they can be laid out and 14 refuses nothing.
-  pub settles_as : (k : ℕ) → (settles_after rule plan k ≡ true) ↔ ((can_be_laid plan k ≡ true) × (closings_outcome rule (laid_out plan k) ≡ Clear))
+  pub settles_as : (k : ℕ) → (settles_after rule plan k ≡ true) ↔ ((can_be_laid plan k ≡ true) × (closings_outcome rule (laid_out plan k) ≡ unrefused))
   unfolding settles_after
   settles_as k = (
     λ e. let p = both (can_be_laid plan k) (is_clear (closings_outcome rule (laid_out plan k))) e in (p.0, (is_clear_lem (closings_outcome rule (laid_out plan k))).0 p.1),

@@ -1,5 +1,7 @@
 -- The search for the fewest passes, turn after turn: a part closes, or more passes are laid out, on which the lower parts close too.
 -- Assumes nothing.
+use Rattle.std.specs.Prelude.{Result, Ok, Err}
+use Rattle.refusal.specs.declared.Refusal.{Refusal}
 use Prim.Native.Nat.{ℕ, zero, suc, ◌+◌, ◌*◌, ◌-◌, ◌≤◌, ◌<◌}
 use native.Mathlib.Nat.{add-zero, mul-le-mul_right}
 use native.Mathlib.Decide.{dec_lt}
@@ -17,8 +19,6 @@ use Rattle.cltlb.specs.declared.View.{View}
 use Rattle.refusal.specs.declared.Refusal.TheVariants.{NoLayout}
 use Rattle.rule.specs.Layout.{channel_count}
 use Rattle.rule.specs.Take.{take_of, views_of}
-use Rattle.rule.specs.declared.Taken.{Taken}
-use Rattle.rule.specs.declared.Taken.TheVariants as K
 use Rattle.plan.specs.Layout.{channels, start_rows, cycle_rows, rows}
 use Rattle.plan.specs.Run.{run_of}
 use Rattle.plan.specs.declared.sizes.Sizes.{Sizes}
@@ -36,7 +36,6 @@ use Rattle.laid_out.proofs.LaidRuns.{laid_few, laid_cycle, laid_rows, laid_fitti
 use Rattle.words.specs.inner.Words.{most_parts, most_rows, mark_at, Room}
 use Rattle.words.specs.inner.Written.{RowsRepeated}
 use Rattle.words.proofs.Marking.{repeated_kept, repeated_again}
-use Rattle.settling.specs.declared.Laid.TheVariants as L
 use Rattle.settling.specs.Settle.{settles_after, fewest_passes, laid_by}
 use Rattle.settling.specs.inner.Scratch.{PartTried, MadeTo, closes_on, NoneSettles}
 use Rattle.settling.proofs.Later.{later_closed, later_kept, later_again}
@@ -66,7 +65,7 @@ module _ (rule plan : List ℕ) {n : ℕ} {z : Sizes} (ready : Ready rule plan n
     few_passes = passes_few plan k (own_cycle ready.fits) can
 
     -- One part tried on it, as the code takes it.
-    module _ (i : ℕ) (l : i < n) {t : Taken} (e : t ≡ take_of rule i) {part : Part} (f : t ≡ K.Part part) {p : View} (g : p ≡ view_of part)
+    module _ (i : ℕ) (l : i < n) {t : Result Part Refusal} (e : t ≡ take_of rule i) {part : Part} (f : t ≡ Ok part) {p : View} (g : p ≡ view_of part)
         {old new : List ℕ} (made : MadeTo rule (laid_out plan k) old i) {b : Bool} (tried : PartTried (laid_out plan k) old new i p b) where
       pub part_tried : (b ≡ closes_on rule (laid_out plan k) i) × MadeTo rule (laid_out plan k) new i × (b ≡ true → MadeTo rule (laid_out plan k) new (i + 1))
       part_tried =
@@ -196,7 +195,7 @@ module _ (rule plan : List ℕ) {n : ℕ} {z : Sizes} (ready : Ready rule plan n
           (λ t. over m (omega arith) q)
 
       -- the next can't be laid out,
-      pub no_more : {c : Bool} → c ≡ can_be_laid plan more → not c ≡ true → L.Refused NoLayout ≡ laid_by (fewest_passes rule plan)
+      pub no_more : {c : Bool} → c ≡ can_be_laid plan more → not c ≡ true → Err NoLayout ≡ laid_by (fewest_passes rule plan)
       no_more {c} e t = sym (ap laid_by (search_ended rule plan more no_fewer (sym e ∙ not-true c t)))
 
       -- or they can, and the lower parts, which repeat, are made on their layout.
@@ -229,7 +228,7 @@ module _ (rule plan : List ℕ) {n : ℕ} {z : Sizes} (ready : Ready rule plan n
 
   -- ---- after the last turn
 
-  pub all_close : {scratch : List ℕ} {k i : ℕ} → Searching rule plan n scratch k i → n ≤ i → L.Passes k ≡ laid_by (fewest_passes rule plan)
+  pub all_close : {scratch : List ℕ} {k i : ℕ} → Searching rule plan n scratch k i → n ≤ i → Ok k ≡ laid_by (fewest_passes rule plan)
   all_close {k = k} s h =
       let few = s.few in
       let parts = ready.parts in

@@ -1,5 +1,7 @@
 -- The passes that are passed over: what changes on a layout changes on those of fewer passes, and does not close there. Assumes
 -- nothing.
+use Rattle.std.specs.Prelude.{Result, Ok}
+use Rattle.refusal.specs.declared.Refusal.{Refusal}
 use Prim.Native.Nat.{ℕ, ◌+◌, ◌*◌, ◌-◌, ◌/◌, ◌≤◌, ◌<◌, min}
 use native.Mathlib.Nat.{mul-le-mul_right, le-mul_of_pos_right, div-add-mod'}
 use native.Mathlib.Omega.{arith}
@@ -20,8 +22,6 @@ use Rattle.cltlb.proofs.Fits.{atom_fits_lem}
 use Rattle.refusal.specs.Lowest.{lowest_from}
 use Rattle.refusal.proofs.Lowest.{true_false, not_so, from_none}
 use Rattle.rule.specs.Take.{take_of, views_of}
-use Rattle.rule.specs.declared.Taken.{Taken}
-use Rattle.rule.specs.declared.Taken.TheVariants as K
 use Rattle.plan.specs.Layout.{cycle_rows}
 use Rattle.plan.specs.declared.sizes.Sizes.{Sizes}
 use Rattle.plan.specs.inner.Sizes.{Fitting}
@@ -144,7 +144,7 @@ module _ (plan : List ℕ) (z : Sizes) (x : Comparison) (passes : ℕ) where
 -- ---- the part of the rule that it is
 
 module _ (rule plan : List ℕ) {n : ℕ} {z : Sizes} (ready : Ready rule plan n z) (bytes : Bytes plan) (i : ℕ) (l : i < n)
-    {t : Taken} (e : t ≡ take_of rule i) {part : Part} (f : t ≡ K.Part part) {p : View} (g : p ≡ view_of part) {a : Atom} (h : p ≡ view.Atom a) where
+    {t : Result Part Refusal} (e : t ≡ take_of rule i) {part : Part} (f : t ≡ Ok part) {p : View} (g : p ≡ view_of part) {a : Atom} (h : p ≡ view.Atom a) where
   pub part_atom_fits : atom_fits z.channels a ≡ true
   part_atom_fits =
       atom_fits_lem z.channels i a (subst (λ (q : View). view_fits z.channels i q ≡ true) h (taken_fitting rule plan ready i l e f g))

@@ -13,11 +13,11 @@ ghost use Rattle.words.specs.inner.Written.{Marked};
 ghost use Rattle.settling.specs.inner.Seen.{seen_back, SeenAhead};
 ghost use Rattle.settling.specs.inner.Scratch.{OperatorTried};
 
-use crate::copies::{mark_joined, mark_next, try_before};
+use crate::copies::{mark_next, try_before};
+use crate::marking::put_each;
 use cltlb::{Binary, Operator, Unary};
 use marks::operators::{mark_one, mark_two};
 use plan::sizes::Sizes;
-use table::sweeps::agree;
 use words::parts::{mark_at, put_mark};
 
 // The mark of an operator on a row, by what it sees beside the row.
@@ -70,12 +70,10 @@ fn mark_onward(scratch: &mut [u8], i: usize, operator: Operator, first: bool, co
     ensures { (result ≡ seen_back (mark_at scratch.old) operator first count) × (Marked scratch.old scratch.new i 0 count (running (mark_at scratch.old) operator first)) }
 {
     let mut beside = first;
-    let mut row = 0;
-    while row < count {
+    for row in 0..count {
         let truth = step_on(scratch, operator, row, beside);
         beside = watched_truth(scratch, operator, truth, row);
         put_mark(scratch, i, row, truth);
-        row += 1;
     }
     beside
 }
@@ -87,9 +85,7 @@ fn seen_round(scratch: &[u8], laid: Sizes, operator: Operator) -> bool
 {
     let start = laid.start;
     let mut beside = watched_truth(scratch, operator, end_of(operator), start);
-    let mut row = start + laid.cycle;
-    while start < row {
-        row -= 1;
+    for row in (start..start + laid.cycle).rev() {
         let truth = step_on(scratch, operator, row, beside);
         beside = watched_truth(scratch, operator, truth, row);
     }
@@ -102,9 +98,7 @@ fn mark_back(scratch: &mut [u8], laid: Sizes, i: usize, operator: Operator, end:
     ensures { Marked scratch.old scratch.new i 0 (all_rows laid) (λ row. following laid.start laid.cycle (mark_at scratch.old) operator (laid.start + laid.cycle - row + laid.cycle) row) }
 {
     let mut beside = end;
-    let mut row = laid.start + laid.cycle;
-    while 0 < row {
-        row -= 1;
+    for row in (0..laid.start + laid.cycle).rev() {
         let truth = step_on(scratch, operator, row, beside);
         beside = watched_truth(scratch, operator, truth, row);
         put_mark(scratch, i, row, truth);
@@ -127,7 +121,7 @@ fn try_back(scratch: &mut [u8], laid: Sizes, i: usize, operator: Operator, first
 {
     let p = laid.start;
     let end = mark_onward(scratch, i, operator, first, p + laid.cycle);
-    agree(mark_at(scratch, i, p), step_on(scratch, operator, p, end))
+    mark_at(scratch, i, p) == step_on(scratch, operator, p, end)
 }
 
 // An operator over one part.
@@ -137,7 +131,12 @@ fn try_one(scratch: &mut [u8], laid: Sizes, i: usize, sort: Unary, a: usize) -> 
 {
     match sort {
         Unary::Not => {
-            mark_joined(scratch, i, a, a, laid.start + laid.cycle, false, true);
+            put_each(
+                scratch,
+                i,
+                laid.start + laid.cycle,
+                |marks, row| !mark_at(marks, a, row),
+            );
             true
         }
         Unary::Next => {
@@ -157,11 +156,21 @@ fn try_two(scratch: &mut [u8], laid: Sizes, i: usize, sort: Binary, a: usize, b:
     let operator = Operator::Two(sort, a, b);
     match sort {
         Binary::And => {
-            mark_joined(scratch, i, a, b, laid.start + laid.cycle, true, true);
+            put_each(
+                scratch,
+                i,
+                laid.start + laid.cycle,
+                |marks, row| mark_at(marks, a, row) & mark_at(marks, b, row),
+            );
             true
         }
         Binary::Or => {
-            mark_joined(scratch, i, a, b, laid.start + laid.cycle, false, false);
+            put_each(
+                scratch,
+                i,
+                laid.start + laid.cycle,
+                |marks, row| mark_at(marks, a, row) | mark_at(marks, b, row),
+            );
             true
         }
         Binary::Until => {

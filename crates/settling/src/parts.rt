@@ -3,8 +3,6 @@
 ghost use Rattle.std.specs.Prelude.{◌≡◌, true, ◌+◌, ◌<◌};
 ghost use Rattle.cltlb.specs.Fits.{atom_fits, view_fits};
 ghost use Rattle.cltlb.specs.declared.View.TheVariants as view;
-ghost use Rattle.plan.specs.inner.Sizes.{Fitting};
-ghost use Rattle.inputs.specs.inner.Read.{Ready};
 ghost use Rattle.laid_out.specs.LaidOut.{laid_out, can_be_laid};
 ghost use Rattle.words.specs.inner.Words.{most_parts, Room};
 ghost use Rattle.settling.specs.inner.Scratch.{PartTried, MadeTo, closes_on};
@@ -12,75 +10,49 @@ ghost use Rattle.settling.specs.inner.Scratch.{PartTried, MadeTo, closes_on};
 use crate::comparisons::{put_marks, steady};
 use crate::operators::try_operator;
 use cltlb::{Atom, View};
+use inputs::Inputs;
 use laid_out::numbers::laid_sizes;
-use plan::sizes::Sizes;
-use rule::Taken;
+use plan::Plan;
 use verdict::atoms::comparison_of;
 
 // A comparison: its verdicts on the cycle rows, from that pass on, come first, and its marks once it is steady.
-fn try_atom(
-    plan: &[u8],
-    scratch: &mut [u8],
-    sizes: Sizes,
-    passes: usize,
-    i: usize,
-    atom: Atom,
-) -> bool
-    requires { (Fitting plan.now sizes) × (can_be_laid plan.now passes ≡ true) × (Room scratch.old) × (i < most_parts) × (atom_fits sizes.channels atom ≡ true) }
-    ensures { PartTried (laid_out plan.now passes) scratch.old scratch.new i (view.Atom atom) result }
+fn try_atom(plan: &Plan, scratch: &mut [u8], passes: usize, i: usize, atom: Atom) -> bool
+    requires { (can_be_laid plan.now.bytes.now passes ≡ true) × (Room scratch.old) × (i < most_parts) × (atom_fits plan.now.sizes.channels atom ≡ true) }
+    ensures { PartTried (laid_out plan.now.bytes.now passes) scratch.old scratch.new i (view.Atom atom) result }
 {
     let comparison = comparison_of(atom);
-    let laid = laid_sizes(sizes, passes);
+    let laid = laid_sizes(plan.sizes, passes);
     let start = laid.start;
-    if !steady(plan, sizes, comparison, start) {
+    if !steady(plan, comparison, start) {
         return false;
     }
-    put_marks(
-        scratch,
-        plan,
-        sizes,
-        comparison,
-        i,
-        passes,
-        start + laid.cycle,
-    );
+    put_marks(scratch, plan, comparison, i, passes, start + laid.cycle);
     true
 }
 
 // A part by its view.
-fn try_view(
-    plan: &[u8],
-    scratch: &mut [u8],
-    sizes: Sizes,
-    passes: usize,
-    i: usize,
-    view: View,
-) -> bool
-    requires { (Fitting plan.now sizes) × (can_be_laid plan.now passes ≡ true) × (Room scratch.old) × (i < most_parts) × (view_fits sizes.channels i view ≡ true) }
-    ensures { PartTried (laid_out plan.now passes) scratch.old scratch.new i view result }
+fn try_view(plan: &Plan, scratch: &mut [u8], passes: usize, i: usize, view: View) -> bool
+    requires { (can_be_laid plan.now.bytes.now passes ≡ true) × (Room scratch.old) × (i < most_parts) × (view_fits plan.now.sizes.channels i view ≡ true) }
+    ensures { PartTried (laid_out plan.now.bytes.now passes) scratch.old scratch.new i view result }
 {
     match view {
-        View::Atom(atom) => try_atom(plan, scratch, sizes, passes, i, atom),
-        View::Operator(operator) => try_operator(scratch, laid_sizes(sizes, passes), i, operator),
+        View::Atom(atom) => try_atom(plan, scratch, passes, i, atom),
+        View::Operator(operator) => try_operator(
+            scratch,
+            laid_sizes(plan.sizes, passes),
+            i,
+            operator,
+        ),
     }
 }
 
 // Part `i` of a rule of `n` parts, of which the marks of the lower ones are made: whether it closes, and if so, its marks.
-pub fn try_part(
-    rule: &[u8],
-    plan: &[u8],
-    scratch: &mut [u8],
-    n: usize,
-    sizes: Sizes,
-    passes: usize,
-    i: usize,
-) -> bool
-    requires { (Ready rule.now plan.now n sizes) × (can_be_laid plan.now passes ≡ true) × (MadeTo rule.now (laid_out plan.now passes) scratch.old i) × (i < n) }
-    ensures { (result ≡ closes_on rule.now (laid_out plan.now passes) i) × (MadeTo rule.now (laid_out plan.now passes) scratch.new i) × (result ≡ true → MadeTo rule.now (laid_out plan.now passes) scratch.new (i + 1)) }
+pub fn try_part(inputs: &Inputs, scratch: &mut [u8], passes: usize, i: usize) -> bool
+    requires { (can_be_laid inputs.now.plan.bytes.now passes ≡ true) × (MadeTo inputs.now.rule.now (laid_out inputs.now.plan.bytes.now passes) scratch.old i) × (i < inputs.now.parts) }
+    ensures { (result ≡ closes_on inputs.now.rule.now (laid_out inputs.now.plan.bytes.now passes) i) × (MadeTo inputs.now.rule.now (laid_out inputs.now.plan.bytes.now passes) scratch.new i) × (result ≡ true → MadeTo inputs.now.rule.now (laid_out inputs.now.plan.bytes.now passes) scratch.new (i + 1)) }
 {
-    let taken = rule::take(rule, i);
-    let Taken::Part(part) = taken else {
+    let Ok(part) = rule::take(inputs.rule, i) else {
         return false;
     };
-    try_view(plan, scratch, sizes, passes, i, cltlb::view_of(part))
+    try_view(&inputs.plan, scratch, passes, i, cltlb::view_of(part))
 }

@@ -1,5 +1,4 @@
 pub mod AllBelow
-pub mod Blocks
 pub mod Places
 pub mod Refused
 pub mod Flips

@@ -1,19 +1,17 @@
 -- Bytes written over: none, one more, two stretches, a lent part, all of them; and what is read before them.
 -- Assumes nothing.
 use Prim.Native.Nat.{ℕ, ◌+◌, ◌-◌, ◌≤◌, ◌<◌}
-use native.Mathlib.Nat.{zero-add}
 use native.Mathlib.Decide.{dec_lt}
 use native.Mathlib.Omega.{arith}
-use mathlib.Core.Path.{◌≡◌, refl, sym, ap, ◌∙◌, subst, subst⁻¹}
+use mathlib.Core.Path.{◌≡◌, refl, ap, ◌∙◌, subst, subst⁻¹}
 use mathlib.Core.Bool.{Bool}
-use mathlib.Core.List.{List, ◌++◌, map, append-nil}
+use mathlib.Core.List.{List, ◌++◌, append-nil}
 use mathlib.Core.Logic.{inl, inr, ⊎_elim, by_cases}
 use lib.Dec.{eqb}
-use lib.ListN.{length, get_or, take, drop, set, length-set, length-map, length-append, length-drop, drop_of_length-le, get_or-append, get_or-map}
-use lib.Seq.{get_or-set_same, get_or-set_other, get_or-take, get_or-drop, length-take-le, take_all, ext_get_or}
+use lib.ListN.{length, get_or, take, drop, set, length-set, length-append, length-drop, drop_of_length-le, get_or-append}
+use lib.Seq.{get_or-set_same, get_or-set_other, get_or-take, get_or-drop, length-take-le, take_all}
 use borrow.Rule.Slice.PartMut.{mid_of, put_mid}
 use Rattle.fields.proofs.Pieces.{behind}
-use Rattle.table.specs.Bytes.{zeroed}
 use Rattle.table.specs.inner.Tables.{flipped, Sized}
 use Rattle.table.specs.inner.Stored.{Stored}
 use Rattle.table.specs.inner.Sweeps.{marks_from}
@@ -114,13 +112,6 @@ module _ (l w : List ℕ) (at n : ℕ) (e : length w ≡ n) (room : at + n ≤ l
       whole =
           ap (λ (x : List ℕ). take at l ++ (zs ++ x)) (drop_of_length-le (drop at l) long)
           ∙ ap (λ (x : List ℕ). take at l ++ x) (append-nil zs ∙ lent ∙ ap (λ (x : List ℕ). w ++ drop n x) (take_all (length l - at) (drop at l) long))
-
--- All bytes are 0.
-pub stored_zeros : (old new : List ℕ) (k : ℕ) → length old ≤ k → Stored old new 0 0 k (λ j. 0) → new ≡ zeroed old
-unfolding zeroed
-stored_zeros old new k h w =
-    ext_get_or 0 new (map (λ _. 0) old) (w.long ∙ sym (length-map old (λ _. 0))) (λ j l.
-    ap (λ (i : ℕ). get_or new i 0) (sym (zero-add j)) ∙ w.inside j (omega arith) (let n = w.long in omega arith) ∙ sym (get_or-map (λ _. 0) old j 0))
 
 -- A table is as large as it was.
 pub stored_sized : {old new : List ℕ} (n w : ℕ) {at low high : ℕ} {g : ℕ → ℕ} → Stored old new at low high g → Sized old n w → Sized new n w

@@ -1,4 +1,5 @@
 -- The bytes of a mark table of given marks and witnesses, one by one, and what is read from them. Assumes nothing.
+use Rattle.refusal.specs.Outcome.{unrefused}
 use Prim.Native.Nat.{ℕ, ◌+◌, ◌*◌, ◌≤◌, ◌<◌}
 use native.Mathlib.Nat.{zero-add}
 use native.Mathlib.Omega.{arith}
@@ -12,7 +13,6 @@ use Rattle.fields.specs.LittleEndian.{number_at, bytes_of}
 use Rattle.fields.specs.Pieces.{pieces}
 use Rattle.fields.proofs.Pieces.{behind, length-pieces, piece_byte}
 use Rattle.fields.proofs.Widths.{length_bytes, number_of_bytes}
-use Rattle.refusal.specs.declared.Outcome.TheVariants.{Clear}
 use Rattle.refusal.specs.declared.Refusal.TheVariants.{MarkSizes, MarkByte}
 use Rattle.refusal.proofs.First.{or_else_clear, unless_clear, at_lowest_clear, in_turn_clear}
 use Rattle.table.specs.Bytes.{byte_of, table_of}
@@ -107,7 +107,7 @@ module _ (n w : ℕ) (mark : ℕ → ℕ → Bool) (witness : ℕ → ℕ) where
   table_witness i h small = number_of_bytes 2 (witness i) table (4 + n * w + 2 * i) small (λ k l. witness_byte i k h l)
 
   -- Refusals 7 and 8 do not turn it away.
-  pub table_clear : n ≤ 64 → w ≤ 256 → table_outcome n w table ≡ Clear
+  pub table_clear : n ≤ 64 → w ≤ 256 → table_outcome n w table ≡ unrefused
   unfolding table_outcome sizes_fit bytes_outcome above_one mark_byte
   table_clear few_parts few_rows =
       let long : 4 ≤ length table = omega (arith, table_length) in

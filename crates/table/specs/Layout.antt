@@ -2,7 +2,7 @@
 -- eventuality, which a U promises and the negation of an R. Assumes nothing.
 use Rattle.std.specs.Prelude.{ℕ, ◌+◌, ◌*◌, List, Bool, ◌&&◌, leb, ltb, eqb, length, get_or}
 use Rattle.fields.specs.LittleEndian.{number_at}
-use Rattle.refusal.specs.declared.Outcome.{Outcome}
+use Rattle.refusal.specs.Outcome.{Outcome}
 use Rattle.refusal.specs.declared.Refusal.TheVariants.{MarkSizes, MarkByte}
 use Rattle.refusal.specs.First.{◌or_else◌, unless, at_lowest, in_turn}
 

@@ -6,7 +6,7 @@ ghost use Rattle.table.specs.inner.Tables.{Sized};
 
 use crate::sweeps::all_marks;
 use fields::u16_at;
-use refusal::{Outcome, Refusal};
+use refusal::Refusal;
 
 // Where the mark of a part on a row lies.
 pub fn place(w: usize, part: usize, row: usize) -> usize
@@ -41,44 +41,39 @@ pub fn witness_at(table: &[u8], n: usize, w: usize, part: usize) -> usize
 }
 
 // Refusal 8: the lowest part, and its lowest row, whose byte is no mark.
-fn check_bytes(table: &[u8], n: usize, w: usize) -> Outcome
+fn check_bytes(table: &[u8], n: usize, w: usize) -> Result<(), Refusal>
     requires { Sized table.now n w }
     ensures { result ≡ in_turn (bytes_outcome w table.now) n }
 {
-    let mut answer = Outcome::Clear;
-    'parts: for part in 0..n {
+    for part in 0..n {
         for row in 0..w {
             if 1 < mark_byte(table, n, w, part, row) {
-                answer = Outcome::Refused(Refusal::MarkByte {
-                    part: part,
-                    row: row,
-                });
-                break 'parts;
+                return Err(Refusal::MarkByte { part, row });
             }
         }
     }
-    answer
+    Ok(())
 }
 
 // Refusals 7 and 8 of a mark table, in this order, against `n` parts and `w` rows.
-pub fn check_table(table: &[u8], n: usize, w: usize) -> Outcome
+pub fn check_table(table: &[u8], n: usize, w: usize) -> Result<(), Refusal>
     requires { (n ≤ 64) × (w ≤ 256) }
     ensures { result ≡ table_outcome n w table.now }
 {
     if table.len() < 4 {
-        return Outcome::Refused(Refusal::MarkSizes);
+        return Err(Refusal::MarkSizes);
     }
     if u16_at(table, 0) != n {
-        return Outcome::Refused(Refusal::MarkSizes);
+        return Err(Refusal::MarkSizes);
     }
     if u16_at(table, 2) != w {
-        return Outcome::Refused(Refusal::MarkSizes);
+        return Err(Refusal::MarkSizes);
     }
     if table.len() != 4 + n * w + 2 * n {
-        return Outcome::Refused(Refusal::MarkSizes);
+        return Err(Refusal::MarkSizes);
     }
     if all_marks(table, 4, n * w) {
-        return Outcome::Clear;
+        return Ok(());
     }
     check_bytes(table, n, w)
 }

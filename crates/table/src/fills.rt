@@ -1,10 +1,10 @@
 // Marks and numbers written over places of a mark table. `m` is the place of the first mark written, `a` and `b` those of the
 // first marks read, of other parts, which all lie before `m`. Where marks are made from others, `opposite` has the opposites read and
 // written: R is U, and T is S, of the opposites, and one loop serves both. Where they are copied it has the opposites read.
-ghost use Rattle.std.specs.Prelude.{◌≡◌, false, ◌||◌, ◌+◌, ◌-◌, ◌≤◌, ◌<◌, length, get_or};
+ghost use Rattle.std.specs.Prelude.{◌≡◌, false, ◌||◌, ◌&&◌, ◌+◌, ◌-◌, ◌≤◌, ◌<◌, length, get_or};
 ghost use Rattle.fields.specs.LittleEndian.{bytes_of};
 ghost use Rattle.table.specs.Bytes.{byte_of, zeroed};
-ghost use Rattle.table.specs.inner.Tables.{flipped, most_bytes};
+ghost use Rattle.table.specs.inner.Tables.{flipped, mark_in, most_bytes};
 ghost use Rattle.table.specs.inner.Stored.{Stored};
 ghost use Rattle.table.specs.inner.Sweeps.{carried, backed, marks_from};
 
@@ -15,7 +15,15 @@ use fields::put_u16;
 fn byte(mark: bool, opposite: bool) -> u8
     ensures { result ≡ byte_of (flipped opposite mark) }
 {
-    if mark ^ opposite { 1 } else { 0 }
+    u8::from(mark ^ opposite)
+}
+
+// b, or a and the mark beside it, of the marks at `a` and `b`, or of their opposites.
+fn step_at(table: &[u8], a: usize, b: usize, beside: bool, opposite: bool) -> bool
+    requires { (a < length table.now) × (b < length table.now) }
+    ensures { result ≡ (flipped opposite (mark_in table.now b) || (flipped opposite (mark_in table.now a) && beside)) }
+{
+    step(read(table[a], opposite), read(table[b], opposite), beside)
 }
 
 // One mark.
@@ -39,10 +47,8 @@ pub fn fill_copied(table: &mut [u8], m: usize, a: usize, count: usize, opposite:
     requires { (m + count ≤ length table.old) × (a + count ≤ m) × (length table.old ≤ most_bytes) }
     ensures { Stored table.old table.new m 0 count (λ k. byte_of (marks_from opposite table.old a k)) }
 {
-    let mut k = 0;
-    while k < count {
+    for k in 0..count {
         table[m + k] = byte(read(table[a + k], opposite), false);
-        k += 1;
     }
 }
 
@@ -51,13 +57,11 @@ pub fn fill_joined(table: &mut [u8], m: usize, a: usize, b: usize, count: usize,
     requires { (m + count ≤ length table.old) × (a + count ≤ m) × (b + count ≤ m) × (length table.old ≤ most_bytes) }
     ensures { Stored table.old table.new m 0 count (λ k. byte_of (flipped opposite (marks_from opposite table.old b k || marks_from opposite table.old a k))) }
 {
-    let mut k = 0;
-    while k < count {
+    for k in 0..count {
         table[m + k] = byte(
             read(table[b + k], opposite) | read(table[a + k], opposite),
             opposite,
         );
-        k += 1;
     }
 }
 
@@ -67,15 +71,9 @@ pub fn fill_on(table: &mut [u8], m: usize, a: usize, b: usize, count: usize, opp
     ensures { Stored table.old table.new m 0 count (λ k. byte_of (flipped opposite (carried (marks_from opposite table.old a) (marks_from opposite table.old b) k))) }
 {
     let mut mark = false;
-    let mut k = 0;
-    while k < count {
-        mark = step(
-            read(table[a + k], opposite),
-            read(table[b + k], opposite),
-            mark,
-        );
+    for k in 0..count {
+        mark = step_at(table, a + k, b + k, mark, opposite);
         table[m + k] = byte(mark, opposite);
-        k += 1;
     }
 }
 
@@ -92,14 +90,8 @@ pub fn swept_back(
     ensures { result ≡ backed (marks_from opposite table.now a) (marks_from opposite table.now b) false count from }
 {
     let mut mark = false;
-    let mut k = from + count;
-    while from < k {
-        k -= 1;
-        mark = step(
-            read(table[a + k], opposite),
-            read(table[b + k], opposite),
-            mark,
-        );
+    for k in (from..from + count).rev() {
+        mark = step_at(table, a + k, b + k, mark, opposite);
     }
     mark
 }
@@ -118,14 +110,8 @@ pub fn fill_back(
     ensures { Stored table.old table.new m 0 count (λ k. byte_of (flipped opposite (backed (marks_from opposite table.old a) (marks_from opposite table.old b) end (count - k) k))) }
 {
     let mut mark = end;
-    let mut k = count;
-    while 0 < k {
-        k -= 1;
-        mark = step(
-            read(table[a + k], opposite),
-            read(table[b + k], opposite),
-            mark,
-        );
+    for k in (0..count).rev() {
+        mark = step_at(table, a + k, b + k, mark, opposite);
         table[m + k] = byte(mark, opposite);
     }
 }
@@ -135,9 +121,5 @@ pub fn clear(table: &mut [u8])
     requires { length table.old ≤ most_bytes }
     ensures { table.new ≡ zeroed table.old }
 {
-    let mut k = 0;
-    while k < table.len() {
-        table[k] = 0;
-        k += 1;
-    }
+    table.fill(0);
 }

@@ -1,25 +1,18 @@
 // Sweeps over the bytes of a mark table. Each goes through all its places and leaves none early, so that the compiler can
 // take many at once; what it finds is that nothing is amiss. No table is longer than 4 + 64 × 256 + 2 × 64 bytes. Where every
 // byte is known to be a mark, 0 or 1, marks are compared as bytes, without reading each one.
-ghost use Rattle.std.specs.Prelude.{◌≡◌, true, false, cond, not, ◌&&◌, ◌||◌, ◌+◌, ◌≤◌, eqb, ltb, length, get_or};
+ghost use Rattle.std.specs.Prelude.{◌≡◌, true, false, not, ◌&&◌, ◌||◌, ◌+◌, ◌≤◌, eqb, ltb, length, get_or};
 ghost use Rattle.std.specs.Bool.{beq};
 ghost use Rattle.table.specs.inner.Tables.{all_below, flipped, copy_of, copies_of, step_of, steps_of, mark_in, most_bytes, MarkBytes};
 
-// The marks that are taken at once.
-const BLOCK: usize = 16;
+use crate::all::{all_hold, all_hold_in_blocks};
 
 // Every one of `count` bytes from `at` on is a mark, 0 or 1.
 pub fn all_marks(table: &[u8], at: usize, count: usize) -> bool
     requires { (at + count ≤ length table.now) × (length table.now ≤ most_bytes) }
     ensures { result ≡ all_below (λ k. not (ltb 1 (get_or table.now (at + k) 0))) count }
 {
-    let mut all = true;
-    let mut k = 0;
-    while k < count {
-        all = all & !(1 < table[at + k]);
-        k += 1;
-    }
-    all
+    all_hold(count, |k| table[at + k] <= 1)
 }
 
 // None of `count` marks from `m` on is 1.
@@ -27,13 +20,7 @@ pub fn none_marked(table: &[u8], m: usize, count: usize) -> bool
     requires { (m + count ≤ length table.now) × (length table.now ≤ most_bytes) }
     ensures { result ≡ all_below (λ k. not (mark_in table.now (m + k))) count }
 {
-    let mut all = true;
-    let mut k = 0;
-    while k < count {
-        all = all & !(table[m + k] == 1);
-        k += 1;
-    }
-    all
+    all_hold(count, |k| table[m + k] != 1)
 }
 
 // A byte read as a mark, or as its opposite.
@@ -57,26 +44,12 @@ pub fn step(a: bool, b: bool, next: bool) -> bool
     b | (a & next)
 }
 
-// The larger of two bytes: of marks, or.
-fn higher(x: u8, y: u8) -> u8
-    ensures { result ≡ cond (ltb x y) y x }
-{
-    if x < y { y } else { x }
-}
-
-// The smaller of two bytes: of marks, and.
-fn lower(x: u8, y: u8) -> u8
-    ensures { result ≡ cond (ltb x y) x y }
-{
-    if x < y { x } else { y }
-}
-
 // A mark is b, or a and next.
 fn up(m: u8, a: u8, b: u8, next: u8) -> bool
     requires { (m ≤ 1) × (a ≤ 1) × (b ≤ 1) × (next ≤ 1) }
     ensures { result ≡ step_of false (eqb m 1) (eqb a 1) (eqb b 1) (eqb next 1) }
 {
-    m == higher(b, lower(a, next))
+    m == b.max(a.min(next))
 }
 
 // A mark is b, and (a or next): b, or a and next, of the opposites of all four.
@@ -84,7 +57,7 @@ fn down(m: u8, a: u8, b: u8, next: u8) -> bool
     requires { (m ≤ 1) × (a ≤ 1) × (b ≤ 1) × (next ≤ 1) }
     ensures { result ≡ step_of true (eqb m 1) (eqb a 1) (eqb b 1) (eqb next 1) }
 {
-    m == lower(b, higher(a, next))
+    m == b.min(a.max(next))
 }
 
 // The mark at `m` is the one at `a`.
@@ -95,31 +68,12 @@ pub fn copied(table: &[u8], m: usize, a: usize) -> bool
     table[m] == table[a]
 }
 
-// The `count` marks from `m` on are those from `a` on, each looked at once.
-fn copies_each(table: &[u8], m: usize, a: usize, count: usize) -> bool
-    requires { (MarkBytes table.now m count) × (MarkBytes table.now a count) × (length table.now ≤ most_bytes) }
-    ensures { result ≡ copies_of false (λ k. mark_in table.now (m + k)) (λ k. mark_in table.now (a + k)) count }
-{
-    let mut all = true;
-    let mut k = 0;
-    while k < count {
-        all = all & (table[m + k] == table[a + k]);
-        k += 1;
-    }
-    all
-}
-
-// The `count` marks from `m` on are those from `a` on. The last block is taken back from the end, some marks a second time, so that
-// few are left to be taken alone.
+// The `count` marks from `m` on are those from `a` on.
 pub fn copies(table: &[u8], m: usize, a: usize, count: usize) -> bool
     requires { (MarkBytes table.now m count) × (MarkBytes table.now a count) × (length table.now ≤ most_bytes) }
     ensures { result ≡ copies_of false (λ k. mark_in table.now (m + k)) (λ k. mark_in table.now (a + k)) count }
 {
-    if count < BLOCK {
-        return copies_each(table, m, a, count);
-    }
-    let last = count - BLOCK;
-    copies_each(table, m, a, count - count % BLOCK) & copies_each(table, m + last, a + last, BLOCK)
+    all_hold_in_blocks(count, |k| table[m + k] == table[a + k])
 }
 
 // The `count` marks from `m` on are the opposites of those from `a` on.
@@ -127,13 +81,7 @@ pub fn opposites(table: &[u8], m: usize, a: usize, count: usize) -> bool
     requires { (MarkBytes table.now m count) × (MarkBytes table.now a count) × (length table.now ≤ most_bytes) }
     ensures { result ≡ copies_of true (λ k. mark_in table.now (m + k)) (λ k. mark_in table.now (a + k)) count }
 {
-    let mut all = true;
-    let mut k = 0;
-    while k < count {
-        all = all & (table[m + k] != table[a + k]);
-        k += 1;
-    }
-    all
+    all_hold(count, |k| table[m + k] != table[a + k])
 }
 
 // The mark at `m` is b, or a and next, which are the marks at `b`, `a` and `next`; or it is so of the opposites of all four.
@@ -148,56 +96,8 @@ pub fn stepped(table: &[u8], m: usize, a: usize, b: usize, next: usize, opposite
     }
 }
 
-// Each of the `count` marks from `m` on is b, or a and next.
-fn steps_up(table: &[u8], m: usize, a: usize, b: usize, next: usize, count: usize) -> bool
-    requires { (MarkBytes table.now m count) × (MarkBytes table.now a count) × (MarkBytes table.now b count) × (MarkBytes table.now next count) × (length table.now ≤ most_bytes) }
-    ensures { result ≡ steps_of false (λ k. mark_in table.now (m + k)) (λ k. mark_in table.now (a + k)) (λ k. mark_in table.now (b + k)) (λ k. mark_in table.now (next + k)) count }
-{
-    let mut all = true;
-    let mut k = 0;
-    while k < count {
-        all = all & up(table[m + k], table[a + k], table[b + k], table[next + k]);
-        k += 1;
-    }
-    all
-}
-
-// Each of the `count` marks from `m` on is b, and (a or next).
-fn steps_down(table: &[u8], m: usize, a: usize, b: usize, next: usize, count: usize) -> bool
-    requires { (MarkBytes table.now m count) × (MarkBytes table.now a count) × (MarkBytes table.now b count) × (MarkBytes table.now next count) × (length table.now ≤ most_bytes) }
-    ensures { result ≡ steps_of true (λ k. mark_in table.now (m + k)) (λ k. mark_in table.now (a + k)) (λ k. mark_in table.now (b + k)) (λ k. mark_in table.now (next + k)) count }
-{
-    let mut all = true;
-    let mut k = 0;
-    while k < count {
-        all = all & down(table[m + k], table[a + k], table[b + k], table[next + k]);
-        k += 1;
-    }
-    all
-}
-
 // Each of the `count` marks from `m` on is b, or a and next, which are the marks from `b`, `a` and `next` on; or it is so of
-// the opposites of all four, that is, each is b, and (a or next). Each is looked at once.
-fn steps_each(
-    table: &[u8],
-    m: usize,
-    a: usize,
-    b: usize,
-    next: usize,
-    count: usize,
-    opposite: bool,
-) -> bool
-    requires { (MarkBytes table.now m count) × (MarkBytes table.now a count) × (MarkBytes table.now b count) × (MarkBytes table.now next count) × (length table.now ≤ most_bytes) }
-    ensures { result ≡ steps_of opposite (λ k. mark_in table.now (m + k)) (λ k. mark_in table.now (a + k)) (λ k. mark_in table.now (b + k)) (λ k. mark_in table.now (next + k)) count }
-{
-    if opposite {
-        steps_down(table, m, a, b, next, count)
-    } else {
-        steps_up(table, m, a, b, next, count)
-    }
-}
-
-// As `steps_each`. The last block is taken back from the end, some marks a second time, so that few are left to be taken alone.
+// the opposites of all four, that is, each is b, and (a or next).
 pub fn steps(
     table: &[u8],
     m: usize,
@@ -210,18 +110,13 @@ pub fn steps(
     requires { (MarkBytes table.now m count) × (MarkBytes table.now a count) × (MarkBytes table.now b count) × (MarkBytes table.now next count) × (length table.now ≤ most_bytes) }
     ensures { result ≡ steps_of opposite (λ k. mark_in table.now (m + k)) (λ k. mark_in table.now (a + k)) (λ k. mark_in table.now (b + k)) (λ k. mark_in table.now (next + k)) count }
 {
-    if count < BLOCK {
-        return steps_each(table, m, a, b, next, count, opposite);
+    if opposite {
+        all_hold_in_blocks(count, |k| {
+            down(table[m + k], table[a + k], table[b + k], table[next + k])
+        })
+    } else {
+        all_hold_in_blocks(count, |k| {
+            up(table[m + k], table[a + k], table[b + k], table[next + k])
+        })
     }
-    let last = count - BLOCK;
-    steps_each(table, m, a, b, next, count - count % BLOCK, opposite)
-        & steps_each(
-            table,
-            m + last,
-            a + last,
-            b + last,
-            next + last,
-            BLOCK,
-            opposite,
-        )
 }

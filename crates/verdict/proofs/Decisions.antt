@@ -195,7 +195,7 @@ module _ (B D a d b e : ℕ) where
   equal_once h g = simp (bias_lt_z a b B, le-ltb a b (omega arith), bias_lt_z b a B, le-ltb b a (omega arith), bias_eq_z d e D, ne_eqb d e g)
 
   -- and by which of the two is behind
-  below_meets : a < b → cond (ltb e d && eqb ((b - a) % (d - e)) 0) Changes AlwaysFalse ≡ judge_equal (lifted B D a d) (lifted B D b e)
+  pub below_meets : a < b → cond (ltb e d && eqb ((b - a) % (d - e)) 0) Changes AlwaysFalse ≡ judge_equal (lifted B D a d) (lifted B D b e)
   below_meets h =
       by_cases (dec_lt e d)
       (λ g. by_cases (ℕ_discrete ((b - a) % (d - e)) 0)
@@ -217,17 +217,9 @@ module _ (B D a d b e : ℕ) where
       (λ z. rw (equal_always (omega arith) z) (λ k. ap (λ (x : ℕ). a + k * x) z ∙ omega arith))
       (λ z. rw (equal_once (omega arith) z) ((0, omega (arith, zero-mul d, zero-mul e)), (1, λ l. z (omega (arith, one-mul d, one-mul e)))))))
 
--- Two lines that are not the same at first.
-pub equal_apart : (B D a d b e : ℕ) → (a ≡ b → ⊥) → {gap own other : ℕ} → gap ≡ (a - b) + (b - a) → own ≡ cond (ltb a b) d e → other ≡ cond (ltb a b) e d
-    → cond (ltb other own && eqb (gap % (own - other)) 0) Changes AlwaysFalse ≡ judge_equal (lifted B D a d) (lifted B D b e)
-equal_apart B D a d b e h {gap} g o p =
-    by_cases (dec_lt a b)
-    (λ l. let k : (a - b) + (b - a) ≡ b - a = omega arith in rw (o, p, g, k, lt-ltb a b l) (below_meets B D a d b e l))
-    (λ l. let k : (a - b) + (b - a) ≡ a - b = omega arith in let m : b < a = by_cases (dec_lt b a) (λ q. q) (λ q. absurd (h (omega arith))) in
-    rw (o, p, g, k, le-ltb a b (omega arith)) (below_meets B D b e a d m ∙ equal_turned B D a d b e m))
-  where
-    equal_turned : (B D a d b e : ℕ) → b < a → judge_equal (lifted B D b e) (lifted B D a d) ≡ judge_equal (lifted B D a d) (lifted B D b e)
-    equal_turned B D a d b e m = equal_below B D b e a d m ∙ sym (equal_above B D a d b e m)
+-- Two lines, of which the first is above the second at first.
+pub above_meets : (B D a d b e : ℕ) → b < a → cond (ltb d e && eqb ((a - b) % (e - d)) 0) Changes AlwaysFalse ≡ judge_equal (lifted B D a d) (lifted B D b e)
+above_meets B D a d b e m = below_meets B D b e a d m ∙ equal_below B D b e a d m ∙ sym (equal_above B D a d b e m)
 
 -- ---- the verdicts
 

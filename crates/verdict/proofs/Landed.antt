@@ -87,11 +87,16 @@ module _ {plan : List ℕ} {z : Sizes} (f : Fitting plan z) where
       (omega (arith, there.0, within.0), omega (arith, there.1), omega (arith, there.1, within.1))
 
   -- so are those of a term that does not reach before the cycle
-  pub line_reached : (row : ℕ) → z.start ≤ row → (x : Term) (l : Landing) → Lands z row x l → (k : ℕ) → z.start + reach x ≤ row + k * z.cycle → row + k * z.cycle ≤ latest z
+  line_reached : (row : ℕ) → z.start ≤ row → (x : Term) (l : Landing) → Lands z row x l → (k : ℕ) → z.start + reach x ≤ row + k * z.cycle → row + k * z.cycle ≤ latest z
       → Reached z l k
   line_reached row h x l there k g far =
       landing_reached l (row + k * z.cycle + there.code) k (lands_at row h x l there k)
       (read_inside x z.start (row + k * z.cycle) there.code g there.is_code) (omega (arith, there.small, f.a_cycle))
+
+  pub both_reached : (row : ℕ) → z.start ≤ row → (x : Comparison) (left right : Landing) → BothLand z row x left right → (k : ℕ)
+      → (z.start + reach x.left ≤ row + k * z.cycle) × (z.start + reach x.right ≤ row + k * z.cycle) → row + k * z.cycle ≤ latest z
+      → Reached z left k × Reached z right k
+  both_reached row h x left right there k g far = (line_reached row h x.left left there.0 k g.0 far, line_reached row h x.right right there.1 k g.1 far)
 
   pub seen_landed : (channel : ℕ) (l : Landing) (ahead k top a : ℕ) → LandsAt plan z l ahead k → z.start + 4 ≤ ahead → pos top ≡ top_of plan channel
       → lowered a ≡ reading_on plan channel l.row (k + l.off - 4) → {s : Seen} → s ≡ under (pos top) (lowered a) → s ≡ run_of plan channel (sub_ℕ ahead 4)
@@ -124,10 +129,7 @@ module _ {plan : List ℕ} {z : Sizes} (f : Fitting plan z) where
     here = omega arith
 
     pub from_reached : t ≤ latest z → Reached z left 0 × Reached z right 0
-    from_reached far = (
-      line_reached t (omega arith) x.left left there.0 0 (omega (arith, g.0)) (omega arith),
-      line_reached t (omega arith) x.right right there.1 0 (omega (arith, g.1)) (omega arith),
-    )
+    from_reached far = both_reached t (omega (arith, g.0)) x left right there 0 (omega (arith, g.0), omega (arith, g.1)) (omega arith)
 
     pub judged_from : judge_landed plan x left right 0 ≡ judge_from plan x t
     judged_from = judged_landed t (omega (arith, g.0)) x left right there 0 (omega (arith, g.0), omega (arith, g.1)) ∙ ap (judge_from plan x) (sym here)

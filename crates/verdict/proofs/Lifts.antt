@@ -1,7 +1,7 @@
 -- Constants and shifts, signed numbers of 32 bits, kept without a sign. Assumes nothing.
-use Prim.Native.Nat.{ℕ, suc, ◌+◌, ◌*◌, ◌-◌, ◌≤◌, ◌<◌}
+use Prim.Native.Nat.{ℕ, suc, ◌+◌, ◌*◌, ◌-◌, ◌≤◌}
 use native.Mathlib.Omega.{arith}
-use mathlib.Core.Path.{◌≡◌, refl, ap, ◌∙◌}
+use mathlib.Core.Path.{◌≡◌, ap, ◌∙◌}
 use mathlib.Core.Bool.{true}
 use lib.IntN.{ℤ, pos, negsuc, sub_ℕ}
 use mir.Syntax.{w32}
@@ -39,12 +39,7 @@ module _ (b : ℕ) where
   pub code_is : (s : ℤ) → bias - 4 ≤ b → unbiased b ≡ s → sub_ℕ (b - (bias - 4)) 4 ≡ s
   code_is s h e = sub_same (b - (bias - 4)) 4 b bias (omega arith) ∙ e
 
-  pub reaches_back : (s : ℤ) → b < bias → unbiased b ≡ s → bias - b ≡ back s
+  pub reaches : (s : ℤ) → unbiased b ≡ s → bias - b ≡ back s
   unfolding back
-  reaches_back (pos n) h e = absurd (omega (arith, lift_on n e))
-  reaches_back (negsuc n) h e = omega (arith, lift_back n e)
-
-  pub reaches_on : (s : ℤ) → bias ≤ b → unbiased b ≡ s → 0 ≡ back s
-  unfolding back
-  reaches_on (pos n) h e = refl
-  reaches_on (negsuc n) h e = absurd (omega (arith, lift_back n e))
+  reaches (pos n) e = omega (arith, lift_on n e)
+  reaches (negsuc n) e = omega (arith, lift_back n e)

@@ -1,5 +1,5 @@
 -- The stretches of two lines are right: a pass lies in one exactly where the lines compare so on it. Assumes nothing.
-use Prim.Native.Nat.{ℕ, ◌+◌, ◌*◌, ◌-◌, ◌/◌, max, min, ◌≤◌, ◌<◌}
+use Prim.Native.Nat.{ℕ, ◌+◌, ◌*◌, ◌-◌, ◌/◌, ◌≤◌, ◌<◌}
 use native.Mathlib.Nat.{mul-le-mul_left, le-div_iff_mul-le, div-lt_iff_lt-mul}
 use native.Mathlib.Decide.{dec_lt}
 use native.Mathlib.Omega.{arith}
@@ -7,13 +7,12 @@ use mathlib.Core.Path.{◌≡◌, refl, ap, ◌∙◌}
 use mathlib.Core.Bool.{true, false}
 use mathlib.Core.Logic.Iff
 use mathlib.Core.Logic.{◌↔◌, by_cases}
-use lib.Dec.{ltb, eqb}
 use lib.IntN.{ℤ, sub_ℕ, ◌+ℤ◌}
 use lib.Signed.{◌<ℤ◌, lt_z}
 use borrow.Author.Tests.{lt-ltb, le-ltb, ltb-true, ltb-false}
 use Rattle.fields.proofs.Differences.{pos_sub, sub-add, sub_same}
 use Rattle.verdict.specs.Lines.{Line, on_pass, raised}
-use Rattle.verdict.specs.Stretches.{is_all, has_pass, common, passes_below, passes_at_most, passes_same}
+use Rattle.verdict.specs.Stretches.{has_pass, common, passes_below, passes_at_most, passes_same}
 use Rattle.verdict.specs.declared.stretches.Stretch.{Stretch}
 use Rattle.verdict.specs.declared.stretches.Stretch.TheVariants.{From, Between}
 use Rattle.verdict.proofs.Decisions.{bias_eq, bias_lt_z, bias_gap, lifted, by_lifted, lifted_pass, pass_lt, gap}
@@ -112,38 +111,3 @@ same_lies = by_lifted (λ x y. (k : ℕ) → Lies (passes_same x y) k ↔ (on_pa
       λ h. let low = (at_most_lifted B D a d b e k).0 h.0 in let high = (at_most_lifted B D b e a d k).0 h.1 in omega arith,
       λ h. ((at_most_lifted B D a d b e k).1 (omega arith), (at_most_lifted B D b e a d k).1 (omega arith)),
     )
-
--- ---- as the code finds them
-
-module _ {p q : Stretch} {a b : ℕ} where
-  pub meet_endless : {m : ℕ} → p ≡ From a → q ≡ From b → m ≡ max a b → From m ≡ common p q
-  unfolding common
-  meet_endless f g h = rw (f, g, h)
-
-  pub meet_right_end : {m e : ℕ} → p ≡ From a → q ≡ Between b e → m ≡ max a b → Between m e ≡ common p q
-  unfolding common
-  meet_right_end f g h = rw (f, g, h)
-
-  pub meet_left_end : {m d : ℕ} → p ≡ Between a d → q ≡ From b → m ≡ max a b → Between m d ≡ common p q
-  unfolding common
-  meet_left_end f g h = rw (f, g, h)
-
-  pub meet_ends : {m n d e : ℕ} → p ≡ Between a d → q ≡ Between b e → m ≡ max a b → n ≡ min d e → Between m n ≡ common p q
-  unfolding common
-  meet_ends f g h i = rw (f, g, h, i)
-
-pub endless_all : {p : Stretch} {a : ℕ} → p ≡ From a → eqb a 0 ≡ is_all p
-unfolding is_all
-endless_all e = rw e
-
-pub ended_all : {p : Stretch} {a b : ℕ} → p ≡ Between a b → false ≡ is_all p
-unfolding is_all
-ended_all e = rw e
-
-pub endless_has : {p : Stretch} {a : ℕ} → p ≡ From a → true ≡ has_pass p
-unfolding has_pass
-endless_has e = rw e
-
-pub ended_has : {p : Stretch} {a b : ℕ} → p ≡ Between a b → ltb a b ≡ has_pass p
-unfolding has_pass
-ended_has e = rw e

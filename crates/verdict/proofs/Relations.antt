@@ -74,6 +74,18 @@ test_before Same b = refl
 test_before (Within n) b = refl
 test_before Pinned b = refl
 
+-- Where the left one is pinned the test holds of the relation that asks it, and of no other.
+pub asks_pinned : (relation : Relation) → relation ≡ Pinned → (b : Seen) → true ≡ tested relation pinned b
+unfolding seen_pinned tested
+asks_pinned relation e b = rw e refl
+
+pub asks_other : (relation : Relation) → (relation ≡ Pinned → ⊥) → (b : Seen) → false ≡ tested relation pinned b
+unfolding of_number of_numbers tested
+asks_other Below h b = refl
+asks_other Same h b = refl
+asks_other (Within n) h b = refl
+asks_other Pinned h b = absurd (h refl)
+
 -- No number is seen before the run.
 before_number : (a : ℤ) → before_run ≡ number a → ⊥
 before_number a e = let z : ◌≡◌ {A = ℕ} 0 1 = cc in absurd (omega arith)

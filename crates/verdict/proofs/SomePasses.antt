@@ -181,12 +181,3 @@ walk_found n B D a d b e first passes {m} {s} {r} em es h =
     found : s ≡ minutes_after (sub_ℕ a B) (sub_ℕ b B) → m ≡ minutes_after (sub_ℕ d D) (sub_ℕ e D)
         → Enters (walk week ((s + first % week * m) % week) m passes) n ↔ SomePass (within_on n (lifted B D a d) (lifted B D b e)) first passes
     found f g = rw (f, g) (walk_within n (lifted B D a d) (lifted B D b e) first passes)
-
-module _ (n : ℕ) (x y : Line) {p : Stretch} {a : ℕ} {r : Bool} where
-  pub endless_within : p ≡ From a → r ≡ some_from (within_on n x y) a week → r ≡ some_within n x y p
-  unfolding some_within
-  endless_within e h = rw e h
-
-  pub ended_within : {b m k : ℕ} → p ≡ Between a b → m ≡ b - a → k ≡ min m week → r ≡ some_from (within_on n x y) a k → r ≡ some_within n x y p
-  unfolding some_within
-  ended_within e f g h = rw e (h ∙ ap (some_from (within_on n x y) a) (g ∙ ap (λ (i : ℕ). min i week) f))

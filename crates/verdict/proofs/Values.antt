@@ -108,13 +108,14 @@ module _ (relation : Relation) (a b : Seen) where
     unfolding seen_of
     tested_numbers n f h = rw (e, f) (h ∙ sym (test_numbers relation (lowered m) (lowered n)))
 
-    pub tested_one : b ≡ Pinned → false ≡ tested relation (seen_of a) (seen_of b)
+    pub tested_one : ((n : ℕ) → b ≡ Number n → ⊥) → false ≡ tested relation (seen_of a) (seen_of b)
     unfolding seen_of
-    tested_one f = rw (e, f) (sym (test_one relation (lowered m)).0)
-
-    pub tested_alone : b ≡ BeforeRun → false ≡ tested relation (seen_of a) (seen_of b)
-    unfolding seen_of
-    tested_alone f = rw (e, f) (sym (test_one relation (lowered m)).1)
+    tested_one f = rw e (alone b f)
+      where
+        alone : (b : Seen) → ((n : ℕ) → b ≡ Number n → ⊥) → false ≡ tested relation (cltlb.number (lowered m)) (seen_of b)
+        alone (Number n) f = absurd (f n refl)
+        alone Pinned f = sym (test_one relation (lowered m)).0
+        alone BeforeRun f = sym (test_one relation (lowered m)).1
 
   pub tested_pinned : a ≡ Pinned → {r : Bool} → ((y : cltlb.Seen) → r ≡ tested relation cltlb.pinned y) → r ≡ tested relation (seen_of a) (seen_of b)
   unfolding seen_of
@@ -163,26 +164,30 @@ module _ (z : Sizes) (x : Comparison) (m : ℕ) (e : m ≡ max (reach x.left) (r
   pub farther_in : (t : ℕ) → z.start + m ≤ t → (z.start + reach x.left ≤ t) × (z.start + reach x.right ≤ t)
   farther_in t h = omega (arith, le-max_left (reach x.left) (reach x.right), le-max_right (reach x.left) (reach x.right))
 
--- no pass is left
-pub all_joined : (f : ℕ → Bool) (k : ℕ) → k ≤ 0 → (whole verdict : Verdict) → whole ≡ join_first f k verdict → verdict ≡ whole
-unfolding join_first
-all_joined f k h whole verdict e = let s : k ≡ 0 = omega arith in sym (e ∙ ap (λ (i : ℕ). join_first f i verdict) s)
+-- the first passes, put in front one by one
+module _ (truth : ℕ → Bool) (k : ℕ) (whole verdict : Verdict) (e : whole ≡ join_first truth k verdict) where
+  pub pass_joined : 0 < k → {b : Bool} {r : Verdict} → b ≡ truth (k - 1) → r ≡ join b verdict → whole ≡ join_first truth (k - 1) r
+  unfolding join_first
+  pass_joined h t j =
+      let s : k ≡ suc (k - 1) = omega arith in
+      e
+      ∙ ap (λ (i : ℕ). join_first truth i verdict) s
+      ∙ ap (join_first truth (k - 1)) (sym (j ∙ ap (λ (b : Bool). join b verdict) t))
+
+  -- no pass is left
+  pub all_joined : k ≤ 0 → verdict ≡ whole
+  unfolding join_first
+  all_joined h = let s : k ≡ 0 = omega arith in sym (e ∙ ap (λ (i : ℕ). join_first truth i verdict) s)
 
 -- the truth of a comparison on the passes from a position on
 abbrev pub pass_test : List ℕ → Comparison → ℕ → ℕ → Bool
 pass_test plan x row k = test_at plan x (row + k * cycle_rows plan)
 
 module _ {plan : List ℕ} {z : Sizes} (f : Fitting plan z) (x : Comparison) where
-  -- a pass, put in front
-  pub pass_joined : (row k : ℕ) → 0 < k → (whole verdict r : Verdict) (b : Bool) → whole ≡ join_first (pass_test plan x row) k verdict
-      → b ≡ test_at plan x (row + (k - 1) * z.cycle) → r ≡ join b verdict → whole ≡ join_first (pass_test plan x row) (k - 1) r
-  unfolding join_first
-  pass_joined row k h whole verdict r b e t j =
-      let s : k ≡ suc (k - 1) = omega arith in
-      e
-      ∙ ap (λ (i : ℕ). join_first (pass_test plan x row) i verdict) s
-      ∙ ap (join_first (pass_test plan x row) (k - 1))
-      (sym (j ∙ ap (λ (b : Bool). join b verdict) (t ∙ ap (λ (i : ℕ). test_at plan x (row + (k - 1) * i)) (sym f.c_is))))
+  -- the first passes, by the sizes
+  pub passes_joined : (row n : ℕ) (later : Verdict) {r : Verdict} → r ≡ join_first (λ k. test_at plan x (row + k * z.cycle)) n later
+      → r ≡ join_first (pass_test plan x row) n later
+  passes_joined row n later e = e ∙ ap (λ (c : ℕ). join_first (λ k. test_at plan x (row + k * c)) n later) (sym f.c_is)
 
   -- the passes from a position of the cycle on: from the n-th on neither term reaches before the cycle
   pub cycle_is : TermsFit z x → (row n : ℕ) → z.start ≤ row

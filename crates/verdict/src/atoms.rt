@@ -1,7 +1,7 @@
 // An atom as the comparison that it is, on a row, over all passes, and at a position.
 ghost use Rattle.std.specs.Prelude.{◌≡◌, true, ◌≤◌, ◌<◌};
 ghost use Rattle.cltlb.specs.Fits.{atom_fits};
-ghost use Rattle.plan.specs.inner.Sizes.{all_rows, Fitting};
+ghost use Rattle.plan.specs.inner.Sizes.{all_rows};
 ghost use Rattle.verdict.specs.Comparisons.{comparison_of};
 ghost use Rattle.verdict.specs.Rows.{atom_at};
 ghost use Rattle.verdict.specs.inner.Reach.{FitsSome, latest};
@@ -11,7 +11,7 @@ use crate::rows::{judge_comparison, test_at};
 use crate::weeks::minutes_after;
 use crate::{Comparison, Relation, Verdict};
 use cltlb::{Atom, Term};
-use plan::sizes::Sizes;
+use plan::Plan;
 
 // The comparison that an atom is.
 pub fn comparison_of(atom: Atom) -> Comparison
@@ -48,17 +48,17 @@ pub fn comparison_of(atom: Atom) -> Comparison
 }
 
 // The verdict on an atom, on a row.
-pub fn judge_row(plan: &[u8], sizes: Sizes, atom: Atom, row: usize) -> Verdict
-    requires { (Fitting plan.now sizes) × (atom_fits sizes.channels atom ≡ true) × (row < all_rows sizes) }
-    ensures { Judgement plan.now atom row result }
+pub fn judge_row(plan: &Plan, atom: Atom, row: usize) -> Verdict
+    requires { (atom_fits plan.now.sizes.channels atom ≡ true) × (row < all_rows plan.now.sizes) }
+    ensures { Judgement plan.now.bytes.now atom row result }
 {
-    judge_comparison(plan, sizes, comparison_of(atom), row)
+    judge_comparison(plan, comparison_of(atom), row)
 }
 
 // The truth of an atom at position t.
-pub fn atom_at(plan: &[u8], sizes: Sizes, atom: Atom, t: usize) -> bool
-    requires { (Fitting plan.now sizes) × (atom_fits sizes.channels atom ≡ true) × (t ≤ latest sizes) }
-    ensures { result ≡ atom_at plan.now atom t }
+pub fn atom_at(plan: &Plan, atom: Atom, t: usize) -> bool
+    requires { (atom_fits plan.now.sizes.channels atom ≡ true) × (t ≤ latest plan.now.sizes) }
+    ensures { result ≡ atom_at plan.now.bytes.now atom t }
 {
-    test_at(plan, sizes, comparison_of(atom), t)
+    test_at(plan, comparison_of(atom), t)
 }

@@ -19,10 +19,9 @@ fn gentle(w: Walk, len: u64) -> Walk
 {
     if w.lap < 2 * w.step {
         return Walk {
-            lap: w.lap,
             at: w.lap + len - 1 - w.at,
             step: w.lap - w.step,
-            passes: w.passes,
+            ..w
         };
     }
     w
@@ -48,6 +47,7 @@ pub fn enters(walk: Walk, len: u64) -> bool
     ensures { (result ≡ true) ↔ Enters walk len }
 {
     let mut w = walk;
+    // No `for`: the walk of the laps takes the walk's place.
     while 0 < w.passes {
         if w.at < len {
             return true;

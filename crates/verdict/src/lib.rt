@@ -7,7 +7,6 @@ ghost use Rattle.verdict.specs.Meaning.{is_changes};
 use cltlb::Term;
 
 pub mod atoms;
-pub mod bounds;
 pub mod early;
 pub mod laps;
 pub mod lines;
@@ -18,7 +17,7 @@ pub mod tops;
 pub mod weeks;
 
 // What a comparison is on the passes of a row.
-#[derive(Clone, Copy)]
+#[derive(Clone, Copy, PartialEq, Eq)]
 pub enum Verdict {
     AlwaysTrue,
     AlwaysFalse,
@@ -29,11 +28,7 @@ pub enum Verdict {
 pub fn is_changes(verdict: Verdict) -> bool
     ensures { result ≡ is_changes verdict }
 {
-    match verdict {
-        Verdict::AlwaysTrue => false,
-        Verdict::AlwaysFalse => false,
-        Verdict::Changes => true,
-    }
+    verdict == Verdict::Changes
 }
 
 // What a comparison asks of its two terms: that they are numbers, the left one below the right one, or the same, or less than so many

@@ -4,7 +4,6 @@ ghost use Rattle.verdict.specs.Lines.{judge_less, judge_equal};
 ghost use Rattle.verdict.specs.Comparisons.{judge_lines};
 ghost use Rattle.verdict.specs.inner.Lifted.{line_of};
 
-use crate::bounds::{apart, either};
 use crate::weeks::decide_within;
 use crate::{Relation, Verdict};
 
@@ -36,16 +35,14 @@ fn decide_less(x: LiftedLine, y: LiftedLine) -> Verdict
 fn decide_meeting(gap: u64, steeper: u64, other: u64) -> Verdict
     ensures { result ≡ cond (ltb other steeper && eqb (gap % (steeper - other)) 0) Verdict.Changes Verdict.AlwaysFalse }
 {
-    if other < steeper {
-        if gap % (steeper - other) == 0 {
-            return Verdict::Changes;
-        }
+    if other < steeper && gap % (steeper - other) == 0 {
+        return Verdict::Changes;
     }
     Verdict::AlwaysFalse
 }
 
-// Which of two lines is behind is told by numbers alone, so that the remainder stands in one place: the function is then small enough
-// for the compiler to put it into its callers.
+// Which of two lines is behind is told first, so that the remainder stands in one place: the function is then small enough for the
+// compiler to put it into its callers.
 fn decide_equal(x: LiftedLine, y: LiftedLine) -> Verdict
     ensures { result ≡ judge_equal (line_of x) (line_of y) }
 {
@@ -55,12 +52,8 @@ fn decide_equal(x: LiftedLine, y: LiftedLine) -> Verdict
         }
         return Verdict::Changes;
     }
-    let below = x.at < y.at;
-    decide_meeting(
-        apart(x.at, y.at),
-        either(below, x.step, y.step),
-        either(below, y.step, x.step),
-    )
+    let (behind, ahead) = if x.at < y.at { (x, y) } else { (y, x) };
+    decide_meeting(ahead.at - behind.at, behind.step, ahead.step)
 }
 
 // The verdict on a comparison of two lines.

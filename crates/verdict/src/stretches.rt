@@ -3,7 +3,6 @@ ghost use Rattle.std.specs.Prelude.{◌≡◌};
 ghost use Rattle.verdict.specs.Stretches.{is_all, has_pass, common, passes_below, passes_at_most, passes_same};
 ghost use Rattle.verdict.specs.inner.Lifted.{line_of, Low};
 
-use crate::bounds::{larger, smaller};
 use crate::lines::LiftedLine;
 
 // All passes from one on, or those from one on and before another.
@@ -14,16 +13,15 @@ pub enum Stretch {
 }
 
 // Whether every pass lies in a stretch.
+#[tactic(auto, unfolding(crate::specs::Stretches::is_all))]
 pub fn is_all(p: Stretch) -> bool
     ensures { result ≡ is_all p }
 {
-    match p {
-        Stretch::From(a) => a == 0,
-        Stretch::Between(_, _) => false,
-    }
+    matches!(p, Stretch::From(0))
 }
 
 // Whether some pass lies in a stretch.
+#[tactic(auto, unfolding(crate::specs::Stretches::has_pass))]
 pub fn has_pass(p: Stretch) -> bool
     ensures { result ≡ has_pass p }
 {
@@ -34,18 +32,15 @@ pub fn has_pass(p: Stretch) -> bool
 }
 
 // The passes that lie in both.
+#[tactic(auto, unfolding(crate::specs::Stretches::common))]
 pub fn meet(p: Stretch, q: Stretch) -> Stretch
     ensures { result ≡ common p q }
 {
-    match p {
-        Stretch::From(a) => match q {
-            Stretch::From(b) => Stretch::From(larger(a, b)),
-            Stretch::Between(b, e) => Stretch::Between(larger(a, b), e),
-        },
-        Stretch::Between(a, d) => match q {
-            Stretch::From(b) => Stretch::Between(larger(a, b), d),
-            Stretch::Between(b, e) => Stretch::Between(larger(a, b), smaller(d, e)),
-        },
+    match (p, q) {
+        (Stretch::From(a), Stretch::From(b)) => Stretch::From(a.max(b)),
+        (Stretch::From(a), Stretch::Between(b, e)) => Stretch::Between(a.max(b), e),
+        (Stretch::Between(a, d), Stretch::From(b)) => Stretch::Between(a.max(b), d),
+        (Stretch::Between(a, d), Stretch::Between(b, e)) => Stretch::Between(a.max(b), d.min(e)),
     }
 }
 
@@ -81,6 +76,7 @@ pub fn at_most(x: LiftedLine, y: LiftedLine) -> Stretch
 }
 
 // The passes on which x and y are the same.
+#[tactic(auto, unfolding(crate::specs::Stretches::passes_same))]
 pub fn same(x: LiftedLine, y: LiftedLine) -> Stretch
     requires { (Low x) × (Low y) }
     ensures { result ≡ passes_same (line_of x) (line_of y) }

@@ -5,7 +5,7 @@ ghost use Rattle.std.proofs.Math.IntN.{sub_ℕ};
 ghost use Rattle.cltlb.specs.Truth.{value_at};
 ghost use Rattle.cltlb.specs.Fits.{shift_fits, term_fits};
 ghost use Rattle.fields.specs.inner.Biased.{patterns, bias, unbiased};
-ghost use Rattle.plan.specs.inner.Sizes.{all_rows, farthest, Fitting};
+ghost use Rattle.plan.specs.inner.Sizes.{all_rows, farthest};
 ghost use Rattle.plan.specs.Run.{run_of};
 ghost use Rattle.plan.specs.inner.Lifted.{passes, lowered, value_end, seen_of};
 ghost use Rattle.verdict.specs.Rows.{term_top};
@@ -16,11 +16,10 @@ ghost use Rattle.verdict.specs.inner.Landed.{shift_in, Lands, Reached, LandsAt, 
 use crate::lines::LiftedLine;
 use cltlb::Term;
 use fields::{BIAS, biased, pattern};
+use plan::Plan;
 use plan::landing::Landing;
-use plan::lookup::{LAST_PASS, Seen, drift_at, number_at};
-use plan::sizes::Sizes;
-use plan::tops::{seen_under, top_of};
-use plan::view::seen_through;
+use plan::lookup::{LAST_PASS, Seen};
+use plan::tops::seen_under;
 
 // The least shift, -4, kept without a sign.
 const LEAST_SHIFT: u64 = BIAS - 4;
@@ -51,11 +50,7 @@ fn code_of(shift: i32) -> usize
 fn back_of(shift: i32) -> usize
     ensures { result ≡ back shift }
 {
-    let lifted = lift(shift);
-    if lifted < BIAS {
-        return (BIAS - lifted) as usize;
-    }
-    0
+    BIAS.saturating_sub(lift(shift)) as usize
 }
 
 // How far back a term reaches.
@@ -69,24 +64,24 @@ pub fn reach_of(term: Term) -> usize
 }
 
 // The top of a term; a constant has none.
-pub fn top_in(plan: &[u8], sizes: Sizes, term: Term) -> u64
-    requires { (Fitting plan.now sizes) × (term_fits sizes.channels term ≡ true) }
-    ensures { (pos result ≡ term_top plan.now term) × (result < bias) }
+pub fn top_in(plan: &Plan, term: Term) -> u64
+    requires { term_fits plan.now.sizes.channels term ≡ true }
+    ensures { (pos result ≡ term_top plan.now.bytes.now term) × (result < bias) }
 {
     match term {
         Term::Constant(_) => 0,
-        Term::Reading { channel, shift: _ } => top_of(plan, sizes, channel),
+        Term::Reading { channel, shift: _ } => plan.top_of(channel),
     }
 }
 
 // What is seen of a term at position t.
-pub fn seen_term(plan: &[u8], sizes: Sizes, term: Term, t: usize) -> Seen
-    requires { (Fitting plan.now sizes) × (term_fits sizes.channels term ≡ true) × (t ≤ latest sizes) }
-    ensures { seen_of result ≡ value_at (run_of plan.now) term t }
+pub fn seen_term(plan: &Plan, term: Term, t: usize) -> Seen
+    requires { (term_fits plan.now.sizes.channels term ≡ true) × (t ≤ latest plan.now.sizes) }
+    ensures { seen_of result ≡ value_at (run_of plan.now.bytes.now) term t }
 {
     match term {
         Term::Constant(z) => Seen::Number(constant(z)),
-        Term::Reading { channel, shift } => seen_through(plan, sizes, channel, t + code_of(shift)),
+        Term::Reading { channel, shift } => plan.seen_at(channel, t + code_of(shift)),
     }
 }
 
@@ -103,66 +98,51 @@ pub fn code_in(term: Term) -> usize
 
 // What is seen of a channel at the position `ahead` - 4, which is on pass k of a row whose shift lands so: before the cycle it is
 // looked up as it comes.
-fn seen_on_landing(
-    plan: &[u8],
-    sizes: Sizes,
-    channel: usize,
-    landing: Landing,
-    ahead: usize,
-    k: usize,
-) -> Seen
-    requires { (Fitting plan.now sizes) × (channel < sizes.channels) × (ahead ≤ farthest sizes) × (LandsAt plan.now sizes landing ahead k) }
-    ensures { seen_of result ≡ run_of plan.now channel (sub_ℕ ahead 4) }
+fn seen_on_landing(plan: &Plan, channel: usize, landing: Landing, ahead: usize, k: usize) -> Seen
+    requires { (channel < plan.now.sizes.channels) × (ahead ≤ farthest plan.now.sizes) × (LandsAt plan.now.bytes.now plan.now.sizes landing ahead k) }
+    ensures { seen_of result ≡ run_of plan.now.bytes.now channel (sub_ℕ ahead 4) }
 {
-    if ahead < sizes.start + 4 {
-        return seen_through(plan, sizes, channel, ahead);
+    if ahead < plan.sizes.start + 4 {
+        return plan.seen_at(channel, ahead);
     }
     seen_under(
-        top_of(plan, sizes, channel),
-        number_at(plan, sizes, channel, landing.row, k + landing.off - 4),
+        plan.top_of(channel),
+        plan.number_at(channel, landing.row, k + landing.off - 4),
     )
 }
 
 // What is seen of a term on pass k of a row from which its shift lands so.
-pub fn seen_on(
-    plan: &[u8],
-    sizes: Sizes,
-    term: Term,
-    landing: Landing,
-    row: usize,
-    k: usize,
-) -> Seen
-    requires { (Fitting plan.now sizes) × (term_fits sizes.channels term ≡ true) × (sizes.start ≤ row) × (Lands sizes row term landing) × (row + k * sizes.cycle ≤ latest sizes) }
-    ensures { seen_of result ≡ value_at (run_of plan.now) term (row + k * sizes.cycle) }
+pub fn seen_on(plan: &Plan, term: Term, landing: Landing, row: usize, k: usize) -> Seen
+    requires { (term_fits plan.now.sizes.channels term ≡ true) × (plan.now.sizes.start ≤ row) × (Lands plan.now.sizes row term landing) × (row + k * plan.now.sizes.cycle ≤ latest plan.now.sizes) }
+    ensures { seen_of result ≡ value_at (run_of plan.now.bytes.now) term (row + k * plan.now.sizes.cycle) }
 {
     match term {
         Term::Constant(z) => Seen::Number(constant(z)),
         Term::Reading { channel, shift } => seen_on_landing(
             plan,
-            sizes,
             channel,
             landing,
-            row + k * sizes.cycle + code_of(shift),
+            row + k * plan.sizes.cycle + code_of(shift),
             k,
         ),
     }
 }
 
 // The line of a channel from a row and a pass on.
-fn channel_line(plan: &[u8], sizes: Sizes, channel: usize, row: usize, pass: usize) -> LiftedLine
-    requires { (Fitting plan.now sizes) × (channel < sizes.channels) × (row < all_rows sizes) × (pass < passes) }
-    ensures { (line_of result ≡ line_on plan.now channel row pass) × (Low result) }
+fn channel_line(plan: &Plan, channel: usize, row: usize, pass: usize) -> LiftedLine
+    requires { (channel < plan.now.sizes.channels) × (row < all_rows plan.now.sizes) × (pass < passes) }
+    ensures { (line_of result ≡ line_on plan.now.bytes.now channel row pass) × (Low result) }
 {
     LiftedLine {
-        at: number_at(plan, sizes, channel, row, pass),
-        step: drift_at(plan, sizes, channel, row),
+        at: plan.number_at(channel, row, pass),
+        step: plan.drift_at(channel, row),
     }
 }
 
 // The line of a term from pass k on, of a row from which its shift lands so.
-pub fn landed_line(plan: &[u8], sizes: Sizes, term: Term, landing: Landing, k: usize) -> LiftedLine
-    requires { (Fitting plan.now sizes) × (term_fits sizes.channels term ≡ true) × (Reached sizes landing k) }
-    ensures { (line_of result ≡ landed_line plan.now term landing k) × (Low result) }
+pub fn landed_line(plan: &Plan, term: Term, landing: Landing, k: usize) -> LiftedLine
+    requires { (term_fits plan.now.sizes.channels term ≡ true) × (Reached plan.now.sizes landing k) }
+    ensures { (line_of result ≡ landed_line plan.now.bytes.now term landing k) × (Low result) }
 {
     match term {
         Term::Constant(z) => LiftedLine {
@@ -171,7 +151,6 @@ pub fn landed_line(plan: &[u8], sizes: Sizes, term: Term, landing: Landing, k: u
         },
         Term::Reading { channel, shift: _ } => channel_line(
             plan,
-            sizes,
             channel,
             landing.row,
             k + landing.off - 4,

@@ -28,6 +28,7 @@ pub fn spacing(step: u64) -> u64
 {
     let mut x = WEEK;
     let mut y = step;
+    // No `for`: Euclid's two numbers change in each other's place.
     while 0 < y {
         let rest = x % y;
         x = y;

@@ -27,10 +27,8 @@ pub fn repeat_marks(scratch: &mut [u8], part: usize, cycle: usize, from: usize, 
     requires { (Room scratch.old) × (part < most_parts) × (1 ≤ cycle) × (cycle ≤ from) × (from ≤ end) × (end ≤ most_rows) }
     ensures { Marked scratch.old scratch.new part from end (λ row. mark_at scratch.new part (row - cycle)) }
 {
-    let mut row = from;
-    while row < end {
+    for row in from..end {
         let mark = mark_at(scratch, part, row - cycle);
         put_mark(scratch, part, row, mark);
-        row += 1;
     }
 }

@@ -30,10 +30,8 @@ pub fn repeat_rows(scratch: &mut [u8], cycle: usize, from: usize, end: usize)
     requires { (Room scratch.old) × (1 ≤ cycle) × (cycle ≤ from) × (end ≤ most_rows) }
     ensures { RowsRepeated scratch.old scratch.new cycle from end }
 {
-    let mut row = from;
-    while row < end {
+    for row in from..end {
         let word = word_at(scratch, row - cycle);
         put_word(scratch, row, word);
-        row += 1;
     }
 }

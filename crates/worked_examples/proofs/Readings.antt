@@ -3,7 +3,7 @@ use Prim.Native.Nat.{ℕ}
 use mathlib.Core.Path.{◌≡◌, refl, ap}
 use mathlib.Core.List.{List, map}
 use lib.IntN.{ℤ}
-use Rattle.refusal.specs.declared.Outcome.{Outcome}
+use Rattle.refusal.specs.Outcome.{Outcome}
 use Rattle.refusal.specs.First.{◌or_else◌, unless}
 use Rattle.fields.specs.LittleEndian.{number_at, bytes_of}
 use Rattle.fields.specs.TwosComplement.{signed_of, signed_at, pattern_of}

@@ -101,7 +101,7 @@ given (settles rule plan laid scratch laid' scratch' word) bytes e =
 given (judges rule plan part row word) bytes e = judge_word_lem rule plan part row (same_word e) (judge_promise rule plan part row refl)
 
 computed : map stated more ≡ map defined more
-unfolding stated defined more copies refusal_word check_word make_word settle_word judge_word or_after lowest_from lowest ◌or_else◌ unless refused_at at_lowest in_turn_from in_turn number_at signed_of signed_at pattern_of signed_fits minute_of is_top is_pinned under value_at part_count channel_count kind_place operand_place kind_byte shift_of shift_fits term_fits window_fits atom_fits names_lower view_fits term_at all_zero both_terms window_over pinned_over operand_at shape_of kind_unknown part_of taken_operand take_of part_taken parts_of views_of is_refused untakeable sheet_outcome channels start_rows cycle_rows lead_rows rows stored_rows array_length entry tops top_of any_below negative_top tops_fit readings drifts cell stored_reading stored_drift reading_of drift_of row_of pass_of last after reading_on reading_at lead_at run_of is_zero drifts_at drifting named_row plan_outcome on_pass judge_less meets judge_equal euclid gcd minutes_after judge_spaced judge_within of_number seen_pinned of_numbers tested is_all has_pass common passes_below passes_at_most passes_same passes_free passes_pinned some_from some_within some_on judge_on judge_pinned judge_free judge_under channel_line term_line join_first test_at judge_cycle judge_row atom_at verdict_of verdict_on inputs_outcome judge_outcome judged_as judge_of mark_byte marked witness_of above_one bytes_outcome table_outcome mark_beside operator_mark expected is_cycle_row names witness_two running closes_by closes witness_of_operator witness_in_order steady_outcome breaks equation_outcome closing_outcome witness_outcome part_outcome mark_of witness_at parts_outcome check_outcome answered check_of bytes_of pieces table_of zeroed following label_by operator_label label_of or_none lowest_witness label_to made_mark made_witness made_table as_no_table open_outcome closings_outcome lent_outcome make_outcome make.answered make_of left_by bytes_after plan_bytes.word head_of tops_of array_of plan_of start_after rows_after laid_reading laid_drift laid_out too_large can_be_laid settles_after fewest_passes settle.lent_outcome settle.answered settle_of laid_with laid_after scratch_with scratch_after rule.sizes_fit plan.sizes_fit marks.sizes_fit
+unfolding stated defined more copies refusal_word check_word settle_word judge_word or_after lowest_from lowest ◌or_else◌ unless refused_at at_lowest in_turn_from in_turn number_at signed_of signed_at pattern_of signed_fits minute_of is_top is_pinned under value_at part_count channel_count kind_place operand_place kind_byte shift_of shift_fits term_fits window_fits atom_fits names_lower view_fits term_at all_zero both_terms window_over pinned_over operand_at shape_of kind_unknown part_of taken_operand take_of part_taken parts_of views_of is_refused untakeable sheet_outcome channels start_rows cycle_rows lead_rows rows stored_rows array_length entry tops top_of any_below negative_top tops_fit readings drifts cell stored_reading stored_drift reading_of drift_of row_of pass_of last after reading_on reading_at lead_at run_of is_zero drifts_at drifting named_row plan_outcome on_pass judge_less meets judge_equal euclid gcd minutes_after judge_spaced judge_within of_number seen_pinned of_numbers tested is_all has_pass common passes_below passes_at_most passes_same passes_free passes_pinned some_from some_within some_on judge_on judge_pinned judge_free judge_under channel_line term_line join_first test_at judge_cycle judge_row atom_at verdict_of verdict_on inputs_outcome judge_outcome judged_as judge_of mark_byte marked witness_of above_one bytes_outcome table_outcome mark_beside operator_mark expected is_cycle_row names witness_two running closes_by closes witness_of_operator witness_in_order steady_outcome breaks equation_outcome closing_outcome witness_outcome part_outcome mark_of witness_at parts_outcome check_outcome answered check_of bytes_of pieces table_of zeroed following label_by operator_label label_of or_none lowest_witness label_to made_mark made_witness made_table as_no_table open_outcome closings_outcome lent_outcome make_outcome make.answered make_of left_by bytes_after plan_bytes.word head_of tops_of array_of plan_of start_after rows_after laid_reading laid_drift laid_out too_large can_be_laid settles_after fewest_passes settle.lent_outcome settle.answered settle_of laid_with laid_after scratch_with scratch_after rule.sizes_fit plan.sizes_fit marks.sizes_fit
 computed = refl
 
 pub words : All Gives more

@@ -1,7 +1,6 @@
 -- Parts put on rule sheets of the examples: the answer, and the bytes afterwards. Assumes nothing.
-use Rattle.std.specs.Prelude.{ℕ, ◌≡◌, List, [], ◌∷◌, pos, neg_ℤ}
-use Rattle.refusal.specs.declared.Outcome.{Outcome}
-use Rattle.refusal.specs.declared.Outcome.TheVariants.{Clear, Refused}
+use Rattle.std.specs.Prelude.{Err, ℕ, ◌≡◌, List, [], ◌∷◌, pos, neg_ℤ}
+use Rattle.refusal.specs.Outcome.{Outcome, unrefused}
 use Rattle.refusal.specs.declared.Refusal.TheVariants.{RuleSizes, Operand, Absent}
 use Rattle.cltlb.specs.declared.Part.{Part}
 use Rattle.cltlb.specs.declared.Part.TheVariants.{Less, Window, Pinned}
@@ -23,14 +22,14 @@ PutsAs (puts sheet n part answer after) = (put_outcome sheet n part ≡ answer) 
 -- sheet of another length, which comes before both.
 unfoldable pub sheets_put : List PutRow
 sheets_put =
-    puts rule_e1 0 (Pinned 0 (pos 0)) Clear rule_pinned
-    ∷ puts rule_first_day 0 (Pinned 0 (pos 0)) Clear rule_pinned
-    ∷ puts rule_pinned 0 (Less x (Constant (pos 25))) Clear rule_e1
-    ∷ puts rule_pinned 0 (Window 0 (pos 0) 540 1020) Clear rule_first_day
-    ∷ puts rule_pinned_back 1 (Pinned 0 (neg_ℤ (pos 2))) Clear rule_pinned_back
-    ∷ puts rule_e1 0 (Pinned 1 (pos 0)) (Refused (Operand 0)) rule_e1
-    ∷ puts rule_e1 0 (Pinned 0 (neg_ℤ (pos 5))) (Refused (Operand 0)) rule_e1
-    ∷ puts rule_e1 1 (Pinned 0 (pos 0)) (Refused Absent) rule_e1
-    ∷ puts rule_e1 1 (Pinned 1 (pos 0)) (Refused Absent) rule_e1
-    ∷ puts rule_long 1 (Pinned 1 (pos 0)) (Refused RuleSizes) rule_long
+    puts rule_e1 0 (Pinned 0 (pos 0)) unrefused rule_pinned
+    ∷ puts rule_first_day 0 (Pinned 0 (pos 0)) unrefused rule_pinned
+    ∷ puts rule_pinned 0 (Less x (Constant (pos 25))) unrefused rule_e1
+    ∷ puts rule_pinned 0 (Window 0 (pos 0) 540 1020) unrefused rule_first_day
+    ∷ puts rule_pinned_back 1 (Pinned 0 (neg_ℤ (pos 2))) unrefused rule_pinned_back
+    ∷ puts rule_e1 0 (Pinned 1 (pos 0)) (Err (Operand 0)) rule_e1
+    ∷ puts rule_e1 0 (Pinned 0 (neg_ℤ (pos 5))) (Err (Operand 0)) rule_e1
+    ∷ puts rule_e1 1 (Pinned 0 (pos 0)) (Err Absent) rule_e1
+    ∷ puts rule_e1 1 (Pinned 1 (pos 0)) (Err Absent) rule_e1
+    ∷ puts rule_long 1 (Pinned 1 (pos 0)) (Err RuleSizes) rule_long
     ∷ []

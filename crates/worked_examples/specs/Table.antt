@@ -1,9 +1,7 @@
 -- The worked examples E1 to E10, and E8's sister with a lead-in: their bytes, and one table of questions and answers. Assumes nothing.
-use Rattle.std.specs.Prelude.{ℕ, true, false, List, [], ◌∷◌}
+use Rattle.std.specs.Prelude.{Ok, Err, ℕ, true, false, List, [], ◌∷◌}
 use Rattle.refusal.specs.declared.Refusal.TheVariants.{Closing, Witness}
 use Rattle.verdict.specs.declared.Verdict.TheVariants.{AlwaysTrue, AlwaysFalse, Changes}
-use Rattle.judge.specs.declared.Judged.TheVariants as J
-use Rattle.acceptance.specs.declared.Checked.TheVariants as C
 use Rattle.worked_examples.specs.Questions.{Question, checks, judges, meets}
 
 -- Rule sheets, each with the one channel x.
@@ -189,23 +187,23 @@ marks_e10_0 = 0x03 ∷ 0x00 ∷ 0x01 ∷ 0x00 ∷ 0x01 ∷ 0x00 ∷ 0x00 ∷ 0xF
 -- The table. E10 is for every witness, so that the two bytes of its witness are left open.
 unfoldable pub examples : ℕ → ℕ → List Question
 examples lo hi =
-    checks rule_e1 plan_a marks_e1 (C.Accepted true)
+    checks rule_e1 plan_a marks_e1 (Ok true)
     ∷ meets rule_e2 plan_a marks_e2 0
     ∷ meets rule_e2 plan_a marks_e2 1
-    ∷ checks rule_e2 plan_a marks_e2 (C.Refused (Closing 1 1))
-    ∷ checks rule_e3 plan_a marks_e3 (C.Accepted true)
-    ∷ checks rule_e4 plan_a marks_e4_2 (C.Accepted true)
-    ∷ checks rule_e4 plan_a marks_e4_1 (C.Refused (Witness 2))
-    ∷ judges rule_e5 plan_b 0 0 (J.Verdict Changes)
-    ∷ judges rule_e6_4096 plan_b 0 0 (J.Verdict Changes)
-    ∷ judges rule_e6_4093 plan_b 0 0 (J.Verdict AlwaysFalse)
-    ∷ judges rule_e7 plan_b 0 0 (J.Verdict AlwaysTrue)
-    ∷ judges rule_e8 plan_b 0 0 (J.Verdict Changes)
-    ∷ judges rule_e8 plan_e8_lead 0 0 (J.Verdict AlwaysTrue)
-    ∷ judges rule_e9_10 plan_e9 0 0 (J.Verdict AlwaysFalse)
-    ∷ judges rule_e9_9 plan_e9 0 0 (J.Verdict Changes)
-    ∷ judges rule_e9_0 plan_e9 0 0 (J.Verdict Changes)
+    ∷ checks rule_e2 plan_a marks_e2 (Err (Closing 1 1))
+    ∷ checks rule_e3 plan_a marks_e3 (Ok true)
+    ∷ checks rule_e4 plan_a marks_e4_2 (Ok true)
+    ∷ checks rule_e4 plan_a marks_e4_1 (Err (Witness 2))
+    ∷ judges rule_e5 plan_b 0 0 (Ok Changes)
+    ∷ judges rule_e6_4096 plan_b 0 0 (Ok Changes)
+    ∷ judges rule_e6_4093 plan_b 0 0 (Ok AlwaysFalse)
+    ∷ judges rule_e7 plan_b 0 0 (Ok AlwaysTrue)
+    ∷ judges rule_e8 plan_b 0 0 (Ok Changes)
+    ∷ judges rule_e8 plan_e8_lead 0 0 (Ok AlwaysTrue)
+    ∷ judges rule_e9_10 plan_e9 0 0 (Ok AlwaysFalse)
+    ∷ judges rule_e9_9 plan_e9 0 0 (Ok Changes)
+    ∷ judges rule_e9_0 plan_e9 0 0 (Ok Changes)
     ∷ meets rule_e10 plan_e10 (marks_e10_1 lo hi) 2
-    ∷ checks rule_e10 plan_e10 (marks_e10_1 lo hi) (C.Refused (Witness 2))
-    ∷ checks rule_e10 plan_e10 marks_e10_0 (C.Accepted false)
+    ∷ checks rule_e10 plan_e10 (marks_e10_1 lo hi) (Err (Witness 2))
+    ∷ checks rule_e10 plan_e10 marks_e10_0 (Ok false)
     ∷ []

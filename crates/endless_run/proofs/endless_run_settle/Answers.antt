@@ -5,12 +5,12 @@ use Rattle.endless_run.proofs.SettleWords.{settle_word_lem}
 use Rattle.endless_run.proofs.endless_run_settle.Goals as goal
 
 pub refusal_word-requires : goal.refusal_word-requires
-refusal_word-requires c = settle_names c.args.rule.now c.args.plan.now c.args.laid.now c.args.scratch.now c.settle.ensures.is_settle _ c.in-Refused.is
+refusal_word-requires c = settle_names c.args.rule.now c.args.plan.now c.args.laid.now c.args.scratch.now c.settle.ensures.is_settle _ c.in-Err.is
 
-pub returns-in-Passes : goal.returns-in-Passes
+pub returns-in-Ok : goal.returns-in-Ok
 unfolding settle_word
-returns-in-Passes c = settle_word_lem c.args.rule.now c.args.plan.now c.args.laid.now c.args.scratch.now _ _ (sym (ap settle_word c.in-Passes.is)) c.settle.ensures
+returns-in-Ok c = settle_word_lem c.args.rule.now c.args.plan.now c.args.laid.now c.args.scratch.now _ _ (sym (ap settle_word c.in-Ok.is)) c.settle.ensures
 
-pub returns-in-Refused : goal.returns-in-Refused
+pub returns-in-Err : goal.returns-in-Err
 unfolding settle_word
-returns-in-Refused c = settle_word_lem c.args.rule.now c.args.plan.now c.args.laid.now c.args.scratch.now _ _ (c.refusal_word.ensures ∙ sym (ap settle_word c.in-Refused.is)) c.settle.ensures
+returns-in-Err c = settle_word_lem c.args.rule.now c.args.plan.now c.args.laid.now c.args.scratch.now _ _ (c.refusal_word.ensures ∙ sym (ap settle_word c.in-Err.is)) c.settle.ensures

@@ -1,6 +1,7 @@
 -- Marks that say on every pass how two lines compare, and lines that do not come to their tops. Assumes nothing.
-use Rattle.std.specs.Prelude.{ℕ, ◌<◌, ◌≡◌, Bool, false, not, List, ℤ}
+use Rattle.std.specs.Prelude.{ℕ, ◌<◌, ◌≡◌, Bool, false, not, ◌&&◌, List, ℤ, pos}
 use Rattle.std.specs.Bool.{beq}
+use Rattle.std.specs.Int.Signed.{lt_z, le_z}
 use Rattle.fields.specs.inner.Biased.{unbiased}
 use Rattle.verdict.specs.Meaning.{is_changes}
 use Rattle.verdict.specs.Lines.{Line}
@@ -41,6 +42,10 @@ seen_agree relation values x y mark k = beq mark (tested relation (seen_in value
 
 abbrev pub under_agree : Relation → List ℕ → List ℕ → Column → Column → Bool → ℕ → Bool
 under_agree relation values drifts x y mark k = verdict_agrees (judge_under relation (top_in x) (line_in values drifts x k) (top_in y) (line_in values drifts y k)) mark
+
+-- a line lies below its top, and does not rise
+abbrev pub lies_below : ℤ → Line → Bool
+lies_below top x = lt_z x.at top && le_z x.step (pos 0)
 
 -- a line is below its top on every pass
 pub record Free (top : ℤ) (x : Line) : Type 0 where

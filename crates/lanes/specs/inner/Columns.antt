@@ -1,5 +1,5 @@
 -- A term on a stretch of direct rows, as a column: a stretch of a lane under its top, or a constant. Assumes nothing.
-use Rattle.std.specs.Prelude.{ℕ, ◌+◌, ◌*◌, ◌-◌, ◌≤◌, ◌<◌, ◌≡◌, true, false, cond, List, ℤ, pos, length}
+use Rattle.std.specs.Prelude.{ℕ, ◌+◌, ◌*◌, ◌-◌, ◌≤◌, ◌<◌, ◌≡◌, List, ℤ, pos, length}
 use Rattle.std.proofs.Math.IntN.{sub_ℕ}
 use Rattle.cltlb.specs.Run.{Seen, under}
 use Rattle.cltlb.specs.declared.Term.{Term}
@@ -13,14 +13,24 @@ use Rattle.verdict.specs.Lines.{Line}
 use Rattle.verdict.specs.Rows.{term_top}
 use Rattle.verdict.specs.inner.Landed.{shift_in}
 use Rattle.lanes.specs.declared.columns.Column.{Column}
+use Rattle.lanes.specs.declared.columns.Source.{Source}
+use Rattle.lanes.specs.declared.columns.Source.TheVariants.{Lane, Fixed}
 use Rattle.lanes.specs.declared.columns.Side.{Side}
 
 -- the number on its k-th row, and the drift there
+abbrev pub number_from : List ℕ → Source → ℕ → ℤ
+number_from values (Lane from) k = entry values (from + k)
+number_from values (Fixed pattern) k = signed_of 4 pattern
+
 abbrev pub number_in : List ℕ → Column → ℕ → ℤ
-number_in values x k = cond x.reads (entry values (x.from + k)) (signed_of 4 x.pattern)
+number_in values x k = number_from values x.source k
+
+abbrev pub drift_from : List ℕ → Source → ℕ → ℤ
+drift_from drifts (Lane from) k = entry drifts (from + k)
+drift_from drifts (Fixed pattern) k = pos 0
 
 abbrev pub drift_in : List ℕ → Column → ℕ → ℤ
-drift_in drifts x k = cond x.reads (entry drifts (x.from + k)) (pos 0)
+drift_in drifts x k = drift_from drifts x.source k
 
 abbrev pub line_in : List ℕ → List ℕ → Column → ℕ → Line
 line_in values drifts x k = record { at = number_in values x k; step = drift_in drifts x k }
@@ -40,8 +50,8 @@ pub record IsSide (plan : List ℕ) (x : Term) (s : Side) : Type 0 where
   pub small : s.top < bias
 
 -- the first `count` rows of a column lie in the lanes
-unfoldable pub Reaches : List ℕ → Column → ℕ → Type 0
-Reaches lanes x count = x.reads ≡ true → 4 * (x.from + count) ≤ length lanes
+abbrev pub Reaches : List ℕ → Column → ℕ → Type 0
+Reaches lanes x count = (from : ℕ) → x.source ≡ Lane from → 4 * (from + count) ≤ length lanes
 
 -- those of two columns, in lanes that are no longer than the largest array
 pub record InLanes (lanes : List ℕ) (x y : Column) (count : ℕ) : Type 0 where
@@ -59,10 +69,16 @@ unfoldable pub FewChannels : Term → Type 0
 FewChannels (Constant z) = Unit {0}
 FewChannels (Reading channel shift) = channel < 8
 
+-- a column's source is a constant
+pub record IsFixed (z : ℤ) (source : Source) : Type 0 where
+  pub pattern : ℕ
+  pub is_fixed : source ≡ Fixed pattern
+  pub value_is : signed_of 4 pattern ≡ z
+
 -- x is the column of a term whose shift has this code, on the rows from `row` on, in lanes of w rows
 unfoldable pub Stands : ℕ → ℕ → ℕ → Term → Column → Type 0
-Stands w row code (Constant z) x = (x.reads ≡ false) × (signed_of 4 x.pattern ≡ z)
-Stands w row code (Reading channel shift) x = (x.reads ≡ true) × (x.from ≡ channel * w + (row + code - 4))
+Stands w row code (Constant z) x = IsFixed z x.source
+Stands w row code (Reading channel shift) x = x.source ≡ Lane (channel * w + (row + code - 4))
 
 -- the number of a term on a row, in lanes of w rows, its shift having this code, and its drift there
 abbrev pub lane_number : List ℕ → ℕ → Term → ℕ → ℕ → ℤ

@@ -1,11 +1,13 @@
 -- Lines with the same steps on a stretch of rows, and their spacing around the week. Assumes nothing.
-use Rattle.std.specs.Prelude.{ℕ, ◌+◌, ◌*◌, ◌-◌, ◌/◌, ◌%◌, min, ◌≤◌, ◌<◌, ◌≡◌, Bool, List}
+use Rattle.std.specs.Prelude.{ℕ, ◌+◌, ◌*◌, ◌-◌, ◌/◌, ◌%◌, min, ◌≤◌, ◌<◌, ◌≡◌, Bool, ◌&&◌, List}
 use Rattle.std.proofs.Math.IntN.{sub_ℕ}
 use Rattle.cltlb.specs.Week.{week, minute_of}
 use Rattle.fields.specs.inner.Biased.{unbiased}
 use Rattle.table.specs.inner.Tables.{mark_in}
+use Rattle.verdict.specs.Comparisons.{test_of}
 use Rattle.verdict.specs.Divisors.{gcd}
 use Rattle.verdict.specs.Weeks.{judge_within}
+use Rattle.verdict.specs.declared.Relation.TheVariants.{Same}
 use Rattle.lanes.specs.declared.columns.Column.{Column}
 use Rattle.lanes.specs.declared.weeks.Spacing.{Spacing}
 use Rattle.lanes.specs.inner.Columns.{number_in, drift_in}
@@ -41,7 +43,11 @@ pub record Shares (apart minutes share : ℕ) : Type 0 where
   pub low : minutes * whole ≤ share * apart
   pub high : share * apart ≤ minutes * whole + 131074 * apart
 
--- on the rows from one up to another both columns have these drifts
+-- on a row both columns have these drifts
+abbrev pub same_drifts : List ℕ → Column → Column → ℕ → ℕ → ℕ → Bool
+same_drifts drifts x y left right k = test_of Same (drift_in drifts x k) (unbiased left) && test_of Same (drift_in drifts y k) (unbiased right)
+
+-- on the rows from one up to another they do
 unfoldable pub HaveDrifts : List ℕ → Column → Column → ℕ → ℕ → ℕ → ℕ → Type 0
 HaveDrifts drifts x y left right from to = (k : ℕ) → from ≤ k → k < to → (unbiased left ≡ drift_in drifts x k) × (unbiased right ≡ drift_in drifts y k)
 

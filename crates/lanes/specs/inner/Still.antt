@@ -1,6 +1,7 @@
 -- A comparison at positions of a plan in whose cycle nothing drifts, by the numbers that stand in the lanes. Assumes nothing.
-use Rattle.std.specs.Prelude.{ℕ, ◌+◌, ◌-◌, ◌≤◌, Bool, List, ℤ, pos}
+use Rattle.std.specs.Prelude.{ℕ, ◌+◌, ◌-◌, ◌≤◌, ◌<◌, ◌≡◌, Bool, true, List, ℤ, pos}
 use Rattle.std.specs.Bool.{beq}
+use Rattle.cltlb.specs.Fits.{term_fits}
 use Rattle.cltlb.specs.Run.{Seen, under}
 use Rattle.cltlb.specs.declared.Term.{Term}
 use Rattle.plan.specs.Positions.{row_of}
@@ -28,6 +29,17 @@ still_says values table part sides t =
     let z = part.sizes in
     let x = part.comparison in
     beq (marked (all_rows z) table part.i (row_of z.start z.cycle t)) (tested x.relation (landed_seen values z x.left sides.left t) (landed_seen values z x.right sides.right t))
+
+-- a term whose shift has this code can be read on the row on which that lands from position t, which is not before position 0
+pub record Lands (z : Sizes) (x : Term) (code t : ℕ) : Type 0 where
+  pub few_channels : z.channels ≤ 8
+  pub a_cycle : 1 ≤ z.cycle
+  pub few_lead : z.lead ≤ 4
+  pub few_rows : all_rows z ≤ 256
+  pub fits : term_fits z.channels x ≡ true
+  pub few_code : code ≤ 8
+  pub early : t < all_rows z + 4
+  pub in_run : 4 ≤ t + code
 
 -- positions at which a part is looked at, from none of which a term is read before position 0
 pub record StillPositions (table : List ℕ) (part : ComparisonPart) (sides : Sides) (from to : ℕ) : Type 0 where

@@ -8,60 +8,60 @@ use Rattle.maker.proofs.Guessed.{guess_left}
 use Rattle.table.proofs.Stores.{stored_sized}
 use Rattle.maker.proofs.make_table.Goals as goal
 
-pub overflow_mul-n : goal.overflow_mul-n
-overflow_mul-n c =
-    let few = few_there c.args.rule.now c.args.plan.now c.requires in
+pub overflow_mul-inputs : goal.overflow_mul-inputs
+overflow_mul-inputs c =
+    let few = few_there _ _ c.args.inputs.now.ready in
     omega (arith, area _ _ few.0 few.1)
 
-pub overflow_add-n : goal.overflow_add-n
-overflow_add-n c =
-    let few = few_there c.args.rule.now c.args.plan.now c.requires in
+pub overflow_add-inputs : goal.overflow_add-inputs
+overflow_add-inputs c =
+    let few = few_there _ _ c.args.inputs.now.ready in
     omega (arith, area _ _ few.0 few.1)
 
-pub overflow_mul-n-2 : goal.overflow_mul-n-2
-overflow_mul-n-2 c =
-    let few = few_there c.args.rule.now c.args.plan.now c.requires in
+pub overflow_mul-inputs-2 : goal.overflow_mul-inputs-2
+overflow_mul-inputs-2 c =
+    let few = few_there _ _ c.args.inputs.now.ready in
     omega arith
 
-pub overflow_add-n-2 : goal.overflow_add-n-2
-overflow_add-n-2 c =
-    let few = few_there c.args.rule.now c.args.plan.now c.requires in
+pub overflow_add-inputs-2 : goal.overflow_add-inputs-2
+overflow_add-inputs-2 c =
+    let few = few_there _ _ c.args.inputs.now.ready in
     omega (arith, area _ _ few.0 few.1)
 
-pub returns-then-marks-n : goal.returns-then-marks-n
-returns-then-marks-n c = other_length c.args.rule.now c.args.plan.now c.requires c.args.marks.now c.if-marks-n.true
+pub returns-then-marks-inputs : goal.returns-then-marks-inputs
+returns-then-marks-inputs c = other_length _ _ c.args.inputs.now.ready c.args.marks.now c.if-marks-inputs.true
 
-pub guess_table-guess-requires : goal.guess_table-guess-requires
-guess_table-guess-requires c = (c.requires, right_sized c.args.rule.now c.args.plan.now c.requires c.args.marks.now c.if-marks-n.false)
+pub guess_table-requires : goal.guess_table-requires
+guess_table-requires c = (right_sized _ _ c.args.inputs.now.ready c.args.marks.now c.if-marks-inputs.false)
 
-pub returns-in-Accepted : goal.returns-in-Accepted
-returns-in-Accepted c = guess_left c.args.rule.now c.args.plan.now c.requires c.args.marks.now c.if-marks-n.false c.guess_table-guess.ensures c.in-Accepted.is
+pub returns-in-Ok : goal.returns-in-Ok
+returns-in-Ok c = guess_left _ _ c.args.inputs.now.ready c.args.marks.now c.if-marks-inputs.false c.guess_table.ensures c.in-Ok.is
 
-pub make_parts-made-requires : goal.make_parts-made-requires
-make_parts-made-requires c = (c.requires, as_long c.guess_table-guess.ensures.long (right_sized c.args.rule.now c.args.plan.now c.requires c.args.marks.now c.if-marks-n.false))
+pub make_parts-requires : goal.make_parts-requires
+make_parts-requires c = (as_long c.guess_table.ensures.long (right_sized _ _ c.args.inputs.now.ready c.args.marks.now c.if-marks-inputs.false))
 
 pub clear-requires : goal.clear-requires
 clear-requires c =
-    let most = (at_most _ _ (right_sized c.args.rule.now c.args.plan.now c.requires c.args.marks.now c.if-marks-n.false)).1 in
-    let long = c.make_parts-made.ensures.1.long in
-    let guessed = c.guess_table-guess.ensures.long in
+    let most = (at_most _ _ (right_sized _ _ c.args.inputs.now.ready c.args.marks.now c.if-marks-inputs.false)).1 in
+    let long = c.make_parts.ensures.1.long in
+    let guessed = c.guess_table.ensures.long in
     omega arith
 
-pub returns-in-Refused : goal.returns-in-Refused
-returns-in-Refused c = zero_left c.args.rule.now c.args.plan.now c.requires c.args.marks.now c.if-marks-n.false _ _ (c.make_parts-made.ensures.1.long ∙ c.guess_table-guess.ensures.long) c.clear.ensures c.make_parts-made.ensures.0 c.in-Refused.is
+pub returns-in-Err : goal.returns-in-Err
+returns-in-Err c = zero_left _ _ c.args.inputs.now.ready c.args.marks.now c.if-marks-inputs.false _ _ (c.make_parts.ensures.1.long ∙ c.guess_table.ensures.long) c.clear.ensures c.make_parts.ensures.0 c.in-Err.is
 
-pub overflow_sub-n : goal.overflow_sub-n
-overflow_sub-n c = omega (arith, last_there c.args.rule.now c.args.plan.now c.requires)
+pub overflow_sub-inputs : goal.overflow_sub-inputs
+overflow_sub-inputs c = omega (arith, last_there _ _ c.args.inputs.now.ready)
 
 pub mark_at-requires : goal.mark_at-requires
 mark_at-requires c =
-    let there = last_there c.args.rule.now c.args.plan.now c.requires in
-    (stored_sized _ _ c.put_number-2.ensures (stored_sized _ _ c.put_number.ensures (c.make_parts-made.ensures.1.made c.in_default-made.is).sized), omega arith, omega arith)
+    let there = last_there _ _ c.args.inputs.now.ready in
+    (stored_sized _ _ c.put_number-2.ensures (stored_sized _ _ c.put_number.ensures (c.make_parts.ensures.1.made c.in_default-make_parts.is).sized), omega arith, omega arith)
 
 pub returns : goal.returns
 returns c =
-    let rule = c.args.rule.now in
-    let plan = c.args.plan.now in
+    let rule = c.args.inputs.now.rule.now in
+    let plan = c.args.inputs.now.plan.bytes.now in
     let before = c.args.marks.now in
-    let whole = table_left rule plan c.requires before c.if-marks-n.false _ _ _ (c.make_parts-made.ensures.1.made c.in_default-made.is) c.put_number.ensures c.put_number-2.ensures in
-    made_left rule plan c.requires before c.if-marks-n.false whole c.make_parts-made.ensures.0 c.in_default-made.is c.mark_at.ensures
+    let whole = table_left rule plan c.args.inputs.now.ready before c.if-marks-inputs.false _ _ _ (c.make_parts.ensures.1.made c.in_default-make_parts.is) c.put_number.ensures c.put_number-2.ensures in
+    made_left rule plan c.args.inputs.now.ready before c.if-marks-inputs.false whole c.make_parts.ensures.0 c.in_default-make_parts.is c.mark_at.ensures

@@ -1,7 +1,6 @@
 -- A table in the making. Assumes nothing.
 use Rattle.std.specs.Prelude.{ℕ, ◌+◌, ◌*◌, ◌≤◌, ◌<◌, ◌≡◌, List, length, get_or}
-use Rattle.refusal.specs.declared.Outcome.{Outcome}
-use Rattle.refusal.specs.declared.Outcome.TheVariants.{Clear}
+use Rattle.refusal.specs.Outcome.{Outcome, unrefused}
 use Rattle.rule.specs.Take.{views_of}
 use Rattle.table.specs.inner.Tables.{Sized}
 use Rattle.labelling.specs.Labels.{made_table}
@@ -19,4 +18,4 @@ pub record MadeBelow (rule plan table : List ℕ) (n w i : ℕ) : Type 0 where
 -- What is left in a buffer by an outcome: it is as long as it was, and where nothing is refused the parts below i are made.
 pub record MadeTo (rule plan old new : List ℕ) (n w i : ℕ) (outcome : Outcome) : Type 0 where
   pub long : length new ≡ length old
-  pub made : outcome ≡ Clear → MadeBelow rule plan new n w i
+  pub made : outcome ≡ unrefused → MadeBelow rule plan new n w i

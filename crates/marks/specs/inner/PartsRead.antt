@@ -1,8 +1,8 @@
 -- What the code of refusals 9 to 11 works with. Assumes nothing.
+use Rattle.refusal.specs.Outcome.{unrefused}
 use Rattle.std.specs.Prelude.{ℕ, ◌<◌, ◌≡◌, List, true}
 use Rattle.cltlb.specs.Fits.{view_fits}
 use Rattle.cltlb.specs.declared.View.{View}
-use Rattle.refusal.specs.declared.Outcome.TheVariants.{Clear}
 use Rattle.plan.specs.declared.sizes.Sizes.{Sizes}
 use Rattle.plan.specs.inner.Sizes.{all_rows, Fitting}
 use Rattle.table.specs.Layout.{marked}
@@ -18,5 +18,5 @@ pub record Readable (plan table : List ℕ) (n : ℕ) (z : Sizes) (i : ℕ) (p :
 
 -- 10 and 9 refuse nothing of part i
 pub record PartClear (plan table : List ℕ) (z : Sizes) (p : View) (i : ℕ) : Type 0 where
-  pub closing : closing_outcome plan (marked (all_rows z) table) p i ≡ Clear
-  pub equation : equation_outcome plan (marked (all_rows z) table) p i ≡ Clear
+  pub closing : closing_outcome plan (marked (all_rows z) table) p i ≡ unrefused
+  pub equation : equation_outcome plan (marked (all_rows z) table) p i ≡ unrefused

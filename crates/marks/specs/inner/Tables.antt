@@ -1,14 +1,12 @@
 -- What the code goes by: equations on all rows at once, and marks that are the truth. Assumes nothing.
-use Rattle.std.specs.Prelude.{ℕ, suc, ◌+◌, ◌*◌, ◌-◌, ◌≤◌, ◌<◌, ◌≡◌, Bool, false, ◌&&◌, List}
+use Rattle.std.specs.Prelude.{ℕ, suc, ◌+◌, ◌-◌, ◌<◌, ◌≡◌, Bool, false, ◌&&◌, List}
 use Rattle.std.specs.Bool.{beq}
 use Rattle.cltlb.specs.declared.Operator.{Operator}
 use Rattle.plan.specs.Positions.{after}
-use Rattle.plan.specs.declared.sizes.Sizes.{Sizes}
-use Rattle.plan.specs.inner.Sizes.{all_rows}
 use Rattle.marks.specs.declared.operators.Beside.TheVariants.{Before}
 use Rattle.marks.specs.Equations.{beside_of, operator_mark}
 use Rattle.marks.specs.Parts.{running, closes}
-use Rattle.table.specs.inner.Tables.{all_below, copy_of, step_of, mark_in, Sized, MarkBytes}
+use Rattle.table.specs.inner.Tables.{all_below, copy_of, step_of, mark_in}
 
 -- Part i, which is an operator, meets its equation on a row, with P start rows and C cycle rows.
 unfoldable pub meets_on : ℕ → ℕ → (ℕ → ℕ → Bool) → Operator → ℕ → ℕ → Bool
@@ -39,9 +37,3 @@ copy_test table m a row beside = copy_of false (mark_in table (m + row)) (mark_i
 abbrev pub step_test : Bool → List ℕ → ℕ → ℕ → ℕ → ℕ → ℕ → Bool
 step_test opposite table m a b row beside =
     step_of opposite (mark_in table (m + row)) (mark_in table (a + row)) (mark_in table (b + row)) (mark_in table (m + beside))
-
--- a table of n parts, of the sizes z, whose bytes are marks
-pub record MarkTable (table : List ℕ) (n : ℕ) (z : Sizes) : Type 0 where
-  pub sized : Sized table n (all_rows z)
-  pub a_cycle : 1 ≤ z.cycle
-  pub marks : MarkBytes table 4 (n * all_rows z)

@@ -1,18 +1,20 @@
 -- The sizes that are read from a plan, and plans whose sizes fit. Assumes nothing.
-use Rattle.std.specs.Prelude.{ℕ, ◌+◌, ◌*◌, ◌≤◌, ◌<◌, ◌≡◌, true, cond, List, length}
+use Rattle.std.specs.Prelude.{Option, Some, None, ℕ, ◌+◌, ◌*◌, ◌≤◌, ◌<◌, ◌≡◌, Bool, true, ◌&&◌, cond, List, leb, length}
 use Rattle.std.specs.Int.Signed.{non_neg}
 use Rattle.plan.specs.Layout.{channels, start_rows, cycle_rows, lead_rows, head_length, array_length, top_of, sizes_fit}
 use Rattle.plan.specs.inner.Lifted.{passes}
 use Rattle.plan.specs.declared.sizes.Sizes.{Sizes}
-use Rattle.plan.specs.declared.sizes.SizesRead.{SizesRead}
-use Rattle.plan.specs.declared.sizes.SizesRead.TheVariants.{Counts, Wrong}
 
 -- the sizes that stand in the bytes
 abbrev pub sizes_in : List ℕ → Sizes
 sizes_in plan = record { channels = channels plan; start = start_rows plan; cycle = cycle_rows plan; lead = lead_rows plan }
 
-unfoldable pub sizes_read : List ℕ → SizesRead
-sizes_read plan = cond (sizes_fit plan) (Counts (sizes_in plan)) Wrong
+unfoldable pub sizes_read : List ℕ → Option Sizes
+sizes_read plan = cond (sizes_fit plan) (Some (sizes_in plan)) None
+
+-- V, C, W and L lie in their ranges
+abbrev pub in_range : Sizes → Bool
+in_range z = (leb 1 z.channels && leb z.channels 8) && (leb 1 z.cycle && (leb (z.start + z.cycle) 256 && leb z.lead 4))
 
 -- W, the start rows and the cycle rows
 abbrev pub all_rows : Sizes → ℕ

@@ -1,5 +1,4 @@
 -- `rule::check_kinds` meets its contract. Assumes nothing.
-use native.Mathlib.Omega.{arith}
 use mathlib.Core.Path.{sym, ◌∙◌}
 use Rattle.refusal.specs.declared.Refusal.TheVariants.{Kind}
 use Rattle.refusal.proofs.First.{at_lowest_clear}
@@ -11,14 +10,14 @@ use Rattle.rule.proofs.check_kinds.Goals as goal
 pub returns-then-kinds_known : goal.returns-then-kinds_known
 returns-then-kinds_known c = sym ((at_lowest_clear (kind_unknown c.args.sheet.now) c.args.parts Kind).1 (c.kinds_known.ensures c.if-kinds_known.true))
 
-pub loop-n-init : goal.loop-n-init
-loop-n-init c = (omega arith, search_starts _ _ _)
+pub loop-part-init : goal.loop-part-init
+loop-part-init c = search_starts _ _ _
 
 pub returns-then-is_unknown : goal.returns-then-is_unknown
-returns-then-is_unknown c = search_stops (kind_unknown c.args.sheet.now) c.args.parts Kind c.loop-n.n c.loop-n-test.true (kind_tested c.args.sheet.now c.loop-n.n c.is_unknown.ensures c.shape_of.ensures c.if-is_unknown.true) ∙ sym c.loop-n.invariant.1
+returns-then-is_unknown c = search_stops (kind_unknown c.args.sheet.now) c.args.parts Kind c.loop-part.part c.loop-part-test.true (kind_tested c.args.sheet.now c.loop-part.part c.is_unknown.ensures c.shape_of.ensures c.if-is_unknown.true) ∙ sym c.loop-part.invariant
 
-pub loop-n-preserved : goal.loop-n-preserved
-loop-n-preserved c = (omega arith, c.loop-n.invariant.1 ∙ search_on (kind_unknown c.args.sheet.now) c.args.parts Kind c.loop-n.n c.loop-n-test.true (kind_tested c.args.sheet.now c.loop-n.n c.is_unknown.ensures c.shape_of.ensures c.if-is_unknown.false))
+pub loop-part-preserved : goal.loop-part-preserved
+loop-part-preserved c = c.loop-part.invariant ∙ search_on (kind_unknown c.args.sheet.now) c.args.parts Kind c.loop-part.part c.loop-part-test.true (kind_tested c.args.sheet.now c.loop-part.part c.is_unknown.ensures c.shape_of.ensures c.if-is_unknown.false)
 
 pub returns : goal.returns
-returns c = search_ends (kind_unknown c.args.sheet.now) c.args.parts Kind c.loop-n.n c.loop-n-test.false ∙ sym c.loop-n.invariant.1
+returns c = search_ends (kind_unknown c.args.sheet.now) c.args.parts Kind c.loop-part.part c.loop-part-test.false ∙ sym c.loop-part.invariant

@@ -9,7 +9,7 @@ use mathlib.Core.Bool.{not}
 use Rattle.rule.proofs.check_operands.Goals as goal
 
 pub loop-n-init : goal.loop-n-init
-loop-n-init c = (omega arith, search_starts _ _ _)
+loop-n-init c = search_starts _ _ _
 
 pub overflow_add-n : goal.overflow_add-n
 overflow_add-n c = omega (arith, law.known_length c.args.sheet.now c.args.parts c.requires.0)
@@ -37,14 +37,12 @@ pub returns-then-not-operand_sound : goal.returns-then-not-operand_sound
 returns-then-not-operand_sound c = let low = c.loop-n-test.true in
     search_stops (untakeable c.args.sheet.now) c.args.parts Operand c.loop-n.n low
     (law.operand_tested c.args.sheet.now c.args.parts c.requires.0 c.requires.1 c.loop-n.n low c.shape_of-shape.ensures c.operand_sound.ensures (ap not c.if-not-operand_sound.true))
-    ∙ sym c.loop-n.invariant.1
+    ∙ sym c.loop-n.invariant
 
 pub loop-n-preserved : goal.loop-n-preserved
-loop-n-preserved c = let low = c.loop-n-test.true in (
-  omega arith,
-  c.loop-n.invariant.1 ∙ search_on (untakeable c.args.sheet.now) c.args.parts Operand c.loop-n.n low
-      (law.operand_tested c.args.sheet.now c.args.parts c.requires.0 c.requires.1 c.loop-n.n low c.shape_of-shape.ensures c.operand_sound.ensures (ap not c.if-not-operand_sound.false)),
-)
+loop-n-preserved c = let low = c.loop-n-test.true in
+    c.loop-n.invariant ∙ search_on (untakeable c.args.sheet.now) c.args.parts Operand c.loop-n.n low
+    (law.operand_tested c.args.sheet.now c.args.parts c.requires.0 c.requires.1 c.loop-n.n low c.shape_of-shape.ensures c.operand_sound.ensures (ap not c.if-not-operand_sound.false))
 
 pub returns : goal.returns
-returns c = search_ends (untakeable c.args.sheet.now) c.args.parts Operand c.loop-n.n c.loop-n-test.false ∙ sym c.loop-n.invariant.1
+returns c = search_ends (untakeable c.args.sheet.now) c.args.parts Operand c.loop-n.n c.loop-n-test.false ∙ sym c.loop-n.invariant

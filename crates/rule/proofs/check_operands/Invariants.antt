@@ -1,5 +1,4 @@
 -- The invariants of `rule::check_operands`.
-use Prim.Native.Nat.{◌≤◌, ◌-◌}
 use mathlib.Core.Path.{◌≡◌}
 use Rattle.refusal.specs.First.{at_lowest}
 use Rattle.refusal.specs.declared.Refusal.TheVariants.{Operand}
@@ -8,7 +7,4 @@ use Rattle.rule.specs.Sheet.{untakeable}
 use Rattle.rule.proofs.check_operands.Given as goal
 
 abbrev pub invariant-loop-n : goal.invariant-loop-n
-invariant-loop-n l = (l.n ≤ l.parts) × (at_lowest (untakeable l.sheet) l.parts Operand ≡ search_from (untakeable l.sheet) l.parts Operand l.n)
-
-abbrev pub decreases-loop-n : goal.decreases-loop-n
-decreases-loop-n l = l.parts - l.n
+invariant-loop-n l = at_lowest (untakeable l.sheet) l.parts Operand ≡ search_from (untakeable l.sheet) l.parts Operand l.n

@@ -1,12 +1,8 @@
 -- The invariants of `rule::kinds_known`.
-use Prim.Native.Nat.{◌≤◌, ◌-◌}
 use mathlib.Core.Path.{◌≡◌}
 use mathlib.Core.Bool.{true}
 use Rattle.rule.specs.inner.Known.{AllKnown}
 use Rattle.rule.proofs.kinds_known.Given as goal
 
 abbrev pub invariant-loop-n : goal.invariant-loop-n
-invariant-loop-n l = (l.n ≤ l.parts) × ((l.all ≡ true) → AllKnown l.sheet l.n)
-
-abbrev pub decreases-loop-n : goal.decreases-loop-n
-decreases-loop-n l = l.parts - l.n
+invariant-loop-n l = l.all ≡ true → AllKnown l.sheet l.n

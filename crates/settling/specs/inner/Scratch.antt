@@ -23,6 +23,10 @@ abbrev pub is_none : Option ℕ → Bool
 is_none none = true
 is_none (some k) = false
 
+-- the marks of the parts below i are what they were
+abbrev pub Lower : ℕ → List ℕ → List ℕ → Type 0
+Lower i old new = (a : ℕ) → a < i → (row : ℕ) → mark_at new a row ≡ mark_at old a row
+
 -- A part that has been tried on w rows. The answer is whether it closes;
 pub record Tried (old new : List ℕ) (i w : ℕ) (mark : ℕ → Bool) (closing answer : Bool) : Type 0 where
   pub outcome : answer ≡ closing

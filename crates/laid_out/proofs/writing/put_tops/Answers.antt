@@ -6,10 +6,10 @@ use Rattle.plan.specs.Layout.{top_of}
 use Rattle.laid_out.proofs.writing.put_tops.Goals as goal
 
 pub loop-channel-init : goal.loop-channel-init
-loop-channel-init c = put_none c.args.t.now 4 c.args.sizes.channels (words (λ k. top_of c.args.plan.now) 0)
+loop-channel-init c = put_none c.args.t.now 4 c.args.plan.now.sizes.channels (words (λ k. top_of c.args.plan.now.bytes.now) 0)
 
 pub loop-channel-preserved : goal.loop-channel-preserved
-loop-channel-preserved c = put_more c.args.t.now 4 c.args.sizes.channels (words (λ k. top_of c.args.plan.now) 0) (each_word (λ k. top_of c.args.plan.now) 0) (omega (arith, c.requires.1)) c.loop-channel-test.true (omega arith) c.loop-channel.invariant (as_word _ _ {z = top_of c.args.plan.now c.loop-channel.channel} (top_pattern _ c.top_of-top.ensures.1) c.top_of-top.ensures.0 c.put_u32.ensures)
+loop-channel-preserved c = put_more c.args.t.now 4 c.args.plan.now.sizes.channels (words (λ k. top_of c.args.plan.now.bytes.now) 0) (each_word (λ k. top_of c.args.plan.now.bytes.now) 0) (omega (arith, c.requires.0)) c.loop-channel-test.true (omega arith) c.loop-channel.invariant (as_word _ _ {z = top_of c.args.plan.now.bytes.now c.loop-channel.channel} (top_pattern _ c.top_of-top.ensures.1) c.top_of-top.ensures.0 c.put_u32.ensures)
 
 pub returns : goal.returns
-returns c = as_tops c.args.sizes.channels (top_of c.args.plan.now) c.args.t.now (put_all c.args.t.now 4 c.args.sizes.channels (words (λ k. top_of c.args.plan.now) 0) (each_word (λ k. top_of c.args.plan.now) 0) (omega (arith, c.requires.1)) c.loop-channel-test.false c.loop-channel.invariant)
+returns c = as_tops c.args.plan.now.sizes.channels (top_of c.args.plan.now.bytes.now) c.args.t.now (put_all c.args.t.now 4 c.args.plan.now.sizes.channels (words (λ k. top_of c.args.plan.now.bytes.now) 0) (each_word (λ k. top_of c.args.plan.now.bytes.now) 0) (omega (arith, c.requires.0)) c.loop-channel-test.false c.loop-channel.invariant)

@@ -1,10 +1,11 @@
 -- `lanes::layout::lay_readings` meets its contract. Assumes nothing.
+use native.Mathlib.Omega.{arith}
 use Rattle.plan.proofs.Arrays.{readings_part}
 use Rattle.lanes.proofs.Laying as law
 use Rattle.lanes.proofs.layout.lay_readings.Goals as goal
 
-pub lay_out-requires : goal.lay_out-requires
-lay_out-requires c = law.readings_room c.requires.0 c.requires.1 _ _ c.head_length-a.ensures c.drifts_start-b.ensures.0
+pub lay_array-requires : goal.lay_array-requires
+lay_array-requires c = (c.requires, (let whole = c.args.plan.now.fits.whole in omega (arith, c.head_length.ensures)))
 
 pub returns : goal.returns
-returns c = law.laid_as (readings_part c.requires.0 _ _ c.head_length-a.ensures c.drifts_start-b.ensures.0) c.lay_out.ensures
+returns c = law.laid_as (readings_part c.args.plan.now.fits _ _ c.head_length.ensures (omega (arith, c.head_length.ensures))) c.lay_array.ensures

@@ -1,11 +1,10 @@
 -- `lanes::sweeps::lines_agree` meets its contract. Assumes nothing.
-use Prim.Native.Nat.{ℕ, ◌+◌}
-use Rattle.table.specs.inner.Tables.{mark_in}
+use Rattle.lanes.specs.inner.Stretches.{mark_of}
 use Rattle.lanes.proofs.Sweeping as law
 use Rattle.lanes.proofs.sweeps.lines_agree.Goals as goal
 
 pub returns-then-same_values : goal.returns-then-same_values
-returns-then-same_values c = law.same_then c.args.values.now c.args.drifts.now c.args.x c.args.y (λ (k : ℕ). mark_in c.args.table.now (c.args.m + k)) c.args.count c.in-Same.is c.same_values.ensures c.if-same_values.true c.same_stay.ensures
+returns-then-same_values c = let l = c.args.lines.now in let s = l.stretch in law.same_then s.values.now l.drifts.now s.x s.y (mark_of s) s.count c.in-Same.is c.same_values.ensures c.if-same_values.true c.same_stay.ensures
 
 pub returns-else-same_values : goal.returns-else-same_values
-returns-else-same_values c = law.same_not c.args.values.now c.args.drifts.now c.args.x c.args.y (λ (k : ℕ). mark_in c.args.table.now (c.args.m + k)) c.args.count c.in-Same.is c.same_values.ensures c.if-same_values.false
+returns-else-same_values c = let l = c.args.lines.now in let s = l.stretch in law.same_not s.values.now l.drifts.now s.x s.y (mark_of s) s.count c.in-Same.is c.same_values.ensures c.if-same_values.false

@@ -1,5 +1,4 @@
 -- The invariants of `lanes::sweeps::same_stay`.
-use Prim.Native.Nat.{◌-◌, ◌≤◌}
 use mathlib.Core.Path.{◌≡◌}
 use mathlib.Core.Bool.{true}
 use Rattle.table.specs.inner.Tables.{all_below}
@@ -9,7 +8,4 @@ use Rattle.lanes.specs.inner.Columns.{line_in}
 use Rattle.lanes.proofs.sweeps.same_stay.Given as goal
 
 abbrev pub invariant-loop-k : goal.invariant-loop-k
-invariant-loop-k l = (l.k ≤ l.count) × (true ≡ all_below (λ j. stays (judge_equal (line_in l.values l.drifts l.x j) (line_in l.values l.drifts l.y j))) l.k)
-
-abbrev pub decreases-loop-k : goal.decreases-loop-k
-decreases-loop-k l = l.count - l.k
+invariant-loop-k l = true ≡ all_below (λ j. stays (judge_equal (line_in l.lines.stretch.values.now l.lines.drifts.now l.lines.stretch.x j) (line_in l.lines.stretch.values.now l.lines.drifts.now l.lines.stretch.y j))) l.k

@@ -1,6 +1,10 @@
 -- `lanes::weeks::within_values` meets its contract. Assumes nothing.
-use Rattle.lanes.proofs.Windows.{levels_say}
+use native.Mathlib.Omega.{arith}
+use Rattle.lanes.proofs.Windows.{spaces_own, levels_say}
 use Rattle.lanes.proofs.weeks.within_values.Goals as goal
 
+pub within_stretch-requires : goal.within_stretch-requires
+within_stretch-requires c = (omega arith, omega arith, spaces_own c.spacing_of-known.ensures)
+
 pub returns : goal.returns
-returns c = levels_say c.args.values.now c.args.minutes c.args.x c.args.y c.args.table.now c.args.m c.args.count c.spacing_of-known.ensures c.within_stretch.ensures
+returns c = let s = c.args.stretch.now in levels_say s.values.now c.args.minutes s.x s.y s.table.now s.m s.count c.spacing_of-known.ensures c.within_stretch.ensures

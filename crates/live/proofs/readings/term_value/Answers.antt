@@ -7,4 +7,4 @@ returns-then-rule-at-eq0 c = law.constant_value c.args.readings.now c.args.age c
 
 -- src/readings.rt:91:1
 pub returns : goal.returns
-returns c = law.reading_value c.args.readings.now c.args.age c.args.rule.now c.args.at c.if-rule-at-eq0.false c.u32_at-number.ensures c.wide_number.ensures.0 c.wide_index.ensures.0 c.reading_at.ensures
+returns c = law.reading_value c.args.readings.now c.args.age c.args.rule.now c.args.at c.if-rule-at-eq0.false c.u32_at-number.ensures c.reading_at.ensures

@@ -3,12 +3,11 @@ use mathlib.Core.Path.{sym, ◌∙◌}
 use Rattle.rule.specs.Take.{views_of}
 use Rattle.past.specs.Ahead.{view_ahead}
 use Rattle.live.proofs.RuleLaws as law
-use native.Mathlib.Omega.{arith}
 use Rattle.live.proofs.rules.any_ahead.Goals as goal
 
 -- src/rules.rt:31:5
 pub loop-i-init : goal.loop-i-init
-loop-i-init c = (omega arith, law.any_none _)
+loop-i-init c = law.any_none _
 
 -- src/rules.rt:33:13
 pub returns-then-part_ahead : goal.returns-then-part_ahead
@@ -16,4 +15,4 @@ returns-then-part_ahead c = law.any_found (λ (j : ℕ). view_ahead (views_of c.
 
 -- src/rules.rt:31:5
 pub loop-i-preserved : goal.loop-i-preserved
-loop-i-preserved c = (omega arith, law.any_more (λ (j : ℕ). view_ahead (views_of c.args.sheet.now j)) _ c.loop-i.invariant.1 (sym c.part_ahead.ensures ∙ c.if-part_ahead.false))
+loop-i-preserved c = law.any_more (λ (j : ℕ). view_ahead (views_of c.args.sheet.now j)) _ c.loop-i.invariant (sym c.part_ahead.ensures ∙ c.if-part_ahead.false)

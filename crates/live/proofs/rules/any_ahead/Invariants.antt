@@ -1,5 +1,5 @@
 -- The invariants of `live::rules::any_ahead`.
-use Prim.Native.Nat.{ℕ, ◌-◌, ◌≤◌}
+use Prim.Native.Nat.{ℕ}
 use mathlib.Core.Path.{◌≡◌}
 use mathlib.Core.Bool.{false}
 use Rattle.rule.specs.Take.{views_of}
@@ -8,7 +8,4 @@ use Rattle.past.specs.Ahead.{view_ahead}
 use Rattle.live.proofs.rules.any_ahead.Given as goal
 
 abbrev pub invariant-loop-i : goal.invariant-loop-i
-invariant-loop-i l = (l.i ≤ l.n) × (any_below (λ (j : ℕ). view_ahead (views_of l.sheet j)) l.i ≡ false)
-
-abbrev pub decreases-loop-i : goal.decreases-loop-i
-decreases-loop-i l = l.n - l.i
+invariant-loop-i l = any_below (λ (j : ℕ). view_ahead (views_of l.sheet j)) l.i ≡ false

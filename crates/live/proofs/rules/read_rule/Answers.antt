@@ -1,18 +1,15 @@
+use Rattle.std.proofs.Common.{rules}
 use Rattle.live.proofs.RuleLaws as law
 use Rattle.live.proofs.rules.read_rule.Goals as goal
 
--- src/rules.rt:46:9
-pub returns-in_default : goal.returns-in_default
-returns-in_default c = law.read_refused c.args.v c.args.sheet.now c.check_sheet-read.ensures c.in_default.is
+pub returns-in_err-sizes : goal.returns-in_err-sizes
+returns-in_err-sizes c = let e = law.read_refused c.args.v c.args.sheet.now c.check_sheet.ensures c.in_err-sizes.was in search rules
 
--- src/rules.rt:49:9
-pub returns-then-channels-v : goal.returns-then-channels-v
-returns-then-channels-v c = law.other_channels c.args.v c.args.sheet.now c.check_sheet-read.ensures c.in-Counts.is c.if-channels-v.true
+pub returns-then-sizes-v : goal.returns-then-sizes-v
+returns-then-sizes-v c = law.other_channels c.args.v c.args.sheet.now c.check_sheet.ensures c.in_ok-sizes.was c.if-sizes-v.true
 
--- src/rules.rt:52:9
 pub returns-then-any_ahead : goal.returns-then-any_ahead
-returns-then-any_ahead c = law.looks_ahead c.args.v c.args.sheet.now c.check_sheet-read.ensures c.in-Counts.is c.any_ahead.ensures c.if-channels-v.false c.if-any_ahead.true
+returns-then-any_ahead c = law.looks_ahead c.args.v c.args.sheet.now c.check_sheet.ensures c.in_ok-sizes.was c.any_ahead.ensures c.if-sizes-v.false c.if-any_ahead.true
 
--- src/rules.rt:41:1
 pub returns : goal.returns
-returns c = law.looks_back c.args.v c.args.sheet.now c.check_sheet-read.ensures c.in-Counts.is c.any_ahead.ensures c.if-channels-v.false c.if-any_ahead.false
+returns c = law.looks_back c.args.v c.args.sheet.now c.check_sheet.ensures c.in_ok-sizes.was c.any_ahead.ensures c.if-sizes-v.false c.if-any_ahead.false

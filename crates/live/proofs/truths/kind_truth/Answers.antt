@@ -15,11 +15,11 @@ returns-in-3 c = law.of_not c.args.readings.now c.args.age c.args.rule.now c.arg
 
 -- src/truths.rt:102:1
 pub returns-in-4 : goal.returns-in-4
-returns-in-4 c = law.of_and c.args.readings.now c.args.age c.args.rule.now c.args.before.now c.args.at c.args.this.now c.args.i c.in-4.is c.byte_named-in-4.ensures c.byte_named-in-4-2.ensures c.both.ensures
+returns-in-4 c = law.of_and c.args.readings.now c.args.age c.args.rule.now c.args.before.now c.args.at c.args.this.now c.args.i c.in-4.is c.byte_named-in-4.ensures c.byte_named-in-4-2.ensures c.min.ensures
 
 -- src/truths.rt:102:1
 pub returns-in-5 : goal.returns-in-5
-returns-in-5 c = law.of_or c.args.readings.now c.args.age c.args.rule.now c.args.before.now c.args.at c.args.this.now c.args.i c.in-5.is c.byte_named-in-5.ensures c.byte_named-in-5-2.ensures c.either.ensures
+returns-in-5 c = law.of_or c.args.readings.now c.args.age c.args.rule.now c.args.before.now c.args.at c.args.this.now c.args.i c.in-5.is c.byte_named-in-5.ensures c.byte_named-in-5-2.ensures c.max.ensures
 
 -- src/truths.rt:102:1
 pub returns-in-9 : goal.returns-in-9
@@ -31,11 +31,11 @@ returns-in-10 c = law.of_weak c.args.readings.now c.args.age c.args.rule.now c.a
 
 -- src/truths.rt:102:1
 pub returns-in-11 : goal.returns-in-11
-returns-in-11 c = law.of_since c.args.readings.now c.args.age c.args.rule.now c.args.before.now c.args.at c.args.this.now c.args.i c.in-11.is c.byte_named-in-11.ensures c.byte_named-in-11-2.ensures c.since_add-in-11.ensures c.both-in-11.ensures c.either-in-11.ensures
+returns-in-11 c = law.of_since c.args.readings.now c.args.age c.args.rule.now c.args.before.now c.args.at c.args.this.now c.args.i c.in-11.is c.byte_named-in-11.ensures c.byte_named-in-11-2.ensures c.since_add-since.ensures c.min-in-11.ensures c.max-in-11.ensures
 
 -- src/truths.rt:102:1
 pub returns-in-12 : goal.returns-in-12
-returns-in-12 c = law.of_trigger c.args.readings.now c.args.age c.args.rule.now c.args.before.now c.args.at c.args.this.now c.args.i c.in-12.is c.byte_named-in-12.ensures c.byte_named-in-12-2.ensures c.since_add-in-12.ensures c.either-in-12.ensures c.both-in-12.ensures
+returns-in-12 c = law.of_trigger c.args.readings.now c.args.age c.args.rule.now c.args.before.now c.args.at c.args.this.now c.args.i c.in-12.is c.byte_named-in-12.ensures c.byte_named-in-12-2.ensures c.since_add-trigger.ensures c.max-in-12.ensures c.min-in-12.ensures
 
 -- src/truths.rt:102:1
 pub returns-in-13 : goal.returns-in-13

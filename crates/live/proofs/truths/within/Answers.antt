@@ -1,4 +1,5 @@
-use Rattle.live.proofs.TruthLaws.{none_within, number_within}
+use mathlib.Core.Path.{◌∙◌}
+use Rattle.live.proofs.TruthLaws.{byte_from, none_within, number_within}
 use Rattle.live.proofs.truths.within.Goals as goal
 
 -- src/truths.rt:80:9
@@ -7,4 +8,4 @@ returns-then-x-ge-PINNED c = none_within _ _ _ c.if-x-ge-PINNED.true
 
 -- src/truths.rt:76:1
 pub returns : goal.returns
-returns c = number_within _ _ _ c.if-x-ge-PINNED.false c.in_window.ensures c.byte_of.ensures
+returns c = number_within _ _ _ c.if-x-ge-PINNED.false c.in_window.ensures (c.from.ensures ∙ byte_from _)

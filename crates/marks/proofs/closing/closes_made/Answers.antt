@@ -5,7 +5,7 @@ use Rattle.marks.proofs.Stepped as law
 use Rattle.marks.proofs.closing.closes_made.Goals as goal
 
 pub returns-in-After : goal.returns-in-After
-returns-in-After c = law.ahead_closes c.args.sizes.start c.args.sizes.cycle (marked (all_rows c.args.sizes) c.args.table.now) c.args.operator (sym c.beside_of.ensures ∙ c.in-After.is)
+returns-in-After c = law.ahead_closes c.args.table.now.sizes.start c.args.table.now.sizes.cycle (marked (all_rows c.args.table.now.sizes) c.args.table.now.bytes.now) c.args.operator (sym c.beside_of.ensures ∙ c.in-After.is)
 
 pub returns-in-Before : goal.returns-in-Before
-returns-in-Before c = law.made_closes c.args.sizes.start c.args.sizes.cycle (marked (all_rows c.args.sizes) c.args.table.now) c.args.operator c.requires.1 c.requires.4 (sym c.beside_of.ensures ∙ c.in-Before.is) c.mark_at-start.ensures c.mark_at-end.ensures c.turns_round.ensures
+returns-in-Before c = law.made_closes c.args.table.now.sizes.start c.args.table.now.sizes.cycle (marked (all_rows c.args.table.now.sizes) c.args.table.now.bytes.now) c.args.operator c.args.table.now.a_cycle c.requires.2 (sym c.beside_of.ensures ∙ c.in-Before.is) c.mark_at-start.ensures c.last_mark-end.ensures c.turns_round.ensures

@@ -1,12 +1,9 @@
 -- The invariants of `marks::closing::truth_on`.
-use Prim.Native.Nat.{◌-◌, ◌≤◌}
 use mathlib.Core.Path.{◌≡◌}
+use Rattle.plan.specs.inner.Sizes.{all_rows}
 use Rattle.table.specs.Layout.{marked}
 use Rattle.marks.specs.Parts.{running}
 use Rattle.marks.proofs.closing.truth_on.Given as goal
 
 abbrev pub invariant-loop-at : goal.invariant-loop-at
-invariant-loop-at l = (l.at ≤ l.row) × (l.truth ≡ running (marked l.w l.table) l.operator l.first l.at)
-
-abbrev pub decreases-loop-at : goal.decreases-loop-at
-decreases-loop-at l = l.row - l.at
+invariant-loop-at l = l.truth ≡ running (marked (all_rows l.table.sizes) l.table.bytes.now) l.operator l.first l.at

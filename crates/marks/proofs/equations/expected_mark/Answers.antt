@@ -7,13 +7,13 @@ use Rattle.marks.proofs.PartsChecked.{atom_there, operator_there}
 use Rattle.marks.proofs.equations.expected_mark.Goals as goal
 
 pub atom_at-requires : goal.atom_at-requires
-atom_at-requires c = (c.requires.0, atom_there c.args.plan.now c.args.table.now c.requires.0 c.args.i _ c.in-Atom.is c.args.n c.requires.3, omega (arith, c.requires.4))
+atom_at-requires c = (atom_there c.args.plan.now.bytes.now c.args.table.now c.args.plan.now.fits c.args.i _ c.in-Atom.is c.args.n c.requires.2, omega (arith, c.requires.3))
 
 pub operator_mark-requires : goal.operator_mark-requires
-operator_mark-requires c = (c.requires.1, c.requires.0.a_cycle, c.requires.2, operator_there c.args.plan.now c.args.table.now c.requires.0 c.args.i _ c.in-Operator.is c.args.n c.requires.3, c.requires.4)
+operator_mark-requires c = (c.requires.1, operator_there c.args.plan.now.bytes.now c.args.table.now c.args.plan.now.fits c.args.i _ c.in-Operator.is c.args.n c.requires.2, c.requires.3)
 
 pub returns-in-Atom : goal.returns-in-Atom
-returns-in-Atom c = law.atom_expected c.args.sizes.start c.args.sizes.cycle (marked (all_rows c.args.sizes) c.args.table.now) (atom_at c.args.plan.now) c.args.i c.args.row c.in-Atom.is c.atom_at.ensures
+returns-in-Atom c = law.atom_expected c.args.plan.now.sizes.start c.args.plan.now.sizes.cycle (marked (all_rows c.args.plan.now.sizes) c.args.table.now) (atom_at c.args.plan.now.bytes.now) c.args.i c.args.row c.in-Atom.is c.atom_at.ensures
 
 pub returns-in-Operator : goal.returns-in-Operator
-returns-in-Operator c = law.operator_expected c.args.sizes.start c.args.sizes.cycle (marked (all_rows c.args.sizes) c.args.table.now) (atom_at c.args.plan.now) c.args.i c.args.row c.in-Operator.is c.operator_mark.ensures
+returns-in-Operator c = law.operator_expected c.args.plan.now.sizes.start c.args.plan.now.sizes.cycle (marked (all_rows c.args.plan.now.sizes) c.args.table.now) (atom_at c.args.plan.now.bytes.now) c.args.i c.args.row c.in-Operator.is c.operator_mark.ensures

@@ -1,5 +1,5 @@
 -- The invariants of `marks::refusals::check_steady`.
-use Prim.Native.Nat.{◌-◌, ◌≤◌}
+use Prim.Native.Nat.{◌≤◌}
 use mathlib.Core.Path.{◌≡◌}
 use Rattle.refusal.specs.declared.Refusal.TheVariants.{Closing}
 use Rattle.refusal.proofs.Search.{search_from}
@@ -9,7 +9,4 @@ use Rattle.marks.specs.Parts.{steady_outcome}
 use Rattle.marks.proofs.refusals.check_steady.Given as goal
 
 abbrev pub invariant-loop-row : goal.invariant-loop-row
-invariant-loop-row l = (l.sizes.start ≤ l.row) × (l.row ≤ l.w) × (steady_outcome l.plan l.atom l.i ≡ search_from (λ r. is_changes (verdict_of l.plan l.atom r)) l.w (Closing l.i) l.row)
-
-abbrev pub decreases-loop-row : goal.decreases-loop-row
-decreases-loop-row l = l.w - l.row
+invariant-loop-row l = (l.plan.sizes.start ≤ l.row) × (l.row ≤ l.w) × (steady_outcome l.plan.bytes.now l.atom l.i ≡ search_from (λ r. is_changes (verdict_of l.plan.bytes.now l.atom r)) l.w (Closing l.i) l.row)

@@ -1,14 +1,16 @@
-use Rattle.plan.specs.inner.Sizes.{all_rows}
-use Rattle.table.specs.Layout.{marked}
-use Rattle.marks.proofs.WitnessTests as law
+use Rattle.std.proofs.Common.{rules}
+use Rattle.plan.specs.Positions.{last}
+use Rattle.marks.specs.Parts.{witness_of_operator}
 use Rattle.marks.proofs.Stepped.{two_named}
 use Rattle.marks.proofs.witness.operator_witness.Goals as goal
 
 pub two_witness-requires : goal.two_witness-requires
-two_witness-requires c = (c.requires.0, (two_named c.args.n c.requires.3 c.in-Two.is).1)
+two_witness-requires c = (two_named c.args.table.now.parts c.requires.1 c.in-Two.is).1
 
 pub returns-in-One : goal.returns-in-One
-returns-in-One c = law.one_none c.args.sizes.start c.args.sizes.cycle (marked (all_rows c.args.sizes) c.args.table.now) c.args.i c.args.w c.in-One.is
+unfolding witness_of_operator
+returns-in-One c = search rules
 
 pub returns-in-Two : goal.returns-in-Two
-returns-in-Two c = law.two_witness c.args.sizes.start c.args.sizes.cycle (marked (all_rows c.args.sizes) c.args.table.now) c.args.i c.args.w c.in-Two.is c.mark_at-last.ensures c.two_witness.ensures
+unfolding witness_of_operator last
+returns-in-Two c = search rules

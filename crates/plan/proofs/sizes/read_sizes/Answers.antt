@@ -1,44 +1,27 @@
 -- `plan::sizes::read_sizes` meets its contract. Assumes nothing.
-use mathlib.Core.Path.{sym}
-use Rattle.plan.specs.Layout.{channels, start_rows, cycle_rows, lead_rows}
-use Rattle.plan.proofs.Fits as fits
-use Rattle.plan.proofs.Pinned.{found_negative, found_none}
+use mathlib.Core.Path.{refl, sym, ◌∙◌}
 use native.Mathlib.Omega.{arith}
-use mathlib.Core.Path.{ap}
-use mathlib.Core.Bool.{not}
+use Rattle.plan.proofs.Fits as fits
+use Rattle.plan.proofs.Pinned.{tops_handed}
 use Rattle.plan.proofs.sizes.read_sizes.Goals as goal
+use Rattle.plan.proofs.sizes.read_sizes.Goals.{then-plan-head-via-then-plan-head, then-plan-head-via-else-plan-head+then-not-tops_fit}
 
-pub returns-then-plan-sizes_length : goal.returns-then-plan-sizes_length
-returns-then-plan-sizes_length c = fits.too_short c.args.plan.now (omega arith)
+pub returns-then-plan-lt-SIZES_LENGTH : goal.returns-then-plan-lt-SIZES_LENGTH
+returns-then-plan-lt-SIZES_LENGTH c = fits.too_short c.args.plan.now (omega arith)
 
-pub returns-then-v-lt1 : goal.returns-then-v-lt1
-unfolding channels
-returns-then-v-lt1 c = fits.no_channel c.args.plan.now c.u16_at-v.ensures.0 c.if-v-lt1.true
-
-pub returns-then-v-gt8 : goal.returns-then-v-gt8
-unfolding channels
-returns-then-v-gt8 c = fits.many_channels c.args.plan.now c.u16_at-v.ensures.0 c.if-v-gt8.true
-
-pub returns-then-c-lt1 : goal.returns-then-c-lt1
-unfolding cycle_rows
-returns-then-c-lt1 c = fits.no_cycle c.args.plan.now c.u16_at-c.ensures.0 c.if-c-lt1.true
-
-pub returns-then-p-c-gt256 : goal.returns-then-p-c-gt256
-unfolding start_rows cycle_rows
-returns-then-p-c-gt256 c = fits.many_rows c.args.plan.now c.u16_at-c.ensures.0 c.u16_at-p.ensures.0 c.if-p-c-gt256.true
-
-pub returns-then-l-gt4 : goal.returns-then-l-gt4
-unfolding lead_rows
-returns-then-l-gt4 c = fits.long_lead c.args.plan.now c.u16_at-l.ensures.0 c.if-l-gt4.true
+pub returns-then-not-in_range : goal.returns-then-not-in_range
+returns-then-not-in_range c = let plan = c.args.plan.now in
+    fits.out_of_range plan (fits.reads plan c.u16_at.ensures.0 c.u16_at-2.ensures.0 c.u16_at-3.ensures.0 c.u16_at-4.ensures.0) (sym c.in_range.ensures ∙ c.if-not-in_range.true)
 
 pub returns-then-plan-head : goal.returns-then-plan-head
-unfolding channels start_rows cycle_rows lead_rows
-returns-then-plan-head c = fits.other_length c.args.plan.now c.u16_at-c.ensures.0 c.u16_at-p.ensures.0 c.u16_at-v.ensures.0 c.u16_at-l.ensures.0 (λ e. c.if-plan-head.true (omega arith))
-
-pub returns-then-not-tops_fit : goal.returns-then-not-tops_fit
-unfolding channels
-returns-then-not-tops_fit c = found_negative c.args.plan.now c.u16_at-v.ensures.0 _ _ c.sizes_length-2.ensures c.head_length-head.ensures c.tops_fit.ensures (ap not c.if-not-tops_fit.true)
+returns-then-plan-head c = let plan = c.args.plan.now in
+    let read = fits.reads plan c.u16_at.ensures.0 c.u16_at-2.ensures.0 c.u16_at-3.ensures.0 c.u16_at-4.ensures.0 in
+    elim c.then-plan-head.branch [
+      | then-plan-head-via-then-plan-head w ↦ fits.other_length plan read (λ e. w.if-plan-head.true (omega arith))
+      | then-plan-head-via-else-plan-head+then-not-tops_fit w ↦ fits.a_negative_top plan read (sym (tops_handed plan read refl c.head_length-head.ensures w.tops_fit.ensures) ∙ w.if-not-tops_fit.true)
+    ]
 
 pub returns : goal.returns
-unfolding channels start_rows cycle_rows lead_rows
-returns c = fits.counts (record { v_is = sym c.u16_at-v.ensures.0; p_is = sym c.u16_at-p.ensures.0; c_is = sym c.u16_at-c.ensures.0; l_is = sym c.u16_at-l.ensures.0; a_channel = c.if-v-lt1.false; few_channels = c.if-v-gt8.false; a_cycle = c.if-c-lt1.false; few_rows = c.if-p-c-gt256.false; few_lead = c.if-l-gt4.false; whole = omega arith; no_negative = found_none c.args.plan.now c.u16_at-v.ensures.0 _ _ c.sizes_length-2.ensures c.head_length-head.ensures c.tops_fit.ensures (ap not c.if-not-tops_fit.false) })
+returns c = let plan = c.args.plan.now in
+    let read = fits.reads plan c.u16_at.ensures.0 c.u16_at-2.ensures.0 c.u16_at-3.ensures.0 c.u16_at-4.ensures.0 in
+    fits.all_fits plan read (sym c.in_range.ensures ∙ c.if-not-in_range.false) (omega arith) (sym (tops_handed plan read refl c.head_length-head.ensures c.tops_fit.ensures) ∙ c.if-not-tops_fit.false)

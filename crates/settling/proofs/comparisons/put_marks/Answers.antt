@@ -8,4 +8,4 @@ use mathlib.Core.Bool.{not}
 use Rattle.settling.proofs.comparisons.put_marks.Goals as goal
 
 pub returns : goal.returns
-returns c = marks_repeat c.args.plan.now c.requires.0 c.args.comparison c.requires.1 (sym (passed c.steady.ensures (ap not c.if-not-steady.false))) c.put_truths-2.ensures c.repeat_marks.ensures (omega (arith, c.requires.5))
+returns c = marks_repeat c.args.plan.now.bytes.now c.args.plan.now.fits c.args.comparison c.requires.0 (sym (passed c.steady.ensures (ap not c.if-not-steady.false))) c.put_truths-2.ensures c.repeat_marks.ensures (omega (arith, c.requires.4))

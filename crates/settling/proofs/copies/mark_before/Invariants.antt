@@ -4,6 +4,3 @@ use Rattle.settling.proofs.copies.mark_before.Given as goal
 
 abbrev pub invariant-loop-row : goal.invariant-loop-row
 invariant-loop-row l = law.Moving l.initial.scratch l.i l.a l.count l.scratch l.row
-
-abbrev pub decreases-loop-row : goal.decreases-loop-row
-decreases-loop-row l = l.row

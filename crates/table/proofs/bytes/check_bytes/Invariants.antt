@@ -1,21 +1,14 @@
 -- The invariants of `table::bytes::check_bytes`.
 use mathlib.Core.Path.{◌≡◌}
-use Prim.Native.Nat.{◌+◌, ◌-◌, ◌≤◌}
+use Prim.Native.Nat.{◌+◌, ◌-◌}
 use Rattle.refusal.specs.Lowest.{lowest_from}
 use Rattle.refusal.specs.First.{◌or_else◌, refused_at, in_turn_from, in_turn}
-use Rattle.refusal.specs.declared.Outcome.TheVariants.{Clear}
 use Rattle.refusal.specs.declared.Refusal.TheVariants.{MarkByte}
 use Rattle.table.specs.Layout.{above_one, bytes_outcome}
 use Rattle.table.proofs.bytes.check_bytes.Given as goal
 
 abbrev pub invariant-loop-row : goal.invariant-loop-row
-invariant-loop-row l = (l.row ≤ l.w) × (l.answer ≡ Clear) × (in_turn (bytes_outcome l.w l.table) l.n ≡ (refused_at (MarkByte l.part) (lowest_from (above_one l.w l.table l.part) l.row (l.w - l.row)) or_else in_turn_from (bytes_outcome l.w l.table) (l.part + 1) (l.n - (l.part + 1))))
+invariant-loop-row l = in_turn (bytes_outcome l.w l.table) l.n ≡ (refused_at (MarkByte l.part) (lowest_from (above_one l.w l.table l.part) l.row (l.w - l.row)) or_else in_turn_from (bytes_outcome l.w l.table) (l.part + 1) (l.n - (l.part + 1)))
 
-abbrev pub decreases-loop-row : goal.decreases-loop-row
-decreases-loop-row l = l.w - l.row
-
-abbrev pub invariant-parts : goal.invariant-parts
-invariant-parts l = (l.part ≤ l.n) × (l.answer ≡ Clear) × (in_turn (bytes_outcome l.w l.table) l.n ≡ in_turn_from (bytes_outcome l.w l.table) l.part (l.n - l.part))
-
-abbrev pub decreases-parts : goal.decreases-parts
-decreases-parts l = l.n - l.part
+abbrev pub invariant-loop-part : goal.invariant-loop-part
+invariant-loop-part l = in_turn (bytes_outcome l.w l.table) l.n ≡ in_turn_from (bytes_outcome l.w l.table) l.part (l.n - l.part)

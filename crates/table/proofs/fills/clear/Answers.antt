@@ -1,7 +1,9 @@
 -- `table::fills::clear` meets its contract. Assumes nothing.
-use native.Mathlib.Omega.{arith}
-use Rattle.table.proofs.Stores.{stored_zeros}
+use mathlib.Core.Path.{refl, ◌∙◌}
+use Rattle.std.proofs.lemmas.Simd.{splat_is_map}
+use Rattle.table.specs.Bytes.{zeroed}
 use Rattle.table.proofs.fills.clear.Goals as goal
 
 pub returns : goal.returns
-returns c = stored_zeros _ _ _ (omega (arith, c.loop-k.invariant.1.long)) c.loop-k.invariant.1
+unfolding zeroed
+returns c = c.fill.ensures.after (λ y same. same) ∙ splat_is_map c.args.table.now _ 0 refl

@@ -4,6 +4,3 @@ use Rattle.table.proofs.fills.fill_back.Given as goal
 
 abbrev pub invariant-loop-k : goal.invariant-loop-k
 invariant-loop-k l = Back l.initial.table l.m l.a l.b l.count l.opposite l.end l.table l.mark l.k
-
-abbrev pub decreases-loop-k : goal.decreases-loop-k
-decreases-loop-k l = l.k

@@ -1,5 +1,4 @@
 -- The invariants of `table::fills::fill_copied`.
-use Prim.Native.Nat.{◌-◌}
 use Rattle.table.specs.Bytes.{byte_of}
 use Rattle.table.specs.inner.Sweeps.{marks_from}
 use Rattle.table.proofs.Filling.{Filled}
@@ -7,6 +6,3 @@ use Rattle.table.proofs.fills.fill_copied.Given as goal
 
 abbrev pub invariant-loop-k : goal.invariant-loop-k
 invariant-loop-k l = Filled l.initial.table l.m l.count (λ j. byte_of (marks_from l.opposite l.initial.table l.a j)) l.table l.k
-
-abbrev pub decreases-loop-k : goal.decreases-loop-k
-decreases-loop-k l = l.count - l.k

@@ -1,10 +1,6 @@
 -- The invariants of `table::fills::fill_on`.
-use Prim.Native.Nat.{◌-◌}
 use Rattle.table.proofs.Filling.{On}
 use Rattle.table.proofs.fills.fill_on.Given as goal
 
 abbrev pub invariant-loop-k : goal.invariant-loop-k
 invariant-loop-k l = On l.initial.table l.m l.a l.b l.count l.opposite l.table l.mark l.k
-
-abbrev pub decreases-loop-k : goal.decreases-loop-k
-decreases-loop-k l = l.count - l.k

@@ -1,6 +1,4 @@
 -- `table::fills::swept_back` meets its contract. Assumes nothing.
-use mathlib.Core.Path.{ap₂, ◌∙◌}
-use mathlib.Core.Bool.{Bool, ◌&&◌, ◌||◌}
 use Rattle.table.proofs.Filling.{swept_first, swept_next}
 use Rattle.table.proofs.fills.swept_back.Goals as goal
 
@@ -10,5 +8,4 @@ loop-k-init c = let args = c.args in
 
 pub loop-k-preserved : goal.loop-k-preserved
 loop-k-preserved c = let args = c.args in
-    let stepped = c.step-mark.ensures ∙ ap₂ (λ (y x : Bool). y || (x && c.loop-k.mark)) c.read-in-loop-k.ensures c.read.ensures in
-    swept_next args.table.now args.a args.b args.from args.count args.opposite c.loop-k-test.true c.loop-k.invariant stepped
+    swept_next args.table.now args.a args.b args.from args.count args.opposite c.loop-k-test.true c.loop-k.invariant c.step_at-mark.ensures

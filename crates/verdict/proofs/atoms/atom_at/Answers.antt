@@ -4,7 +4,7 @@ use Rattle.verdict.proofs.Values.{atom_fit}
 use Rattle.verdict.proofs.atoms.atom_at.Goals as goal
 
 pub test_at-requires : goal.test_at-requires
-test_at-requires c = (c.requires.0, atom_fit c.args.sizes c.args.atom c.requires.1 c.comparison_of.ensures, c.requires.2)
+test_at-requires c = (atom_fit c.args.plan.now.sizes c.args.atom c.requires.0 c.comparison_of.ensures, c.requires.1)
 
 pub returns : goal.returns
 unfolding atom_at

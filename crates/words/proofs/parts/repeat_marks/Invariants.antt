@@ -1,10 +1,6 @@
 -- The invariants of `words::parts::repeat_marks`.
-use Prim.Native.Nat.{◌-◌}
 use Rattle.words.proofs.Marking.{MarksRepeating}
 use Rattle.words.proofs.parts.repeat_marks.Given as goal
 
 abbrev pub invariant-loop-row : goal.invariant-loop-row
 invariant-loop-row l = MarksRepeating l.initial.scratch l.part l.cycle l.from l.end l.scratch l.row
-
-abbrev pub decreases-loop-row : goal.decreases-loop-row
-decreases-loop-row l = l.end - l.row

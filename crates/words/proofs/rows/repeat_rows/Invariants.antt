@@ -1,10 +1,6 @@
 -- The invariants of `words::rows::repeat_rows`.
-use Prim.Native.Nat.{◌-◌}
 use Rattle.words.proofs.Marking.{Repeating}
 use Rattle.words.proofs.rows.repeat_rows.Given as goal
 
 abbrev pub invariant-loop-row : goal.invariant-loop-row
 invariant-loop-row l = Repeating l.initial.scratch l.cycle l.from l.end l.scratch l.row
-
-abbrev pub decreases-loop-row : goal.decreases-loop-row
-decreases-loop-row l = l.end - l.row
