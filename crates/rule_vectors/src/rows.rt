@@ -1,6 +1,6 @@
 // Rows of tries: a letter, four numbers of six columns each and a name. A section of them ends at an empty line.
 // b AT COUNT VALUE PART: so many bytes of the four parts from AT on get the value, and PART is taken. w likewise: of the window;
-// p of the pinned reading.
+// p of the pinned reading. AT and COUNT are taken modulo 64.
 // 1 PART KIND NAMED 0 and 2 PART KIND NAMED NAMED: an operator over one part or two is put at PART.
 ghost use Rattle.std.specs.Prelude.{◌+◌, ◌≤◌, ◌<◌, length};
 

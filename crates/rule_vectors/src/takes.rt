@@ -14,7 +14,7 @@ pub fn try_sheet(rt: &impl Print, name: &[u8], sheet: &[u8], n: usize) -> io::Re
     say(rt, b"\n")
 }
 
-// A sheet with so many bytes from `at` on changed to x.
+// A sheet with so many bytes from `at` on changed to x, both numbers taken modulo 64.
 pub fn try_changed(
     rt: &impl Print,
     name: &[u8],
@@ -24,7 +24,7 @@ pub fn try_changed(
     x: u8,
     n: usize,
 ) -> io::Result<()> {
-    fill(sheet, at, count, x);
+    fill(sheet, at % 64, count % 64, x);
     try_sheet(rt, name, sheet, n)
 }
 
