@@ -10,9 +10,7 @@ use mathlib.Core.Bool.{Bool, true, false, not, ◌&&◌, and-eq-true_iff, false�
 use mathlib.Core.List.{List, [], ◌∷◌, ◌++◌, map, append_assoc}
 use lib.Dec.{leb, ltb, eqb}
 use lib.ListN.{length, get_or, set, take, drop, replicate, length-map}
-use lib.Seq.{take-length}
-use borrow.Rule.Slice.PartMut.{put_mid}
-use Rattle.std.proofs.lemmas.Slice.{put_mid-paste}
+use lib.Seq.{paste, paste-suc, take-length}
 use borrow.Author.Tests.{leb-true, lt-ltb, le-ltb, le-leb, lt-leb, eq-eqb, ne_eqb}
 use Rattle.refusal.specs.declared.Refusal.{Refusal}
 use Rattle.refusal.specs.declared.Refusal.TheVariants.{PlanSizes, Unwatchable, Unfitting}
@@ -177,14 +175,17 @@ module _ (s : Live) (v : ℕ) (tops : List ℕ) {r : Bool} (fits : Fits v tops r
 
 -- ---- an add
 
--- the copy of a sheet
-pub copied : (rules sheet now : List ℕ) (at k : ℕ) → now ≡ sheet → k ≡ at + length sheet - at → put_mid at k rules now ≡ overwritten rules at sheet
+-- the copy of a sheet, byte by byte
+copied : (d s : List ℕ) (at : ℕ) → paste d at s (length s) ≡ overwritten d at s
 unfolding overwritten
-copied rules sheet now at k e f =
-    let n : k ≡ length sheet = omega arith in
-    put_mid-paste at k rules now sheet (length sheet) e (sym n) refl
-    ∙ append_assoc (take at rules) (take (length sheet) sheet) (drop (at + length sheet) rules)
-    ∙ ap (λ (l : List ℕ). take at rules ++ (l ++ drop (at + length sheet) rules)) (take-length sheet)
+copied d s at = append_assoc (take at d) (take (length s) s) (drop (at + length s) d) ∙ ap (λ (l : List ℕ). take at d ++ (l ++ drop (at + length s) d)) (take-length s)
+
+pub copy_all : (d s next : List ℕ) (at j : ℕ) → next ≡ paste d at s j → j ≡ length s → next ≡ overwritten d at s
+copy_all d s next at j e f = e ∙ ap (paste d at s) f ∙ copied d s at
+
+pub copy_next : (d s next : List ℕ) (at j x : ℕ) → at + j < length d → j < length s → next ≡ paste d at s j → x ≡ get_or s j 0
+    → set next (at + j) x ≡ paste d at s (j + 1)
+copy_next d s next at j x h k e f = ap₂ (λ (l : List ℕ) (y : ℕ). set l (at + j) y) e f ∙ paste-suc d at s j 0 h k ∙ ap (paste d at s) (sym (add-one j))
 
 by_rule : (v : ℕ) (sheet : List ℕ) (o : Outcome) {read : Result Sizes Refusal} {r : Refusal} → read ≡ counts_unless o sheet → read ≡ Err r → Err r ≡ o
 unfolding counts_unless

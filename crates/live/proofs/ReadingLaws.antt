@@ -1,10 +1,12 @@
 -- What the code keeps of rows and reads of them, as the definitions have it. Assumes nothing.
 use Prim.Native.Nat.{ℕ, ◌+◌, ◌*◌, ◌-◌, ◌≤◌, ◌<◌}
+use native.Mathlib.Decide.{dec_lt}
 use native.Mathlib.Omega.{arith}
+use mathlib.Core.Logic.{by_cases}
 use mathlib.Core.Path.{◌≡◌, refl, sym, ap, ◌∙◌}
 use mathlib.Core.List.{List}
-use lib.ListN.{length, get_or}
-use Rattle.std.specs.List.{CopiedTo}
+use lib.ListN.{get_or}
+use Rattle.std.specs.List.{CopiedTo, SameBelow, SameFrom}
 use borrow.Author.Tests.{lt-ltb, le-ltb, le-leb, lt-leb, eq-eqb, ne_eqb}
 use Rattle.fields.specs.LittleEndian.{number_at}
 use Rattle.live.specs.Kept.{kept, kept_under, new_reading, reading_after}
@@ -37,14 +39,19 @@ module _ (readings tops row : List ℕ) (v : ℕ) where
   abbrev f : ℕ → ℕ
   f = reading_after readings tops row v
 
-  -- The rows that stay stand where the definition has them,
-  pub older_kept : (l : List ℕ) (n : ℕ) → 32 ≤ n → CopiedTo readings l 8 0 n → Filled 0 l f 32 l
+  -- The rows that stay stand where the definition has them, moved there in two parts,
+  pub older_kept : (m l : List ℕ) → CopiedTo readings m 8 0 16 → SameFrom readings m 16 → CopiedTo m l 24 16 16 → SameBelow m l 16 → Filled 0 l f 32 l
   unfolding reading_after
-  older_kept l n long copied = record {
+  older_kept m l front behind last before = record {
     long = refl;
-    done = λ j h. copied j 0 (omega arith) (omega arith) ∙ sym (simp (lt-ltb j 32 h) (ap (λ (k : ℕ). get_or readings k 0) (omega arith)));
+    done = λ j h. moved j h ∙ sym (simp (lt-ltb j 32 h) (ap (λ (k : ℕ). get_or readings k 0) (omega arith)));
     rest = λ j h. refl;
   }
+    where
+      moved : (j : ℕ) → j < 32 → get_or l j 0 ≡ get_or readings (8 + (j - 0)) 0
+      moved j h = by_cases (dec_lt j 16)
+          (λ p. before j 0 p ∙ front j 0 (omega arith) p)
+          (λ p. last j 0 (omega arith) (omega arith) ∙ behind (24 + (j - 16)) 0 (omega arith) ∙ ap (λ (k : ℕ). get_or readings k 0) (omega arith))
 
   -- and so does the new one.
   pub newest_kept : {r : ℕ} (channel : ℕ) → r ≡ new_reading tops row v channel → r ≡ f (32 + channel)

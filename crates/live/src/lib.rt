@@ -3,6 +3,7 @@
 
 ghost use Rattle.std.specs.Prelude.{◌≡◌, true, [], ◌∷◌, map, ◌+◌, ◌*◌, ◌≤◌, ◌<◌, length, get_or, take, drop};
 ghost use Rattle.refusal.specs.First.{unless};
+ghost use Rattle.rule.specs.Put.{overwritten};
 ghost use Rattle.live.specs.Kept.{tabulated};
 ghost use Rattle.live.specs.State.{empty_watch, is_held, start_outcome, kept_top, older, watch_after, watch_answer};
 ghost use Rattle.live.specs.Calls.{add, remove, row};
@@ -94,6 +95,17 @@ fn watch_row(watches: &mut [Watch; 4], rules: &[u8], readings: &[u64; 40])
     }
 }
 
+// A sheet copied to a place. By a loop: of `copy_from_slice` the compiler makes a call of C's `memmove`.
+fn copy_rule(rules: &mut [u8; 3344], place: usize, sheet: &[u8])
+    requires { (place < 4) × (length sheet.now ≤ 836) }
+    ensures { rules.new ≡ overwritten rules.old (836 * place) sheet.now }
+{
+    let start = RULE_BYTES * place;
+    for j in 0..sheet.len() {
+        rules[start + j] = sheet[j];
+    }
+}
+
 // The top of a channel as the state keeps it, 0 where there is no such channel.
 fn kept_top(tops: &[u8], v: usize, channel: usize) -> u32
     requires { (length tops.now ≡ 4 * v) × (channel < 8) }
@@ -182,8 +194,7 @@ impl Live {
             age: 0,
             truths: [0; 64],
         };
-        let at = RULE_BYTES * place;
-        self.rules[at..at + sheet.len()].copy_from_slice(sheet);
+        copy_rule(&mut self.rules, place, sheet);
         Ok(())
     }
 

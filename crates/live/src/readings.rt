@@ -48,7 +48,9 @@ pub fn keep_row(readings: &mut [u64; 40], tops: &[u32; 8], row: &[u8], v: usize)
     requires { length row.now ≡ 4 * v }
     ensures { readings.new ≡ readings_after readings.old tops.now row.now v }
 {
-    readings.copy_within(8.., 0);
+    // In two parts, each small enough to be put here: of one the compiler makes a call of C's `memmove`.
+    readings.copy_within(8..24, 0);
+    readings.copy_within(24..40, 16);
     for channel in 0..8 {
         readings[32 + channel] = new_reading(tops, row, v, channel);
     }

@@ -16,12 +16,12 @@ returns-then-is_held c =
     law.add_taken c.args.self.now c.args.place c.args.sheet.now c.read_rule.ensures c.in_ok-sizes.was _ (omega arith) c.if-place-ge-PLACES.false
     (c.is_held.ensures.0 _ refl) c.if-is_held.true
 
-pub slice_bounds-copy_from_slice-end : goal.slice_bounds-copy_from_slice-end
-slice_bounds-copy_from_slice-end c = omega (arith, law.add_short c.args.self.now c.args.place c.args.sheet.now c.read_rule.ensures c.in_ok-sizes.was)
+pub copy_rule-requires : goal.copy_rule-requires
+copy_rule-requires c = (c.if-place-ge-PLACES.false, law.add_short c.args.self.now c.args.place c.args.sheet.now c.read_rule.ensures c.in_ok-sizes.was)
 
 pub returns : goal.returns
 unfolding with_place
 returns c =
     law.add_done c.args.self.now c.args.place c.args.sheet.now c.read_rule.ensures c.in_ok-sizes.was _ (omega arith) c.if-place-ge-PLACES.false
     (c.is_held.ensures.0 _ refl) c.if-is_held.false
-    (law.copied _ c.args.sheet.now _ _ _ c.copy_from_slice.ensures.after refl)
+    c.copy_rule.ensures

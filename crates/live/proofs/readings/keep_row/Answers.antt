@@ -5,7 +5,7 @@ use native.Mathlib.Omega.{arith}
 use Rattle.live.proofs.readings.keep_row.Goals as goal
 
 pub loop-channel-init : goal.loop-channel-init
-loop-channel-init c = law.older_kept c.args.readings.now c.args.tops.now c.args.row.now c.args.v _ _ (omega arith) c.copy_within.ensures.by_index.0
+loop-channel-init c = law.older_kept c.args.readings.now c.args.tops.now c.args.row.now c.args.v _ _ c.copy_within.ensures.by_index.0 c.copy_within.ensures.by_index.2 c.copy_within-2.ensures.by_index.0 c.copy_within-2.ensures.by_index.1
 
 pub loop-channel-preserved : goal.loop-channel-preserved
 loop-channel-preserved c =
