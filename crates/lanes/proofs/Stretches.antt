@@ -93,6 +93,9 @@ module _ {table : List ℕ} {part : ComparisonPart} {sides : Sides} {from to : �
     -- ---- what a sweep of the stretch finds
 
     module _ {values : List ℕ} {s : Stretch} (on : OnRows values table part sides from to s) where
+      pub tops_small : (s.x.top < bias) × (s.y.top < bias)
+      tops_small = small_tops s.x s.y (on.left_stands, on.left_top) (on.right_stands, on.right_top)
+
       -- the lanes of the drifts are long enough too
       pub in_drifts : {drifts : List ℕ} → LongLanes z drifts → InLanes drifts s.x s.y s.count
       in_drifts long = rw on.count_is (in_lanes s.x s.y (on.left_stands, on.left_top) (on.right_stands, on.right_top) long)

@@ -1,6 +1,6 @@
 // A stretch of rows that are swept together: two columns in their lanes, and the marks of a part.
 ghost use Rattle.std.specs.Prelude.{◌≡◌, ◌+◌, ◌<◌};
-ghost use Rattle.fields.specs.inner.Biased.{patterns, bias, unbiased};
+ghost use Rattle.fields.specs.inner.Biased.{patterns, unbiased};
 ghost use Rattle.table.specs.inner.Tables.{mark_in};
 ghost use Rattle.lanes.specs.inner.Columns.{number_in, drift_in, InLanes, InMarks};
 
@@ -17,7 +17,6 @@ pub struct Stretch<'a> {
     pub count: usize,
     pub ghost in_values: { InLanes values.now x y count },
     pub ghost in_marks: { InMarks table.now m count },
-    pub ghost small_tops: { (x.top < bias) × (y.top < bias) },
 }
 
 // The same with the drifts of the rows.

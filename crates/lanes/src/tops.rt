@@ -45,6 +45,7 @@ pub fn seen_compare(relation: Relation, s: u64, a: u64, t: u64, b: u64) -> bool
 
 // The marks say how what is seen in two columns compares.
 fn topped_values(stretch: &Stretch, relation: Relation) -> bool
+    requires { (stretch.now.x.top < bias) × (stretch.now.y.top < bias) }
     ensures { result ≡ all_seen_agree relation stretch.now }
 {
     let x = stretch.x;
@@ -84,6 +85,7 @@ fn under_agrees(
 
 // The marks say on every pass how the lines of two columns compare under their tops.
 fn topped_lines(lines: &Lines, relation: Relation) -> bool
+    requires { (lines.now.stretch.x.top < bias) × (lines.now.stretch.y.top < bias) }
     ensures { result ≡ all_under_agree relation lines.now }
 {
     let stretch = &lines.stretch;
@@ -122,6 +124,7 @@ fn stays_free(values: &[u8], drifts: &[u8], x: Column, count: usize) -> bool
 
 // The marks say how what is seen in two columns compares.
 pub fn seen_agree(stretch: &Stretch, relation: Relation) -> bool
+    requires { (stretch.now.x.top < bias) × (stretch.now.y.top < bias) }
     ensures { result ≡ all_seen_agree relation stretch.now }
 {
     if stretch.x.top == 0 {
@@ -134,6 +137,7 @@ pub fn seen_agree(stretch: &Stretch, relation: Relation) -> bool
 
 // The marks say on every pass how the lines of two columns compare under their tops.
 pub fn under_agree(lines: &Lines, relation: Relation) -> bool
+    requires { (lines.now.stretch.x.top < bias) × (lines.now.stretch.y.top < bias) }
     ensures { result ≡ all_under_agree relation lines.now }
 {
     let stretch = &lines.stretch;

@@ -13,7 +13,6 @@ pub invariant_of-result : goal.invariant_of-result
 invariant_of-result c = record {
   in_values = law.in_lanes c.requires.0 c.requires.2 c.column_of-x.result c.column_of-y.result c.column_of-x.ensures c.column_of-y.ensures c.requires.1;
   in_marks = law.in_marks c.requires.0 c.requires.2 _ c.place-m.ensures;
-  small_tops = law.small_tops c.requires.0 c.requires.2 c.column_of-x.result c.column_of-y.result c.column_of-x.ensures c.column_of-y.ensures;
 }
 
 pub returns : goal.returns
