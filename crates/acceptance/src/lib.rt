@@ -37,7 +37,8 @@ fn check_parts(
 {
     let sizes = inputs.plan.sizes;
     let w = sizes.start + sizes.cycle;
-    for i in 0..inputs.parts {
+    let mut answer = Ok(());
+    'parts: for i in 0..inputs.parts {
         let part = rule::take(inputs.rule, i)?;
         let view = cltlb::view_of(part);
         let sure = surely_clear(
@@ -50,15 +51,24 @@ fn check_parts(
             i,
             view,
         );
-        check_closing(&inputs.plan, table, inputs.parts, i, view, sure)?;
+        let closing = check_closing(&inputs.plan, table, inputs.parts, i, view, sure);
+        if let Err(plan_fault) = closing {
+            answer = Err(plan_fault);
+            break 'parts;
+        }
         for row in 0..choose(sure, 0, w) {
             if breaks_on(&inputs.plan, table, inputs.parts, i, view, row) {
-                return Err(Refusal::Equation { part: i, row });
+                answer = Err(Refusal::Equation { part: i, row });
+                break 'parts;
             }
         }
-        check_witness(&inputs.plan, table, inputs.parts, i, view)?;
+        let witness = check_witness(&inputs.plan, table, inputs.parts, i, view);
+        if let Err(mark_fault) = witness {
+            answer = Err(mark_fault);
+            break 'parts;
+        }
     }
-    Ok(())
+    answer
 }
 
 // Refusals 9 to 11, where nothing drifts in the cycle; lanes of drifts are not looked at.

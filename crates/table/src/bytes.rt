@@ -45,14 +45,16 @@ fn check_bytes(table: &[u8], n: usize, w: usize) -> Result<(), Refusal>
     requires { Sized table.now n w }
     ensures { result ≡ in_turn (bytes_outcome w table.now) n }
 {
-    for part in 0..n {
+    let mut answer = Ok(());
+    'parts: for part in 0..n {
         for row in 0..w {
             if 1 < mark_byte(table, n, w, part, row) {
-                return Err(Refusal::MarkByte { part, row });
+                answer = Err(Refusal::MarkByte { part, row });
+                break 'parts;
             }
         }
     }
-    Ok(())
+    answer
 }
 
 // Refusals 7 and 8 of a mark table, in this order, against `n` parts and `w` rows.
